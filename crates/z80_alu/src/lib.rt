@@ -1,0 +1,8 @@
+// The registers, the arithmetic and the flags of the Z80 (Zilog UM0080). It stands on no other crate.
+#![tactic(auto)]
+
+mod regs;
+mod word;
+
+pub use regs::{RegisterSet, Regs};
+pub use word::Word;

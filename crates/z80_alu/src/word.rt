@@ -1,0 +1,27 @@
+ghost use Rattle.std.specs.Prelude.{◌≡◌};
+ghost use Rattle.z80_alu.specs.Word.{word_of, high_of, low_of};
+
+/// A word of 16 bits as the two bytes that it is stored as (UM0080, "CPU Registers").
+#[derive(Clone, Copy, Debug, PartialEq, Eq)]
+pub struct Word {
+    pub high: u8,
+    pub low: u8,
+}
+
+impl Word {
+    /// The two bytes of a number from 0 to 65,535.
+    pub fn of(value: u16) -> Word
+        ensures high { result.high ≡ high_of value }
+        ensures low { result.low ≡ low_of value }
+    {
+        let [high, low] = value.to_be_bytes();
+        Word { high, low }
+    }
+
+    /// The number that the two bytes make, 0 to 65,535.
+    pub fn value(self) -> u16
+        ensures { result ≡ word_of self.high self.low }
+    {
+        u16::from(self.high) * 256 + u16::from(self.low)
+    }
+}
