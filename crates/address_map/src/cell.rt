@@ -1,0 +1,72 @@
+ghost use Rattle.std.specs.Prelude.{◌≡◌, ℕ, ◌<◌};
+ghost use Rattle.address_map.specs.RamKind.{size_of};
+
+use std::marker::Model;
+
+/// One of the three RAMs of the board (docs/BOARD.md, "Addresses").
+#[derive(Clone, Copy, Debug, PartialEq, Eq)]
+pub enum RamKind {
+    /// 1,024 bytes that hold the stack and the variables.
+    Work,
+    /// 1,024 bytes of the picture.
+    Video,
+    /// 256 bytes of sprites and columns.
+    Object,
+}
+
+impl RamKind {
+    /// How many bytes the RAM has: 1,024 or 256.
+    pub fn size(self) -> u16
+        ensures { result ≡ size_of self }
+    {
+        match self {
+            RamKind::Work | RamKind::Video => 0x400,
+            RamKind::Object => 0x100,
+        }
+    }
+}
+
+/// One byte of RAM: its RAM, and its number there from 0.
+#[derive(Debug, Drop)]
+pub struct Cell {
+    ram: RamKind,
+    index: u16,
+}
+
+impl Model for Cell {
+    ghost use Rattle.std.specs.Prelude.{ℕ, ◌<◌, ◌≡◌};
+    ghost use Rattle.address_map.specs.declared.cell.RamKind.{RamKind};
+
+    ghost Value = { RamKind × ℕ };
+
+    ghost use Rattle.address_map.specs.RamKind.{size_of};
+
+    ghost view = { λ c. (c.ram, c.index) };
+
+    ghost invariant = { λ c. c.index < size_of c.ram };
+}
+
+impl Cell {
+    /// The cell of a RAM with a number below the RAM's size.
+    pub fn new(ram: RamKind, index: u16) -> Cell
+        requires { index < size_of ram }
+        ensures { result ≡ (ram, index) }
+    {
+        Cell { ram, index }
+    }
+
+    /// The RAM that the cell is of.
+    pub fn ram(&self) -> RamKind
+        ensures { result ≡ self.now.0 }
+    {
+        self.ram
+    }
+
+    /// The number of the cell in its RAM, from 0.
+    pub fn index(&self) -> u16
+        ensures value { result ≡ self.now.1 }
+        ensures in_range { result < size_of self.now.0 }
+    {
+        self.index
+    }
+}

@@ -1,0 +1,54 @@
+ghost use Rattle.std.specs.Prelude.{◌≡◌, ◌≤◌, ◌<◌, ◌↔◌, length, IsSome, IfSome, slice_index, drop};
+
+use std::marker::Model;
+
+/// The bytes of a ROM, lent: 1 to 16,384 of them, from address 0000 on.
+#[derive(Debug, Drop)]
+pub struct Rom<'a> {
+    bytes: &'a [u8],
+}
+
+impl<'a> Model for Rom<'a> {
+    ghost use Rattle.std.specs.Prelude.{ℕ, List, ◌≤◌, length};
+
+    ghost Value = { List ℕ };
+
+    ghost view = { λ r. r.bytes.now };
+
+    ghost invariant = { λ r. (1 ≤ length r.bytes.now) × (length r.bytes.now ≤ 0x4000) };
+}
+
+impl<'a> Rom<'a> {
+    /// Lends 1 to 16,384 bytes as a ROM; None for any other number.
+    pub fn of(bytes: &'a [u8]) -> Option<Rom<'a>>
+        ensures fits { IsSome result ↔ ((1 ≤ length bytes.now) × (length bytes.now ≤ 0x4000)) }
+        ensures value { IfSome result (λ rom. rom ≡ bytes.now) }
+    {
+        if bytes.is_empty() || bytes.len() > 0x4000 {
+            None
+        } else {
+            Some(Rom { bytes })
+        }
+    }
+
+    /// How many bytes the ROM has, 1 to 16,384.
+    pub fn len(&self) -> u16
+        ensures value { result ≡ length self.now }
+        ensures some { 1 ≤ result }
+        ensures fits { result ≤ 0x4000 }
+    {
+        self.bytes.len() as u16
+    }
+
+    /// The bytes from an address, 0 to 65,535, to the ROM's end; none from behind the end on.
+    pub fn bytes_from(&self, address: u16) -> &'a [u8]
+        ensures { result.now ≡ drop address self.now }
+    {
+        let at = usize::from(address);
+        if at < self.bytes.len() {
+            &self.bytes[at..]
+        } else {
+            &[]
+        }
+    }
+}

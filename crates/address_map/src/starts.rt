@@ -1,0 +1,45 @@
+ghost use Rattle.std.specs.Prelude.{◌≡◌, ◌<◌, ℕ, false, true, slice_set};
+ghost use Rattle.address_map.specs.Starts.{is_start};
+
+use std::marker::Model;
+
+/// A set of addresses below 4000h, at which instructions start, in fixed room.
+#[derive(Debug, Drop)]
+pub struct Starts {
+    flags: [bool; 0x4000],
+}
+
+impl Model for Starts {
+    ghost use Rattle.std.specs.Prelude.{List, Bool};
+
+    ghost Value = { List Bool };
+
+    ghost view = { λ s. s.flags };
+}
+
+impl Starts {
+    /// The empty set.
+    pub fn new() -> Starts
+        ensures { (address : ℕ) → is_start result address ≡ false }
+    {
+        Starts {
+            flags: [false; 0x4000],
+        }
+    }
+
+    /// Adds an address below 4000h.
+    pub fn insert(&mut self, address: u16)
+        requires { address < 0x4000 }
+        ensures { self.new ≡ slice_set self.old address true }
+    {
+        self.flags[usize::from(address)] = true;
+    }
+
+    /// Whether an address, 0 to 65,535, is in the set.
+    pub fn contains(&self, address: u16) -> bool
+        ensures { result ≡ is_start self.now address }
+    {
+        let at = usize::from(address);
+        at < self.flags.len() && self.flags[at]
+    }
+}

@@ -1,0 +1,12 @@
+pub mod Decoded
+pub mod Effect
+pub mod Env
+pub mod Kind
+pub mod Memory
+pub mod Moves
+pub mod Reset
+pub mod Run
+pub mod Safe
+pub mod State
+pub mod Step
+pub mod Trap

@@ -1,0 +1,35 @@
+ghost use Rattle.std.specs.Prelude.{ℕ, ◌<◌, slice_index};
+ghost use Rattle.board_step.specs.State.{IsRam, IsRegisterSet, IsRegs};
+
+use z80_alu::{RegisterSet, Regs};
+
+/// A law: each register holds a byte.
+pub fn set_is_in_range(set: RegisterSet)
+    ensures { IsRegisterSet set }
+{}
+
+/// A law: each register holds a byte or a word.
+pub fn regs_are_in_range(regs: Regs)
+    ensures { IsRegs regs }
+{
+    set_is_in_range(regs.main);
+    set_is_in_range(regs.alternate);
+}
+
+fn bytes_are_in_range(bytes: &[u8])
+    ensures { (i : ℕ) → slice_index bytes.now i < 256 }
+{}
+
+/// A law: work or video RAM is 1,024 bytes.
+pub fn ram_is_in_range(ram: &[u8; 0x400])
+    ensures { IsRam ram.now 1024 }
+{
+    bytes_are_in_range(ram);
+}
+
+/// A law: object RAM is 256 bytes.
+pub fn object_ram_is_in_range(ram: &[u8; 0x100])
+    ensures { IsRam ram.now 256 }
+{
+    bytes_are_in_range(ram);
+}
