@@ -52,3 +52,10 @@ fn word(low: u8, high: u8) -> u16
 {
     u16::from(high) * 256 + u16::from(low)
 }
+
+/// No two instructions are spelled alike, nor is the spelling of one the beginning of another's. A
+/// law: it does nothing when it is called.
+pub fn one_spelling()
+    ensures { (i j : Instr) (x y : List ℕ) → spelling i ++ x ≡ spelling j ++ y → i ≡ j }
+{
+}

@@ -4,5 +4,5 @@
 mod decoder;
 mod instr;
 
-pub use decoder::{DecodeFault, decode};
+pub use decoder::{DecodeFault, decode, one_spelling};
 pub use instr::{Address, Instr, Place, Register8, Register16};
