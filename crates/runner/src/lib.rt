@@ -1,0 +1,15 @@
+// The runner: a machine that runs accepted ROMs with no test for a trap, and plays of an input's text
+// (docs/PROGRAM.md).
+#![tactic(auto)]
+
+mod fault;
+mod fields;
+mod input;
+mod machine;
+mod output;
+mod playing;
+
+pub use fault::PlayFault;
+pub use machine::{Machine, Summary};
+pub use playing::play;
+pub use output::{put, put_decimal, put_hex4};

@@ -1,0 +1,56 @@
+ghost use Rattle.std.specs.Prelude.{◌≡◌, ◌<◌, OnOk, IfErr};
+ghost use Rattle.certificate.specs.Device.{HasGrown, Takes};
+ghost use Rattle.runner.specs.Output.{hex_digit};
+
+use crate::fault::PlayFault;
+use certificate::Sink;
+use itoa::Buffer;
+
+/// Writes all of the bytes.
+pub fn put<W: Sink>(out: &mut W, bytes: &[u8]) -> Result<(), PlayFault>
+    ensures kept { OnOk result (W.failure_count out.new ≡ W.failure_count out.old) }
+    ensures failed { IfErr result (λ fault. (fault ≡ PlayFault.Write) × HasGrown (W.failure_count out.old) (W.failure_count out.new)) }
+{
+    let mut rest = bytes;
+    while !rest.is_empty() {
+        match out.write(rest) {
+            Ok(0) | Err(_) => return Err(PlayFault::Write),
+            Ok(count) => rest = &rest[count..],
+        }
+    }
+    Ok(())
+}
+
+/// Writes a number in decimal.
+pub fn put_decimal<W: Sink>(out: &mut W, number: u128) -> Result<(), PlayFault>
+    ensures kept { OnOk result (W.failure_count out.new ≡ W.failure_count out.old) }
+    ensures failed { IfErr result (λ fault. (fault ≡ PlayFault.Write) × HasGrown (W.failure_count out.old) (W.failure_count out.new)) }
+{
+    let mut buffer = Buffer::new();
+    put(out, buffer.format(number).as_bytes())
+}
+
+/// Writes a word as four upper-case hexadecimal digits.
+pub fn put_hex4<W: Sink>(out: &mut W, word: u16) -> Result<(), PlayFault>
+    ensures kept { OnOk result (W.failure_count out.new ≡ W.failure_count out.old) }
+    ensures failed { IfErr result (λ fault. (fault ≡ PlayFault.Write) × HasGrown (W.failure_count out.old) (W.failure_count out.new)) }
+{
+    let digits = [
+        digit_of(word / 0x1000),
+        digit_of(word / 0x100 % 16),
+        digit_of(word / 0x10 % 16),
+        digit_of(word % 16),
+    ];
+    put(out, &digits)
+}
+
+fn digit_of(value: u16) -> u8
+    requires { value < 16 }
+    ensures { result ≡ hex_digit value }
+{
+    if value < 10 {
+        b'0' + value as u8
+    } else {
+        b'A' + (value as u8 - 10)
+    }
+}

@@ -1,0 +1,133 @@
+ghost use Rattle.std.specs.Prelude.{◌≡◌, ◌≢◌, ◌<◌, IfErr, IfOk, OnOk};
+ghost use Rattle.certificate.specs.Device.{HasGrown};
+ghost use Rattle.t_states.specs.declared.TheConstants.{FRAME};
+
+
+use crate::fault::PlayFault;
+use crate::input::{Line, Pending, env_of, reset_of};
+use crate::machine::{Machine, Summary};
+use crate::output::{put, put_decimal, put_hex4};
+use board_step::Reset;
+use cert_checker::Accepted;
+use certificate::{Sink, Source};
+use z80_alu::{RegisterSet, Regs};
+
+/// Plays an input on an accepted ROM for at most this many events, and writes its summary. A line of the
+/// input is read and judged only when its events are needed; what was written before a fault stays.
+pub fn play<R: Source, W: Sink>(
+    accepted: &Accepted,
+    steps: u32,
+    input: &mut R,
+    out: &mut W,
+) -> Result<Summary, PlayFault>
+    ensures read { result ≡ Err PlayFault.Read → HasGrown (R.failure_count input.old) (R.failure_count input.new) }
+    ensures write { result ≡ Err PlayFault.Write → HasGrown (W.failure_count out.old) (W.failure_count out.new) }
+{
+    let mut pending = Pending::new();
+    let (phase, fill) = first_line(&mut pending, input)?;
+    let mut machine = Machine::reset(accepted, &filled(phase, fill));
+    let summary = play_lines(&mut machine, &mut pending, steps, input)?;
+    write_summary(&summary, out)?;
+    Ok(summary)
+}
+
+fn first_line<R: Source>(pending: &mut Pending, input: &mut R) -> Result<(u32, u8), PlayFault>
+    ensures phase { IfOk result (λ x. x.0 < FRAME) }
+    ensures kept { OnOk result (R.failure_count input.new ≡ R.failure_count input.old) }
+    ensures read { result ≡ Err PlayFault.Read → HasGrown (R.failure_count input.old) (R.failure_count input.new) }
+    ensures write { result ≢ Err PlayFault.Write }
+{
+    match pending.next_line(input)? {
+        Line::Text(text) => match reset_of(text.as_slice()) {
+            Some(reset) => Ok(reset),
+            None => Err(PlayFault::Line(1)),
+        },
+        Line::Bad | Line::End => Err(PlayFault::Line(1)),
+    }
+}
+
+/// The values of a reset whose bytes are all the same.
+fn filled(phase: u32, fill: u8) -> Reset
+    requires { phase < FRAME }
+    ensures { result.phase ≡ phase }
+{
+    let set = RegisterSet {
+        a: fill,
+        f: fill,
+        b: fill,
+        c: fill,
+        d: fill,
+        e: fill,
+        h: fill,
+        l: fill,
+    };
+    let word = u16::from(fill) * 0x101;
+    Reset {
+        work: [fill; 0x400],
+        video: [fill; 0x400],
+        object: [fill; 0x100],
+        regs: Regs {
+            main: set,
+            alternate: set,
+            ix: word,
+            iy: word,
+            sp: word,
+            ..Regs::default()
+        },
+        phase,
+    }
+}
+
+fn play_lines<R: Source>(
+    machine: &mut Machine,
+    pending: &mut Pending,
+    steps: u32,
+    input: &mut R,
+) -> Result<Summary, PlayFault>
+    ensures kept { OnOk result (R.failure_count input.new ≡ R.failure_count input.old) }
+    ensures read { result ≡ Err PlayFault.Read → HasGrown (R.failure_count input.old) (R.failure_count input.new) }
+    ensures write { result ≢ Err PlayFault.Write }
+{
+    let mut left = steps;
+    let mut number = 1;
+    let mut time = 0;
+    while left > 0 {
+        number += 1;
+        let line = match pending.next_line(input)? {
+            Line::Text(text) => env_of(text.as_slice()),
+            Line::Bad => None,
+            Line::End => break,
+        };
+        let Some((count, env)) = line else {
+            return Err(PlayFault::Line(number));
+        };
+        let count = count.min(left);
+        time += machine.repeat(&env, count);
+        left -= count;
+    }
+    Ok(machine.summary(u64::from(steps - left), time))
+}
+
+fn write_summary<W: Sink>(summary: &Summary, out: &mut W) -> Result<(), PlayFault>
+    ensures { IfErr result (λ fault. (fault ≡ PlayFault.Write) × HasGrown (W.failure_count out.old) (W.failure_count out.new)) }
+{
+    put(out, b"done ")?;
+    put_decimal(out, u128::from(summary.events))?;
+    put(out, b" ")?;
+    put_decimal(out, summary.time)?;
+    put(out, b" ")?;
+    put_hex4(out, summary.pc)?;
+    put(out, b" ")?;
+    put_hex4(out, summary.sp)?;
+    put(out, b"\nregs")?;
+    for pair in summary.pairs {
+        put(out, b" ")?;
+        put_hex4(out, pair)?;
+    }
+    put(out, b"\nsum")?;
+    for sum in summary.sums {
+        put(out, b" ")?;
+        put_decimal(out, u128::from(sum))?;
+    }
+    put(out, b"\n")
+}
