@@ -1,6 +1,6 @@
-ghost use Rattle.std.specs.Prelude.{◌≡◌, ◌<◌, OnOk, IfErr};
+ghost use Rattle.std.specs.Prelude.{◌≡◌, ◌<◌, OnOk, IfErr, decimal};
 ghost use Rattle.certificate.specs.Device.{HasGrown, Takes};
-ghost use Rattle.runner.specs.Output.{hex_digit};
+ghost use Rattle.runner.specs.Output.{hex_digit, hex4};
 
 use crate::fault::PlayFault;
 use certificate::Sink;
@@ -8,21 +8,27 @@ use itoa::Buffer;
 
 /// Writes all of the bytes.
 pub fn put<W: Sink>(out: &mut W, bytes: &[u8]) -> Result<(), PlayFault>
+    ensures written { OnOk result (Takes (W.taken out.old) bytes.now (W.taken out.new)) }
     ensures kept { OnOk result (W.failure_count out.new ≡ W.failure_count out.old) }
     ensures failed { IfErr result (λ fault. (fault ≡ PlayFault.Write) × HasGrown (W.failure_count out.old) (W.failure_count out.new)) }
 {
     let mut rest = bytes;
     while !rest.is_empty() {
-        match out.write(rest) {
-            Ok(0) | Err(_) => return Err(PlayFault::Write),
-            Ok(count) => rest = &rest[count..],
+        let Ok(count) = out.write(rest) else {
+            return Err(PlayFault::Write);
+        };
+        if count == 0 {
+            return Err(PlayFault::Write);
         }
+        let (_, left) = rest.split_at(count);
+        rest = left;
     }
     Ok(())
 }
 
 /// Writes a number in decimal.
 pub fn put_decimal<W: Sink>(out: &mut W, number: u128) -> Result<(), PlayFault>
+    ensures written { OnOk result (Takes (W.taken out.old) (decimal number) (W.taken out.new)) }
     ensures kept { OnOk result (W.failure_count out.new ≡ W.failure_count out.old) }
     ensures failed { IfErr result (λ fault. (fault ≡ PlayFault.Write) × HasGrown (W.failure_count out.old) (W.failure_count out.new)) }
 {
@@ -32,6 +38,7 @@ pub fn put_decimal<W: Sink>(out: &mut W, number: u128) -> Result<(), PlayFault>
 
 /// Writes a word as four upper-case hexadecimal digits.
 pub fn put_hex4<W: Sink>(out: &mut W, word: u16) -> Result<(), PlayFault>
+    ensures written { OnOk result (Takes (W.taken out.old) (hex4 word) (W.taken out.new)) }
     ensures kept { OnOk result (W.failure_count out.new ≡ W.failure_count out.old) }
     ensures failed { IfErr result (λ fault. (fault ≡ PlayFault.Write) × HasGrown (W.failure_count out.old) (W.failure_count out.new)) }
 {
