@@ -1,4 +1,5 @@
-use Rattle.std.proofs.Common.{◌≡◌, ℕ, List, ◌++◌, Option, Some, None, sym, ap, subst, ◌∙◌, append_assoc}
+use Rattle.std.proofs.Common.{◌≡◌, ℕ, List, [], ◌++◌, IfSome, Option, Some, None, sym, ap, subst, ◌∙◌, append_assoc}
+use Rattle.std.proofs.lemmas.List.{append-nil}
 use Rattle.certificate.specs.Device.{Gives, Takes}
 
 -- two writes are one
@@ -14,3 +15,10 @@ gives_both None b c xs ys p q = tt
 gives_both (Some old) b c xs ys (left, is, parts) q =
     let (last, ends, more) = subst (λ (o : Option (List ℕ)). Gives o ys c) is q in
     (last, ends, parts ∙ ap (λ (bytes : List ℕ). xs ++ bytes) more ∙ sym (append_assoc xs ys last))
+
+-- what a source gave before it was empty is all that it had
+pub gives_all : (a b : Option (List ℕ)) (xs : List ℕ) → Gives a xs b → IfSome b (λ left. left ≡ []) → IfSome a (λ all. xs ≡ all)
+gives_all None b xs p e = tt
+gives_all (Some old) b xs (left, is, parts) e =
+    let none : left ≡ [] = subst (λ (o : Option (List ℕ)). IfSome o (λ l. l ≡ [])) is e in
+    sym (parts ∙ ap (λ (l : List ℕ). xs ++ l) none ∙ append-nil xs)
