@@ -1,4 +1,27 @@
-.PHONY: test
+PREFIX ?= /usr/local
+SIX = examples/six-bytes/six
 
+.PHONY: all test install clean
+
+all: galcert
+	@echo "== the six-byte example: its verdict, and a run of three events"
+	./galcert verify $(SIX).rom $(SIX).cert
+	./galcert run $(SIX).rom $(SIX).cert $(SIX).input 3
+
+# Each crate is proved before the program is built from what was proved.
+galcert: crates.txt $(shell find crates -name '*.rt' -o -name '*.antt' | grep -v /out/)
+	@echo "== proving every crate, which takes some minutes the first time"
+	rt all check
+	@echo "== building ./galcert"
+	cd crates/galcert && rt run -- verify ../../$(SIX).rom ../../$(SIX).cert
+	cp crates/galcert/out/galcert galcert
+
+# The gate: every proof from nothing, the edits that must be refused, the tests and the stored run.
 test:
 	rt ci
+
+install: galcert
+	install -D -m 755 galcert $(DESTDIR)$(PREFIX)/bin/galcert
+
+clean:
+	rm -rf galcert crates/*/out

@@ -1,3 +1,6 @@
+ghost use Rattle.std.specs.Prelude.{◌≡◌, ◌≤◌};
+ghost use Rattle.cert_checker.specs.Reason.{number_of, name_of};
+
 use thiserror::Error;
 use z80_decode::DecodeFault;
 
@@ -50,4 +53,63 @@ pub enum Reason {
     HaltInNmi,
     #[error("a write of SP other than the region's top")]
     SpWrite,
+}
+
+impl Reason {
+    /// The number of the reason in the table of reasons, 1 to 20.
+    pub fn number(self) -> u8
+        ensures value { result ≡ number_of self }
+        ensures in_range { (1 ≤ result) × (result ≤ 20) }
+    {
+        match self {
+            Reason::Rom => 1,
+            Reason::Region => 2,
+            Reason::Entry => 3,
+            Reason::Decode(_) => 4,
+            Reason::IoSpace => 5,
+            Reason::WriteRom => 6,
+            Reason::WriteUnmapped => 7,
+            Reason::StackOverwrite => 8,
+            Reason::StackUnset => 9,
+            Reason::StackShape => 10,
+            Reason::StackDepth => 11,
+            Reason::NotCovered => 12,
+            Reason::Rank => 13,
+            Reason::SavedRegister(_) => 14,
+            Reason::NmiBeforeStack => 15,
+            Reason::NmiMissing => 16,
+            Reason::Time => 17,
+            Reason::Budget => 18,
+            Reason::HaltInNmi => 19,
+            Reason::SpWrite => 20,
+        }
+    }
+
+    /// The name of the reason in the table of reasons.
+    pub fn name(self) -> &'static [u8]
+        ensures { result.now ≡ name_of self }
+    {
+        match self {
+            Reason::Rom => b"Rom",
+            Reason::Region => b"Region",
+            Reason::Entry => b"Entry",
+            Reason::Decode(_) => b"Decode",
+            Reason::IoSpace => b"IoSpace",
+            Reason::WriteRom => b"WriteRom",
+            Reason::WriteUnmapped => b"WriteUnmapped",
+            Reason::StackOverwrite => b"StackOverwrite",
+            Reason::StackUnset => b"StackUnset",
+            Reason::StackShape => b"StackShape",
+            Reason::StackDepth => b"StackDepth",
+            Reason::NotCovered => b"NotCovered",
+            Reason::Rank => b"Rank",
+            Reason::SavedRegister(_) => b"SavedRegister",
+            Reason::NmiBeforeStack => b"NmiBeforeStack",
+            Reason::NmiMissing => b"NmiMissing",
+            Reason::Time => b"Time",
+            Reason::Budget => b"Budget",
+            Reason::HaltInNmi => b"HaltInNmi",
+            Reason::SpWrite => b"SpWrite",
+        }
+    }
 }

@@ -1,24 +1,23 @@
-ghost use Rattle.std.specs.Prelude.{◌≡◌, ◌<◌, OnOk, IfErr, decimal};
+ghost use Rattle.std.specs.Prelude.{◌≡◌, ◌<◌, OnOk, OnErr, decimal};
 ghost use Rattle.certificate.specs.Device.{HasGrown, Takes};
 ghost use Rattle.runner.specs.Output.{hex_digit, hex4};
 
-use crate::fault::PlayFault;
-use certificate::Sink;
+use certificate::{DeviceFault, Sink};
 use itoa::Buffer;
 
 /// Writes all of the bytes.
-pub fn put<W: Sink>(out: &mut W, bytes: &[u8]) -> Result<(), PlayFault>
+pub fn put<W: Sink>(out: &mut W, bytes: &[u8]) -> Result<(), DeviceFault>
     ensures written { OnOk result (Takes (W.taken out.old) bytes.now (W.taken out.new)) }
     ensures kept { OnOk result (W.failure_count out.new ≡ W.failure_count out.old) }
-    ensures failed { IfErr result (λ fault. (fault ≡ PlayFault.Write) × HasGrown (W.failure_count out.old) (W.failure_count out.new)) }
+    ensures failed { OnErr result (HasGrown (W.failure_count out.old) (W.failure_count out.new)) }
 {
     let mut rest = bytes;
     while !rest.is_empty() {
         let Ok(count) = out.write(rest) else {
-            return Err(PlayFault::Write);
+            return Err(DeviceFault);
         };
         if count == 0 {
-            return Err(PlayFault::Write);
+            return Err(DeviceFault);
         }
         let (_, left) = rest.split_at(count);
         rest = left;
@@ -27,20 +26,20 @@ pub fn put<W: Sink>(out: &mut W, bytes: &[u8]) -> Result<(), PlayFault>
 }
 
 /// Writes a number in decimal.
-pub fn put_decimal<W: Sink>(out: &mut W, number: u128) -> Result<(), PlayFault>
+pub fn put_decimal<W: Sink>(out: &mut W, number: u128) -> Result<(), DeviceFault>
     ensures written { OnOk result (Takes (W.taken out.old) (decimal number) (W.taken out.new)) }
     ensures kept { OnOk result (W.failure_count out.new ≡ W.failure_count out.old) }
-    ensures failed { IfErr result (λ fault. (fault ≡ PlayFault.Write) × HasGrown (W.failure_count out.old) (W.failure_count out.new)) }
+    ensures failed { OnErr result (HasGrown (W.failure_count out.old) (W.failure_count out.new)) }
 {
     let mut buffer = Buffer::new();
     put(out, buffer.format(number).as_bytes())
 }
 
 /// Writes a word as four upper-case hexadecimal digits.
-pub fn put_hex4<W: Sink>(out: &mut W, word: u16) -> Result<(), PlayFault>
+pub fn put_hex4<W: Sink>(out: &mut W, word: u16) -> Result<(), DeviceFault>
     ensures written { OnOk result (Takes (W.taken out.old) (hex4 word) (W.taken out.new)) }
     ensures kept { OnOk result (W.failure_count out.new ≡ W.failure_count out.old) }
-    ensures failed { IfErr result (λ fault. (fault ≡ PlayFault.Write) × HasGrown (W.failure_count out.old) (W.failure_count out.new)) }
+    ensures failed { OnErr result (HasGrown (W.failure_count out.old) (W.failure_count out.new)) }
 {
     let digits = [
         digit_of(word / 0x1000),

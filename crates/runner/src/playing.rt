@@ -1,4 +1,4 @@
-ghost use Rattle.std.specs.Prelude.{◌≡◌, ◌≢◌, ◌<◌, IfErr, IfOk, OnOk};
+ghost use Rattle.std.specs.Prelude.{◌≡◌, ◌≢◌, ◌<◌, ℕ, IfOk, OnErr, OnOk};
 ghost use Rattle.certificate.specs.Device.{HasGrown};
 ghost use Rattle.t_states.specs.declared.TheConstants.{FRAME};
 
@@ -9,7 +9,7 @@ use crate::machine::{Machine, Summary};
 use crate::output::{put, put_decimal, put_hex4};
 use board_step::Reset;
 use cert_checker::Accepted;
-use certificate::{Sink, Source};
+use certificate::{DeviceFault, Sink, Source};
 use z80_alu::{RegisterSet, Regs};
 
 /// Plays an input on an accepted ROM for at most this many events, and writes its summary. A line of the
@@ -22,13 +22,16 @@ pub fn play<R: Source, W: Sink>(
 ) -> Result<Summary, PlayFault>
     ensures read { result ≡ Err PlayFault.Read → HasGrown (R.failure_count input.old) (R.failure_count input.new) }
     ensures write { result ≡ Err PlayFault.Write → HasGrown (W.failure_count out.old) (W.failure_count out.new) }
+    ensures line { (line : ℕ) → result ≡ Err (PlayFault.Line line) → W.failure_count out.new ≡ W.failure_count out.old }
 {
     let mut pending = Pending::new();
     let (phase, fill) = first_line(&mut pending, input)?;
     let mut machine = Machine::reset(accepted, &filled(phase, fill));
     let summary = play_lines(&mut machine, &mut pending, steps, input)?;
-    write_summary(&summary, out)?;
-    Ok(summary)
+    match write_summary(&summary, out) {
+        Ok(()) => Ok(summary),
+        Err(DeviceFault) => Err(PlayFault::Write),
+    }
 }
 
 fn first_line<R: Source>(pending: &mut Pending, input: &mut R) -> Result<(u32, u8), PlayFault>
@@ -108,8 +111,8 @@ fn play_lines<R: Source>(
     Ok(machine.summary(u64::from(steps - left), time))
 }
 
-fn write_summary<W: Sink>(summary: &Summary, out: &mut W) -> Result<(), PlayFault>
-    ensures { IfErr result (λ fault. (fault ≡ PlayFault.Write) × HasGrown (W.failure_count out.old) (W.failure_count out.new)) }
+fn write_summary<W: Sink>(summary: &Summary, out: &mut W) -> Result<(), DeviceFault>
+    ensures { OnErr result (HasGrown (W.failure_count out.old) (W.failure_count out.new)) }
 {
     put(out, b"done ")?;
     put_decimal(out, u128::from(summary.events))?;
