@@ -1,8 +1,10 @@
 // The registers, the arithmetic and the flags of the Z80 (Zilog UM0080). It stands on no other crate.
 #![tactic(auto)]
 
+mod flags;
 mod regs;
 mod word;
 
+pub use flags::Flags;
 pub use regs::{RegisterSet, Regs};
 pub use word::Word;
