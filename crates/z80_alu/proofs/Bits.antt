@@ -1,5 +1,5 @@
 -- One bit of a number, tested by a mask, and a byte put together of its bits.
-use Rattle.std.proofs.Common.{◌≡◌, ℕ, zero, suc, ◌+◌, ◌*◌, ◌/◌, ◌%◌, ◌^◌, ◌<◌, Bool, true, false, not, ◌&&◌, eqb, bit_and, bit_or, bit_xor, min, refl, sym, ap, zero-mul, ◌∙◌, inl, inr, arith}
+use Rattle.std.proofs.Common.{◌≡◌, ℕ, zero, suc, ◌+◌, ◌*◌, ◌/◌, ◌%◌, ◌^◌, ◌<◌, ◌≤◌, Bool, leb, true, false, not, ◌&&◌, eqb, bit_and, bit_or, bit_xor, min, refl, sym, ap, zero-mul, ◌∙◌, inl, inr, arith}
 use Rattle.std.specs.Int.{bit_at, from_bool}
 use Rattle.std.proofs.lemmas.Nat.Bits.{and_pow, bit_at-lt, bit_at_and, bit_at_xor}
 use Rattle.std.proofs.lemmas.Nat.{pow_pos}
@@ -41,3 +41,12 @@ pub byte_of_bits : (s z y h x p n c : Bool) → bit_or (bit_or (bit_or (bit_or (
 unfolding byte_matches
 byte_of_bits s z y h x p n c =
     eqb-true _ _ (both_at _ (both_at _ (both_at _ (both_at _ (both_at _ (both_at _ (both_at _ (both_at _ byte_matches_all s) z) y) h) x) p) n) c)
+
+-- ---- the sign of a byte, and a truth as a number
+
+pub sign_of_byte : (n : ℕ) → n < 256 → not (eqb (bit_and n 128) 0) ≡ leb 128 n
+sign_of_byte n small = rw (has_bit-masked n 7) (grind (arith, nat_tests))
+
+pub from_bool_le : (b : Bool) → from_bool b ≤ 1
+from_bool_le true = omega arith
+from_bool_le false = omega arith

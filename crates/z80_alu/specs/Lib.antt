@@ -1,2 +1,4 @@
+pub mod Add
 pub mod Flags
+pub mod Signed
 pub mod Word

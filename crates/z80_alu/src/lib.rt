@@ -1,10 +1,12 @@
 // The registers, the arithmetic and the flags of the Z80 (Zilog UM0080). It stands on no other crate.
 #![tactic(auto)]
 
+mod add;
 mod flags;
 mod regs;
 mod word;
 
+pub use add::add8;
 pub use flags::Flags;
 pub use regs::{RegisterSet, Regs};
 pub use word::Word;
