@@ -6,7 +6,7 @@ mod flags;
 mod regs;
 mod word;
 
-pub use add::add8;
+pub use add::{add8, dec8, inc8, sub8};
 pub use flags::Flags;
 pub use regs::{RegisterSet, Regs};
 pub use word::Word;
