@@ -47,6 +47,9 @@ byte_of_bits s z y h x p n c =
 pub sign_of_byte : (n : ℕ) → n < 256 → not (eqb (bit_and n 128) 0) ≡ leb 128 n
 sign_of_byte n small = rw (has_bit-masked n 7) (grind (arith, nat_tests))
 
+pub sign_of_word : (n : ℕ) → n < 65536 → not (eqb (bit_and n 32768) 0) ≡ leb 32768 n
+sign_of_word n small = rw (has_bit-masked n 15) (grind (arith, nat_tests))
+
 pub from_bool_le : (b : Bool) → from_bool b ≤ 1
 from_bool_le true = omega arith
 from_bool_le false = omega arith

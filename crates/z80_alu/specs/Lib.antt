@@ -2,3 +2,4 @@ pub mod Add
 pub mod Flags
 pub mod Signed
 pub mod Word
+pub mod Words
