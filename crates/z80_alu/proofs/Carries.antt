@@ -6,7 +6,7 @@ use Rattle.std.proofs.lemmas.Nat.Bits.{bit_at_and, bit_at_xor}
 use Rattle.std.proofs.lemmas.Bool.{le-leb, lt-leb, eq-eqb, ne_eqb, cases_lt, cond-false, le-ltb}
 use Rattle.std.proofs.lemmas.Bool.Decides.{nat_tests}
 use Rattle.z80_alu.specs.Signed.{overflows_byte}
-use Rattle.z80_alu.proofs.Bits.{has_bit-masked}
+use Rattle.z80_alu.proofs.BitTests.{has_bit-masked}
 
 -- a bit that is 1 just where a bound is reached
 pub bit_as_bound : (x m n : ℕ) → (m ≤ n → x ≡ 1) → (n < m → x ≡ 0) → eqb x 1 ≡ leb m n

@@ -1,3 +1,3 @@
-pub mod Bits
+pub mod BitTests
 pub mod Carries
 pub mod WordCarries

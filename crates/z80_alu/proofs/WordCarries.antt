@@ -6,7 +6,7 @@ use Rattle.std.proofs.lemmas.Nat.Bits.{bit_at_and, bit_at_xor}
 use Rattle.std.proofs.lemmas.Bool.{le-leb, lt-leb, eq-eqb, ne_eqb, cases_lt, cond-false, le-ltb}
 use Rattle.std.proofs.lemmas.Bool.Decides.{nat_tests}
 use Rattle.z80_alu.specs.Signed.{overflows_word}
-use Rattle.z80_alu.proofs.Bits.{has_bit-masked}
+use Rattle.z80_alu.proofs.BitTests.{has_bit-masked}
 use Rattle.z80_alu.proofs.Carries.{bit_as_bound}
 
 -- ---- half carries

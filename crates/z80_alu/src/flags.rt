@@ -22,7 +22,7 @@ pub struct Flags {
 }
 
 impl Flags {
-    ghost use Rattle.z80_alu.specs.Flags.{flags_byte, flags_of};
+    ghost use Rattle.z80_alu.specs.Flags.{flags_byte, flags_of, kept_flags, result_flags};
 
     /// The eight flags of a byte F.
     #[inline]
@@ -56,5 +56,31 @@ impl Flags {
             | u8::from(self.parity_overflow) << 2
             | u8::from(self.subtract) << 1
             | u8::from(self.carry)
+    }
+
+    // The six flags of `f`, with bits 5 and 3 of the noise.
+    #[inline]
+    pub(crate) fn kept(f: u8, noise: u8) -> Flags
+        ensures { result ≡ kept_flags f noise }
+    {
+        let noise = Flags::of(noise);
+        Flags {
+            bit5: noise.bit5,
+            bit3: noise.bit3,
+            ..Flags::of(f)
+        }
+    }
+
+    // S, Z and the parity of a byte, with the other bits of the noise.
+    #[inline]
+    pub(crate) fn of_result(value: u8, noise: u8) -> Flags
+        ensures { result ≡ result_flags value noise }
+    {
+        Flags {
+            sign: value & 0x80 != 0,
+            zero: value == 0,
+            parity_overflow: value.count_ones() % 2 == 0,
+            ..Flags::of(noise)
+        }
     }
 }

@@ -13,15 +13,11 @@ pub fn add16(a: u16, b: u16, f: u8, noise: u8) -> (u16, u8)
 {
     let sum = u32::from(a) + u32::from(b);
     let value = (sum & 0xFFFF) as u16;
-    let before = Flags::of(f);
     let flags = Flags {
-        sign: before.sign,
-        zero: before.zero,
         half_carry: (a ^ b ^ value) & 0x1000 != 0,
-        parity_overflow: before.parity_overflow,
         subtract: false,
         carry: sum > 0xFFFF,
-        ..Flags::of(noise)
+        ..Flags::kept(f, noise)
     };
     (value, flags.byte())
 }

@@ -1,5 +1,5 @@
 use Rattle.z80_alu.specs.Flags.{flags_byte}
-use Rattle.z80_alu.proofs.Bits.{byte_of_bits}
+use Rattle.z80_alu.proofs.BitTests.{byte_of_bits}
 use Rattle.z80_alu.proofs.flags.Flags.byte.Goals as goal
 
 pub returns : goal.returns

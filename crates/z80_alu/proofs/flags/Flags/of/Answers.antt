@@ -1,5 +1,5 @@
 use Rattle.z80_alu.specs.Flags.{flags_of}
-use Rattle.z80_alu.proofs.Bits.{has_bit-masked}
+use Rattle.z80_alu.proofs.BitTests.{has_bit-masked}
 use Rattle.z80_alu.proofs.flags.Flags.of.Goals as goal
 
 pub returns : goal.returns
