@@ -1,7 +1,7 @@
 -- One bit of a number, tested by a mask, and a byte put together of its bits.
-use Rattle.std.proofs.Common.{◌≡◌, ℕ, zero, suc, ◌+◌, ◌*◌, ◌/◌, ◌%◌, ◌^◌, ◌<◌, ◌≤◌, Bool, leb, true, false, not, ◌&&◌, eqb, bit_and, bit_or, bit_xor, min, refl, sym, ap, zero-mul, ◌∙◌, inl, inr, arith}
+use Rattle.std.proofs.Common.{◌≡◌, ℕ, zero, suc, ◌+◌, ◌*◌, ◌%◌, ◌^◌, ◌<◌, ◌≤◌, Bool, leb, true, false, not, ◌&&◌, eqb, bit_and, bit_or, refl, ap, zero-mul, arith}
 use Rattle.std.specs.Int.{bit_at, from_bool}
-use Rattle.std.proofs.lemmas.Nat.Bits.{and_pow, bit_at-lt, bit_at_and, bit_at_xor}
+use Rattle.std.proofs.lemmas.Nat.Bits.{and_pow, bit_at-lt}
 use Rattle.std.proofs.lemmas.Nat.{pow_pos}
 use Rattle.std.proofs.lemmas.Bool.{and_parts, eqb-true, ne_eqb}
 use Rattle.std.proofs.lemmas.Bool.Decides.{nat_tests}
@@ -30,8 +30,8 @@ both_at p h false = (and_parts (p true) (p false) h).1
 byte_matches : (s z y h x p n c : Bool) → Bool
 byte_matches s z y h x p n c =
     eqb
-      (bit_or (bit_or (bit_or (bit_or (bit_or (bit_or (bit_or (from_bool s * 128 % 256) (from_bool z * 64 % 256)) (from_bool y * 32 % 256)) (from_bool h * 16 % 256)) (from_bool x * 8 % 256)) (from_bool p * 4 % 256)) (from_bool n * 2 % 256)) (from_bool c))
-      (128 * from_bool s + 64 * from_bool z + 32 * from_bool y + 16 * from_bool h + 8 * from_bool x + 4 * from_bool p + 2 * from_bool n + from_bool c)
+    (bit_or (bit_or (bit_or (bit_or (bit_or (bit_or (bit_or (from_bool s * 128 % 256) (from_bool z * 64 % 256)) (from_bool y * 32 % 256)) (from_bool h * 16 % 256)) (from_bool x * 8 % 256)) (from_bool p * 4 % 256)) (from_bool n * 2 % 256)) (from_bool c))
+    (128 * from_bool s + 64 * from_bool z + 32 * from_bool y + 16 * from_bool h + 8 * from_bool x + 4 * from_bool p + 2 * from_bool n + from_bool c)
 
 byte_matches_all : both (λ s. both (λ z. both (λ y. both (λ h. both (λ x. both (λ p. both (λ n. both (λ c. byte_matches s z y h x p n c)))))))) ≡ true
 unfolding both byte_matches

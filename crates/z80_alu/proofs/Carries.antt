@@ -18,12 +18,12 @@ bit_as_bound x m n above below =
 pub half_carry_of_sum8 : (a b c v : ℕ) → c ≤ 1 → v ≡ (a + b + c) % 256 → not (eqb (bit_and (bit_xor (bit_xor a b) v) 16) 0) ≡ leb 16 (a % 16 + b % 16 + c)
 half_carry_of_sum8 a b c v small is =
     rw (has_bit-masked (bit_xor (bit_xor a b) v) 4, bit_at_xor (bit_xor a b) v 4, bit_at_xor a b 4)
-      (bit_as_bound _ _ _ (λ h. omega arith) (λ h. omega arith))
+    (bit_as_bound _ _ _ (λ h. omega arith) (λ h. omega arith))
 
 pub half_carry_of_difference8 : (a b c v : ℕ) → b < 256 → c ≤ 1 → v ≡ (256 + a - b - c) % 256 → not (eqb (bit_and (bit_xor (bit_xor a b) v) 16) 0) ≡ ltb (a % 16) (b % 16 + c)
 half_carry_of_difference8 a b c v k small is =
     rw (has_bit-masked (bit_xor (bit_xor a b) v) 4, bit_at_xor (bit_xor a b) v 4, bit_at_xor a b 4)
-      (bit_as_bound _ _ _ (λ h. omega arith) (λ h. omega arith))
+    (bit_as_bound _ _ _ (λ h. omega arith) (λ h. omega arith))
 
 -- a difference above 256 stays below it where it borrows
 pub borrow_of_difference8 : (a b c : ℕ) → b < 256 → c ≤ 1 → ltb (256 + a - b - c) 256 ≡ ltb a (b + c)
@@ -33,10 +33,10 @@ borrow_of_difference8 a b c k small = grind (arith, nat_tests)
 
 signed_byte : (a : ℕ) → a < 256 → cast_signed w8 a +ℤ pos 128 ≡ pos ((a + 128) % 256)
 signed_byte a h =
-    elim (cases_lt a 128)
-      [ inl low ↦ ap (λ z. z +ℤ pos 128) (to_z_pos w8 a low) ∙ ap pos (omega arith)
+    elim (cases_lt a 128) [
+      | inl low ↦ ap (λ z. z +ℤ pos 128) (to_z_pos w8 a low) ∙ ap pos (omega arith)
       | inr high ↦ ap (λ z. z +ℤ pos 128) (cond-false (ltb a 128) (pos a) (negsuc (256 - suc a)) (le-ltb a 128 high)) ∙ omega (arith, ints)
-      ]
+    ]
 
 overflows_byte_at : (z : ℤ) (m : ℕ) → z +ℤ pos 256 ≡ pos m → overflows_byte z ≡ not (leb 128 m && leb m 383)
 overflows_byte_at (pos n) m e =
@@ -56,7 +56,7 @@ pub overflow_of_sum8 : (a b c v : ℕ) → a < 256 → b < 256 → c ≤ 1 → v
     not (eqb (bit_and (bit_and (bit_xor a v) (bit_xor b v)) 128) 0) ≡ overflows_byte (cast_signed w8 a +ℤ cast_signed w8 b +ℤ pos c)
 overflow_of_sum8 a b c v h k small is =
     rw (has_bit-masked (bit_and (bit_xor a v) (bit_xor b v)) 7, bit_at_and (bit_xor a v) (bit_xor b v) 7, bit_at_xor a v 7, bit_at_xor b v 7)
-      (grind (arith, nat_tests) ∙ sym (overflows_byte_at (cast_signed w8 a +ℤ cast_signed w8 b +ℤ pos c) _ (signed_sum a b c h k)))
+    (grind (arith, nat_tests) ∙ sym (overflows_byte_at (cast_signed w8 a +ℤ cast_signed w8 b +ℤ pos c) _ (signed_sum a b c h k)))
 
 signed_difference : (a b c : ℕ) → a < 256 → b < 256 → c ≤ 1 → cast_signed w8 a -ℤ cast_signed w8 b -ℤ pos c +ℤ pos 256 ≡ pos (256 + (a + 128) % 256 - (b + 128) % 256 - c)
 signed_difference a b c h k small =
@@ -68,4 +68,4 @@ pub overflow_of_difference8 : (a b c v : ℕ) → a < 256 → b < 256 → c ≤ 
     not (eqb (bit_and (bit_and (bit_xor a b) (bit_xor a v)) 128) 0) ≡ overflows_byte (cast_signed w8 a -ℤ cast_signed w8 b -ℤ pos c)
 overflow_of_difference8 a b c v h k small is =
     rw (has_bit-masked (bit_and (bit_xor a b) (bit_xor a v)) 7, bit_at_and (bit_xor a b) (bit_xor a v) 7, bit_at_xor a b 7, bit_at_xor a v 7)
-      (grind (arith, nat_tests) ∙ sym (overflows_byte_at (cast_signed w8 a -ℤ cast_signed w8 b -ℤ pos c) _ (signed_difference a b c h k small)))
+    (grind (arith, nat_tests) ∙ sym (overflows_byte_at (cast_signed w8 a -ℤ cast_signed w8 b -ℤ pos c) _ (signed_difference a b c h k small)))

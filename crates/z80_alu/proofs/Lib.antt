@@ -1,3 +1,4 @@
 pub mod BitTests
+pub mod ByteTables
 pub mod Carries
 pub mod WordCarries

@@ -1,4 +1,4 @@
-use Rattle.std.specs.Prelude.{ℕ, Bool, not, ◌&&◌, ℤ, pos, neg_ℤ, int_le}
+use Rattle.std.specs.Prelude.{Bool, not, ◌&&◌, ℤ, pos, neg_ℤ, int_le}
 
 -- whether a whole number lies outside -128 to 127, the signed bytes
 abbrev pub overflows_byte : ℤ → Bool

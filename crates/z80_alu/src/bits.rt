@@ -1,4 +1,4 @@
-ghost use Rattle.std.specs.Prelude.{◌≡◌};
+ghost use Rattle.std.specs.Prelude.{◌≡◌, ◌%◌};
 ghost use Rattle.z80_alu.specs.Flags.{flags_byte};
 ghost use Rattle.z80_alu.specs.Bits.{test_bit_flags, bit_set, bit_reset};
 
@@ -9,7 +9,7 @@ use crate::flags::Flags;
 #[inline]
 #[tactic(auto, unfolding(crate::specs::Bits::test_bit_flags))]
 pub fn test_bit(bit: u8, value: u8, f: u8, noise: u8) -> u8
-    ensures { result ≡ flags_byte (test_bit_flags bit value f noise) }
+    ensures { result ≡ flags_byte (test_bit_flags (bit % 8) value f noise) }
 {
     let flags = Flags {
         zero: value >> (bit % 8) & 1 == 0,
@@ -24,7 +24,7 @@ pub fn test_bit(bit: u8, value: u8, f: u8, noise: u8) -> u8
 /// `value` with bit `bit`, modulo 8, set: SET, which changes no flag (UM0080, "SET b,r").
 #[inline]
 pub fn set_bit(bit: u8, value: u8) -> u8
-    ensures { result ≡ bit_set bit value }
+    ensures { result ≡ bit_set (bit % 8) value }
 {
     value | 1 << (bit % 8)
 }
@@ -32,7 +32,7 @@ pub fn set_bit(bit: u8, value: u8) -> u8
 /// `value` with bit `bit`, modulo 8, reset: RES, which changes no flag (UM0080, "RES b,m").
 #[inline]
 pub fn reset_bit(bit: u8, value: u8) -> u8
-    ensures { result ≡ bit_reset bit value }
+    ensures { result ≡ bit_reset (bit % 8) value }
 {
     value & !(1 << (bit % 8))
 }

@@ -9,7 +9,11 @@ use crate::flags::Flags;
 fn correction(a: u8, before: Flags) -> u8
     ensures { result ≡ decimal_correction a before }
 {
-    let low = if before.half_carry || a & 0x0F > 9 { 0x06 } else { 0x00 };
+    let low = if before.half_carry || a & 0x0F > 9 {
+        0x06
+    } else {
+        0x00
+    };
     let high = if before.carry || a > 0x99 { 0x60 } else { 0x00 };
     low + high
 }

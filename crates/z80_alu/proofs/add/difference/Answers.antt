@@ -1,7 +1,6 @@
-use Rattle.std.proofs.Common.{◌≡◌, ◌+◌, ◌-◌, ◌%◌, arith}
+use Rattle.std.proofs.Common.{◌+◌, ◌-◌, arith}
 use Rattle.std.specs.Int.{from_bool}
 use Rattle.std.proofs.lemmas.Nat.{and_mask}
-use Rattle.z80_alu.specs.Flags.{flags_of}
 use Rattle.z80_alu.specs.Add.{difference8, difference8_flags}
 use Rattle.z80_alu.proofs.BitTests.{sign_of_byte, from_bool_le}
 use Rattle.z80_alu.proofs.Carries.{half_carry_of_difference8, overflow_of_difference8, borrow_of_difference8}

@@ -1,7 +1,6 @@
-use Rattle.std.proofs.Common.{◌≡◌, ◌+◌, ◌%◌, arith}
+use Rattle.std.proofs.Common.{◌+◌, arith}
 use Rattle.std.specs.Int.{from_bool}
 use Rattle.std.proofs.lemmas.Nat.{and_mask}
-use Rattle.z80_alu.specs.Flags.{flags_byte, flags_of}
 use Rattle.z80_alu.specs.Words.{sum16, carried_sum16_flags}
 use Rattle.z80_alu.proofs.BitTests.{sign_of_word, from_bool_le}
 use Rattle.z80_alu.proofs.WordCarries.{half_carry_of_sum16, overflow_of_sum16}

@@ -1,7 +1,6 @@
-use Rattle.std.proofs.Common.{◌≡◌, ◌+◌, ◌-◌, ◌%◌, arith}
+use Rattle.std.proofs.Common.{◌+◌, ◌-◌, arith}
 use Rattle.std.specs.Int.{from_bool}
 use Rattle.std.proofs.lemmas.Nat.{and_mask}
-use Rattle.z80_alu.specs.Flags.{flags_byte, flags_of}
 use Rattle.z80_alu.specs.Words.{difference16, carried_difference16_flags}
 use Rattle.z80_alu.proofs.BitTests.{sign_of_word, from_bool_le}
 use Rattle.z80_alu.proofs.WordCarries.{half_carry_of_difference16, overflow_of_difference16, borrow_of_difference16}
