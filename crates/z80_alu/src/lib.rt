@@ -11,6 +11,8 @@ mod logic;
 mod regs;
 mod rotate;
 mod shift;
+#[cfg(test)]
+mod tests;
 mod word;
 mod words;
 
