@@ -9,10 +9,10 @@ use Rattle.z80_alu.specs.Shift.{shifted}
 use Rattle.z80_alu.specs.Bits.{bit_set, bit_reset}
 
 -- two functions that are seen to agree at each number below n
-agrees : (ℕ → ℕ) → (ℕ → ℕ) → ℕ → Bool
+unfoldable pub agrees : (ℕ → ℕ) → (ℕ → ℕ) → ℕ → Bool
 agrees f g n = agree_below (λ k. eqb (f k) (g k)) (λ _. true) n
 
-agrees_at : (f g : ℕ → ℕ) (n k : ℕ) → agrees f g n ≡ true → k < n → f k ≡ g k
+pub agrees_at : (f g : ℕ → ℕ) (n k : ℕ) → agrees f g n ≡ true → k < n → f k ≡ g k
 unfolding agrees
 agrees_at f g n k h below = eqb-true (f k) (g k) (agree_below_at (λ j. eqb (f j) (g j)) (λ _. true) n k h below)
 
