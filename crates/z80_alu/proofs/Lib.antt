@@ -1,0 +1,5 @@
+pub mod BitTests
+pub mod ByteTables
+pub mod Carries
+pub mod FlagsLemmas
+pub mod WordCarries
