@@ -2,4 +2,5 @@ pub mod BitTests
 pub mod ByteTables
 pub mod Carries
 pub mod FlagsLemmas
+pub mod RangeLemmas
 pub mod WordCarries

@@ -4,8 +4,8 @@ ghost use Rattle.z80_alu.specs.Add.{sum8, sum8_flags, difference8, difference8_f
 
 use crate::flags::Flags;
 
-// The carry into a bit is set where the two operands and the result have an odd number of ones;
-// the sum overflows where both operands have the sign that the result does not have.
+// Bit k of `a ^ b ^ value` is the carry into bit k. The sum overflows where both operands have the sign
+// that the value does not have.
 #[inline]
 fn sum(a: u8, b: u8, carry: bool, noise: u8) -> (u8, Flags)
     ensures value { result.0 ≡ sum8 a b carry }
@@ -13,10 +13,11 @@ fn sum(a: u8, b: u8, carry: bool, noise: u8) -> (u8, Flags)
 {
     let sum = u16::from(a) + u16::from(b) + u16::from(carry);
     let value = (sum & 0xFF) as u8;
+    let carries = a ^ b ^ value;
     let flags = Flags {
         sign: value & 0x80 != 0,
         zero: value == 0,
-        half_carry: (a ^ b ^ value) & 0x10 != 0,
+        half_carry: carries & 0x10 != 0,
         parity_overflow: (a ^ value) & (b ^ value) & 0x80 != 0,
         subtract: false,
         carry: sum > 0xFF,
@@ -25,7 +26,8 @@ fn sum(a: u8, b: u8, carry: bool, noise: u8) -> (u8, Flags)
     (value, flags)
 }
 
-// The difference overflows where the operands' signs differ and the result has not the first one's.
+// Bit k of `a ^ b ^ value` is the borrow from bit k. The difference overflows where the operands' signs
+// differ, and the value has not the sign of the first.
 #[inline]
 pub(crate) fn difference(a: u8, b: u8, carry: bool, noise: u8) -> (u8, Flags)
     ensures value { result.0 ≡ difference8 a b carry }
@@ -33,10 +35,11 @@ pub(crate) fn difference(a: u8, b: u8, carry: bool, noise: u8) -> (u8, Flags)
 {
     let difference = 0x100 + u16::from(a) - u16::from(b) - u16::from(carry);
     let value = (difference & 0xFF) as u8;
+    let borrows = a ^ b ^ value;
     let flags = Flags {
         sign: value & 0x80 != 0,
         zero: value == 0,
-        half_carry: (a ^ b ^ value) & 0x10 != 0,
+        half_carry: borrows & 0x10 != 0,
         parity_overflow: (a ^ b) & (a ^ value) & 0x80 != 0,
         subtract: true,
         carry: difference < 0x100,

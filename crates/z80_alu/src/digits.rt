@@ -4,6 +4,7 @@ ghost use Rattle.z80_alu.specs.Digits.{decimal_correction, decimal_adjusted, daa
 
 use crate::flags::Flags;
 
+// What DAA adds to A or subtracts from it.
 #[inline]
 #[tactic(auto, unfolding(crate::specs::Digits::decimal_correction))]
 fn correction(a: u8, before: Flags) -> u8
@@ -42,6 +43,7 @@ pub fn daa(a: u8, f: u8, noise: u8) -> (u8, u8)
     (value, flags.byte())
 }
 
+// The flags of RLD and RRD, by A after them.
 #[inline]
 #[tactic(auto, unfolding(crate::specs::Digits::rotate_digit_flags))]
 fn digit_flags(a: u8, f: u8, noise: u8) -> u8

@@ -1,4 +1,4 @@
-ghost use Rattle.std.specs.Prelude.{◌≡◌, ◌<◌};
+ghost use Rattle.std.specs.Prelude.{◌≡◌};
 
 /// The eight flags of the byte F, each as a truth (UM0080, "Status Indicator Flags").
 #[derive(Clone, Copy, Debug, PartialEq, Eq)]

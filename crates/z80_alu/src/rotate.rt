@@ -26,6 +26,7 @@ pub fn shift8(shift: Shift, value: u8, carry: bool, noise: u8) -> (u8, u8)
     (value, flags.byte())
 }
 
+// A and the flags after RLCA, RRCA, RLA or RRA.
 #[inline]
 #[tactic(auto, unfolding(crate::specs::Rotate::rotate_a_flags))]
 fn rotate_a(shift: Shift, a: u8, f: u8, noise: u8) -> (u8, u8)

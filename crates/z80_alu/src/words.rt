@@ -13,8 +13,9 @@ pub fn add16(a: u16, b: u16, f: u8, noise: u8) -> (u16, u8)
 {
     let sum = u32::from(a) + u32::from(b);
     let value = (sum & 0xFFFF) as u16;
+    let carries = a ^ b ^ value;
     let flags = Flags {
-        half_carry: (a ^ b ^ value) & 0x1000 != 0,
+        half_carry: carries & 0x1000 != 0,
         subtract: false,
         carry: sum > 0xFFFF,
         ..Flags::kept(f, noise)
@@ -31,10 +32,11 @@ pub fn adc16(a: u16, b: u16, carry: bool, noise: u8) -> (u16, u8)
 {
     let sum = u32::from(a) + u32::from(b) + u32::from(carry);
     let value = (sum & 0xFFFF) as u16;
+    let carries = a ^ b ^ value;
     let flags = Flags {
         sign: value & 0x8000 != 0,
         zero: value == 0,
-        half_carry: (a ^ b ^ value) & 0x1000 != 0,
+        half_carry: carries & 0x1000 != 0,
         parity_overflow: (a ^ value) & (b ^ value) & 0x8000 != 0,
         subtract: false,
         carry: sum > 0xFFFF,
@@ -52,10 +54,11 @@ pub fn sbc16(a: u16, b: u16, carry: bool, noise: u8) -> (u16, u8)
 {
     let difference = 0x1_0000 + u32::from(a) - u32::from(b) - u32::from(carry);
     let value = (difference & 0xFFFF) as u16;
+    let borrows = a ^ b ^ value;
     let flags = Flags {
         sign: value & 0x8000 != 0,
         zero: value == 0,
-        half_carry: (a ^ b ^ value) & 0x1000 != 0,
+        half_carry: borrows & 0x1000 != 0,
         parity_overflow: (a ^ b) & (a ^ value) & 0x8000 != 0,
         subtract: true,
         carry: difference < 0x1_0000,
