@@ -1,8 +1,15 @@
 // Expected values are UM0080's: each table was written from the manual's list of codes, not from the code.
-ghost use Rattle.std.specs.Prelude.{◌≤◌};
-
 use crate::decoding::decode;
 use crate::fault::DecodeFault;
+use crate::instr::Instr;
+use crate::kinds::{
+    AccumulatorRotate, ArithmeticKind, Bit, BlockKind, Condition, Mode, RestartAddress, ShiftKind,
+    ShortCondition,
+};
+use crate::operands::{
+    Address, Direct, Index, IndexPair, Memory, Operand, Pair, Place, Pointer, Register8,
+    Register16, Special, StackPair,
+};
 use crate::spelling::one_spelling;
 
 /// How many bytes the instruction takes behind each first byte, with zeros after it, sixteen codes
@@ -168,4 +175,82 @@ fn tells_truncated_from_undocumented(rt: HostRuntime) {
         assert_eq!(rt; mark_of(bytes), mark, "{bytes:?}");
     }
     one_spelling();
+}
+
+/// One instruction of each family, with its code from the manual's description of it.
+#[test]
+fn decodes_each_family(rt: HostRuntime) {
+    let rows: [(&[u8], Instr); 32] = [
+        (
+            &[0x41],
+            Instr::LoadRegister(Register8::B, Place::Register(Register8::C)),
+        ),
+        (
+            &[0x7E],
+            Instr::LoadRegister(Register8::A, Place::Memory(Memory::AtHl)),
+        ),
+        (
+            &[0x36, 0x12],
+            Instr::LoadImmediate(Place::Memory(Memory::AtHl), 0x12),
+        ),
+        (
+            &[0xFD, 0x70, 0x80],
+            Instr::Store(Memory::At(Index::Iy, 0x80), Register8::B),
+        ),
+        (&[0x1A], Instr::LoadA(Address::De)),
+        (&[0x32, 0x34, 0x12], Instr::StoreA(Address::Direct(0x1234))),
+        (&[0xED, 0x5F], Instr::LoadASpecial(Special::R)),
+        (&[0xED, 0x47], Instr::StoreASpecial(Special::I)),
+        (&[0x31, 0x00, 0x44], Instr::LoadPair(Register16::Sp, 0x4400)),
+        (
+            &[0x2A, 0x34, 0x12],
+            Instr::LoadPairDirect(Direct::ShortHl, 0x1234),
+        ),
+        (
+            &[0xED, 0x6B, 0x34, 0x12],
+            Instr::LoadPairDirect(Direct::Pair(Register16::Hl), 0x1234),
+        ),
+        (&[0xF5], Instr::Push(StackPair::Af)),
+        (&[0xFD, 0xE1], Instr::Pop(StackPair::Iy)),
+        (&[0xDD, 0xE3], Instr::ExchangeStack(Pointer::Ix)),
+        (&[0xED, 0xB0], Instr::BlockLoad(BlockKind::IncrementRepeat)),
+        (&[0xED, 0xA9], Instr::BlockCompare(BlockKind::Decrement)),
+        (
+            &[0xFE, 0x10],
+            Instr::Arithmetic(ArithmeticKind::Compare, Operand::Immediate(0x10)),
+        ),
+        (&[0xED, 0x5A], Instr::AdcHl(Pair::De)),
+        (&[0xED, 0x42], Instr::SbcHl(Pair::Bc)),
+        (&[0xFD, 0x29], Instr::AddIndex(Index::Iy, IndexPair::Own)),
+        (&[0x0B], Instr::DecrementPair(Register16::Bc)),
+        (&[0x0F], Instr::RotateA(AccumulatorRotate::Rrca)),
+        (
+            &[0xCB, 0x3C],
+            Instr::Shift(ShiftKind::Srl, Place::Register(Register8::H)),
+        ),
+        (
+            &[0xCB, 0x96],
+            Instr::ResetBit(Bit::Two, Place::Memory(Memory::AtHl)),
+        ),
+        (
+            &[0xFD, 0xCB, 0xFE, 0x7E],
+            Instr::TestBit(Bit::Seven, Place::Memory(Memory::At(Index::Iy, 0xFE))),
+        ),
+        (&[0xDA, 0x66, 0x00], Instr::JumpIf(Condition::Carry, 0x0066)),
+        (
+            &[0x20, 0xFE],
+            Instr::JumpRelativeIf(ShortCondition::NotZero, 0xFE),
+        ),
+        (
+            &[0xE4, 0x00, 0x10],
+            Instr::CallIf(Condition::ParityOdd, 0x1000),
+        ),
+        (&[0xF8], Instr::ReturnIf(Condition::Minus)),
+        (&[0xFF], Instr::Restart(RestartAddress::At38)),
+        (&[0xED, 0x5E], Instr::InterruptMode(Mode::Two)),
+        (&[0xED, 0x79], Instr::OutputRegister(Register8::A)),
+    ];
+    for (bytes, instr) in rows {
+        assert_eq!(rt; decode(bytes).map(|found| found.0), Ok(instr), "{bytes:?}");
+    }
 }
