@@ -8,3 +8,6 @@ mod io;
 pub use costs::cost;
 pub use frame::{FRAME, MAX_BUDGET, NMI_COST};
 pub use io::is_io;
+
+#[cfg(test)]
+mod tests;

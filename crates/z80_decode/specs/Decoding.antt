@@ -1,4 +1,4 @@
--- What the decoder makes of a window of four bytes.
+-- What the decoder makes of a window of four bytes. The definitions here and of the pages are the steps of the code: what `decode` promises is said by `spelling` alone.
 use Rattle.std.specs.Prelude.{ℕ, ◌+◌, ◌*◌, ◌%◌, List, Option, None, if◌then◌else◌, ◌==◌, slice_index_or}
 use Rattle.z80_decode.specs.declared.operands.Index.{Index}
 use Rattle.z80_decode.specs.declared.operands.Index.TheVariants as indexes
