@@ -1,4 +1,4 @@
-ghost use Rattle.std.specs.Prelude.{◌≡◌, ◌<◌, ℕ, false, true, slice_set};
+ghost use Rattle.std.specs.Prelude.{◌≡◌, ◌≢◌, ◌<◌, ℕ, false, true};
 ghost use Rattle.address_map.specs.Starts.{is_start};
 
 use std::marker::Model;
@@ -30,7 +30,8 @@ impl Starts {
     /// Adds an address below 4000h.
     pub fn insert(&mut self, address: u16)
         requires { address < 0x4000 }
-        ensures { self.new ≡ slice_set self.old address true }
+        ensures added { is_start self.new address ≡ true }
+        ensures others { (other : ℕ) → other ≢ address → is_start self.new other ≡ is_start self.old other }
     {
         self.flags[usize::from(address)] = true;
     }

@@ -1,2 +1,4 @@
 pub mod DecodedLemmas
+pub mod RunLemmas
 pub mod StepLemmas
+pub mod TrapLemmas

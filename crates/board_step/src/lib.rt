@@ -16,7 +16,7 @@ mod trap;
 
 pub use access::{StackAccess, Write};
 pub use board::{Board, Reset};
-pub use draft::Draft;
+pub use draft::{Draft, displace};
 pub use env::{Env, Inputs};
 pub use event::{Event, Kind};
 pub use fetching::fetch;

@@ -1,13 +1,16 @@
-// A library with one function.
+// The checker: which certificates of a ROM are accepted, and what acceptance means for every run of the
+// board (docs/CHECKER.md, docs/THEOREM.md).
 #![tactic(auto)]
 
-ghost use Rattle.std.specs.Prelude.{◌≡◌};
-ghost use Rattle.cert_checker.specs.Echo.{echo_of};
+mod accepted;
+mod against;
+mod checking;
+mod covering;
+mod reason;
 
-// The `ensures` clause is the contract: what `echo` returns is `echo_of` of its argument, a definition
-// in `specs/Echo.antt`, which a caller's clause can cite too.
-pub fn echo(x: usize) -> usize
-    ensures { result ≡ echo_of x }
-{
-    x
-}
+pub use accepted::Accepted;
+pub use against::reason_against;
+pub use certificate;
+pub use checking::{CheckFault, Refused, check};
+pub use covering::{covers, mode_includes};
+pub use reason::{Reason, Saved};

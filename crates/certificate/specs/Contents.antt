@@ -1,4 +1,4 @@
-use Rattle.std.specs.Prelude.{ℕ, ◌≤◌, List, [], ◌∷◌}
+use Rattle.std.specs.Prelude.{ℕ, ◌<◌, ◌≤◌, List, length, slice_index_or}
 use Rattle.address_map.specs.declared.region.Region.{Region}
 use Rattle.certificate.specs.declared.contents.Proc.{Proc}
 use Rattle.certificate.specs.declared.contents.Row.{Row}
@@ -10,11 +10,9 @@ pub record Contents : Type 0 where
   pub main : Proc
   pub rows : List Row
 
--- each row's address is at least the one before it
+-- no row's address is below that of a row before it
 abbrev pub RowsRise : List Row → Type 0
-RowsRise [] = Unit {0}
-RowsRise (x ∷ []) = Unit {0}
-RowsRise (x ∷ y ∷ rows) = (x.address ≤ y.address) × RowsRise (y ∷ rows)
+RowsRise rows = (i j : ℕ) (row : Row) → i ≤ j → j < length rows → (slice_index_or rows i row).address ≤ (slice_index_or rows j row).address
 
 -- how many rows a certificate may have
 abbrev pub MAX_ROW_COUNT : ℕ

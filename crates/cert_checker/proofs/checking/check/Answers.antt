@@ -1,0 +1,13 @@
+use Rattle.std.proofs.Common.{ℕ, List, None, sym, subst}
+use Rattle.board_step.specs.Safe.{Safe}
+use Rattle.cert_checker.specs.Accepts.{Accepts}
+use Rattle.cert_checker.specs.Profile.{profile_of}
+use Rattle.cert_checker.proofs.CheckLemmas.{refuses}
+use Rattle.cert_checker.proofs.checking.check.Goals as goal
+
+pub returns-in-Err-clause-exact : goal.returns-in-Err-clause-exact
+returns-in-Err-clause-exact c =
+    ((λ e. cc), λ a. absurd (refuses _ _ _ _ _ c.in-Err.ensures.refused (subst (λ (rom : List ℕ). Accepts rom c.args.certificate) (sym c.in-Some.ensures.value) a)))
+
+pub returns-clause-safe : goal.returns-clause-safe
+returns-clause-safe c = subst (λ (rom : List ℕ). Safe (profile_of rom c.args.certificate) None) c.in-Some.ensures.value c.new.ensures.safe

@@ -1,0 +1,43 @@
+use Rattle.std.specs.Prelude.{ℕ, ◌<◌, ◌≤◌, ◌-◌, ◌≡◌, true, false, List, Option, Some, None, All, length, slice_get}
+use Rattle.address_map.specs.declared.region.Region.{Region}
+use Rattle.certificate.specs.Contents.{Contents}
+use Rattle.certificate.specs.declared.contents.Mode.TheVariants.{Unset}
+use Rattle.certificate.specs.declared.contents.Row.{Row}
+use Rattle.cert_checker.specs.Covers.{is_covered}
+use Rattle.cert_checker.specs.Row.{RowReason, IsConsistent}
+use Rattle.cert_checker.specs.declared.reason.Reason.{Reason}
+use Rattle.cert_checker.specs.declared.reason.Reason.TheVariants as reasons
+
+-- the ROM has 1 to 16,384 bytes, as many as the certificate says
+pub record FitsRom (rom : List ℕ) (cert : Contents) : Type 0 where
+  pub some : 1 ≤ length rom
+  pub fits : length rom ≤ 0x4000
+  pub same : cert.rom_len ≡ length rom
+
+-- the stack's region lies in work RAM and is not empty
+pub record FitsWorkRam (region : Region) : Type 0 where
+  pub low : 0x4000 ≤ region.low
+  pub some : region.low < region.top
+  pub top : region.top ≤ 0x4400
+
+-- A certificate is accepted for a ROM: nothing of the table of reasons applies.
+pub record Accepts (rom : List ℕ) (cert : Contents) : Type 0 where
+  pub fits_rom : FitsRom rom cert
+  pub fits_work_ram : FitsWorkRam cert.region
+  pub entry : is_covered cert.rows 0 Unset ≡ true
+  pub rows : All (IsConsistent rom cert) cert.rows
+  pub depth : cert.main.depth ≤ cert.region.top - cert.region.low
+
+-- a reason against the certificate as a whole
+abbrev pub WholeApplies : List ℕ → Contents → Reason → Type 0
+WholeApplies rom cert reasons.Rom = FitsRom rom cert → ⊥
+WholeApplies rom cert reasons.Region = FitsWorkRam cert.region → ⊥
+WholeApplies rom cert reasons.Entry = is_covered cert.rows 0 Unset ≡ false
+WholeApplies rom cert reasons.StackDepth = cert.region.top - cert.region.low < cert.main.depth
+WholeApplies rom cert _ = ⊥
+
+-- the reason applies to the whole, told at address 0000, or to a row, told at its address
+abbrev pub Applies : List ℕ → Contents → Option ℕ → ℕ → Reason → Type 0
+Applies rom cert None address reason = (address ≡ 0) × WholeApplies rom cert reason
+Applies rom cert (Some number) address reason =
+    (row : Row) × (slice_get cert.rows number ≡ Some row) × (address ≡ row.address) × RowReason rom cert row (Some reason)

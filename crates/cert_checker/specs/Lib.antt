@@ -1,0 +1,5 @@
+pub mod Accepts
+pub mod Covers
+pub mod Profile
+pub mod Row
+pub mod Verdict

@@ -1,0 +1,93 @@
+use Rattle.std.specs.Prelude.{ℕ, ◌+◌, ◌%◌, ◌==◌, ◌≡◌, ◌&&◌, Bool, true, false, not, List, Option, Some, None, Result, Ok, Err, length, if◌then◌else◌}
+use Rattle.address_map.specs.Class.{class_of}
+use Rattle.address_map.specs.declared.map.WriteClass.{WriteClass}
+use Rattle.address_map.specs.declared.map.WriteClass.TheVariants as classes
+use Rattle.board_step.specs.Decoded.{StandsAt}
+use Rattle.board_step.specs.Effect.{displaced}
+use Rattle.board_step.specs.Trap.{is_rom, is_unmapped}
+use Rattle.certificate.specs.Contents.{Contents}
+use Rattle.certificate.specs.declared.contents.Mode.{Mode}
+use Rattle.certificate.specs.declared.contents.Mode.TheVariants.{Unset, Set}
+use Rattle.certificate.specs.declared.contents.Row.{Row}
+use Rattle.z80_decode.specs.Spelling.{spelling}
+use Rattle.z80_decode.specs.declared.decoder.DecodeFault.{DecodeFault}
+use Rattle.z80_decode.specs.declared.instr.Instr.{Instr}
+use Rattle.z80_decode.specs.declared.instr.Instr.TheVariants.{StoreA, LoadPair, Jump, JumpRelative}
+use Rattle.z80_decode.specs.declared.instr.Address.TheVariants.{Direct}
+use Rattle.cert_checker.specs.Covers.{is_covered}
+use Rattle.cert_checker.specs.declared.reason.Reason.{Reason}
+use Rattle.cert_checker.specs.declared.reason.Reason.TheVariants as reasons
+
+-- the address of the data write of an instruction
+abbrev pub written_by : Instr → Option ℕ
+written_by (StoreA (Direct nn)) = Some nn
+written_by _ = None
+
+-- whether the class of an address, if there is one, passes the test
+abbrev pub has_class : ℕ → (WriteClass → Bool) → Option ℕ → Bool
+has_class rom_len test (Some at) = test (class_of rom_len at).write
+has_class rom_len test None = false
+
+-- whether a class, if there is one, passes the test
+abbrev pub passes : (WriteClass → Bool) → Option WriteClass → Bool
+passes test (Some class) = test class
+passes test None = false
+
+abbrev pub is_enable : WriteClass → Bool
+is_enable classes.NmiEnable = true
+is_enable _ = false
+
+-- Whether an instruction may set the NMI enable. A may have any value, so each write of it to the enable may.
+abbrev pub may_enable : ℕ → Instr → Bool
+may_enable rom_len instr = has_class rom_len is_enable (written_by instr)
+
+-- where an instruction leads, from the address behind it
+abbrev pub target_of : Instr → ℕ → ℕ
+target_of (Jump nn) behind = nn
+target_of (JumpRelative e) behind = displaced behind e
+target_of _ behind = behind
+
+-- The mode that an instruction leads to. Where SP is set and NMIs may be enabled there is none yet.
+abbrev pub mode_after : ℕ → Instr → Mode → Option Mode
+mode_after rom_len (LoadPair dd nn) mode = Some Set
+mode_after rom_len instr Unset = Some Unset
+mode_after rom_len instr Set = if may_enable rom_len instr then None else Some Set
+
+-- a state of this mode, if there is one, is covered at this address
+abbrev pub is_covered_after : List Row → ℕ → Option Mode → Bool
+is_covered_after rows address (Some mode) = is_covered rows address mode
+is_covered_after rows address None = false
+
+abbrev pub is_unset : Mode → Bool
+is_unset Unset = true
+is_unset Set = false
+
+-- whether an instruction sets SP to a word other than the region's top
+abbrev pub sets_sp_wrongly : Contents → Instr → Bool
+sets_sp_wrongly cert (LoadPair dd nn) = not (nn == cert.region.top)
+sets_sp_wrongly cert _ = false
+
+-- the lowest reason against an instruction at a row, or none
+unfoldable pub reason_of : ℕ → Contents → Row → Instr → Option Reason
+reason_of rom_len cert row instr =
+    if has_class rom_len is_rom (written_by instr) then Some reasons.WriteRom
+    else if has_class rom_len is_unmapped (written_by instr) then Some reasons.WriteUnmapped
+    else if not (is_covered_after cert.rows (target_of instr ((row.address + length (spelling instr)) % 65536)) (mode_after rom_len instr row.mode)) then Some reasons.NotCovered
+    else if may_enable rom_len instr && is_unset row.mode then Some reasons.NmiBeforeStack
+    else if sets_sp_wrongly cert instr then Some reasons.SpWrite
+    else None
+
+-- the lowest reason against a row, where this stands at its address
+abbrev pub reason_given : ℕ → Contents → Row → Result Instr DecodeFault → Option Reason
+reason_given rom_len cert row (Err fault) = Some (reasons.Decode fault)
+reason_given rom_len cert row (Ok instr) = reason_of rom_len cert row instr
+
+-- the lowest reason against a row, or none
+pub record RowReason (rom : List ℕ) (cert : Contents) (row : Row) (reason : Option Reason) : Type 0 where
+  pub decoded : Result Instr DecodeFault
+  pub stands : StandsAt rom row.address decoded
+  pub is : reason ≡ reason_given (length rom) cert row decoded
+
+-- nothing is against a row
+abbrev pub IsConsistent : List ℕ → Contents → Row → Type 0
+IsConsistent rom cert row = RowReason rom cert row None
