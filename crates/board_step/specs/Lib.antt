@@ -1,10 +1,15 @@
+pub mod Arithmetic
+pub mod Context
 pub mod Decoded
 pub mod Effect
 pub mod Env
 pub mod Kind
 pub mod Memory
 pub mod Moves
+pub mod Operands
+pub mod Reads
 pub mod Reset
+pub mod Room
 pub mod Run
 pub mod Safe
 pub mod State

@@ -1,20 +1,26 @@
-ghost use Rattle.std.specs.Prelude.{◌≡◌, ◌+◌, ◌≤◌, ◌<◌, [], length};
-ghost use Rattle.board_step.specs.Effect.{effect_on, byte_in, with_byte, word_in, with_word, displaced, below, pushed, moved, drafted};
-ghost use Rattle.board_step.specs.Trap.{trap_of_effect};
+ghost use Rattle.std.specs.Prelude.{◌≡◌};
+ghost use Rattle.board_step.specs.Effect.{effect_on, byte_in, with_byte, word_in, with_word, flags_in, with_result, with_word_result};
+
+mod memory;
+mod operations;
+mod performing;
 
 use crate::access::{StackAccess, Write};
-use crate::moves::{ByteRegister, Move, Moves, WordRegister};
+use crate::registers::{ByteRegister, WordRegister};
 use arrayvec::ArrayVec;
+pub use memory::displace;
 use std::marker::Model;
-use z80_alu::{Regs, Word};
+use z80_alu::{Flags, Regs};
 
 /// What an event has done so far, before anything of it reaches the board.
 #[derive(Drop)]
 pub struct Draft {
     regs: Regs,
+    operand: u8,
     pointer: u16,
-    writes: ArrayVec<Write, 8>,
-    stack: ArrayVec<StackAccess, 16>,
+    has_read: bool,
+    writes: ArrayVec<Write, 2>,
+    stack: ArrayVec<StackAccess, 2>,
     taken: bool,
     halts: bool,
 }
@@ -24,7 +30,7 @@ impl Model for Draft {
 
     ghost Value = { Effect };
 
-    ghost view = { λ d. record { regs = d.regs; pointer = d.pointer; writes = d.writes.items; stack = d.stack.items; taken = d.taken; halts = d.halts } };
+    ghost view = { λ d. record { regs = d.regs; operand = d.operand; pointer = d.pointer; has_read = d.has_read; writes = d.writes.items; stack = d.stack.items; taken = d.taken; halts = d.halts } };
 }
 
 impl Draft {
@@ -34,7 +40,9 @@ impl Draft {
     {
         Draft {
             regs,
+            operand: 0,
             pointer: 0,
+            has_read: false,
             writes: ArrayVec::new(),
             stack: ArrayVec::new(),
             taken: false,
@@ -63,7 +71,8 @@ impl Draft {
         self.stack.as_slice()
     }
 
-    /// Whether a jump, call or return is taken, or a block instruction goes on.
+    /// Whether the test of the instruction held: a conditional jump, call or return is taken, or a
+    /// block instruction goes on.
     pub fn taken(&self) -> bool
         ensures { result ≡ self.now.taken }
     {
@@ -82,6 +91,15 @@ impl Draft {
     {
         match register {
             ByteRegister::A => self.regs.main.a,
+            ByteRegister::F => self.regs.main.f,
+            ByteRegister::B => self.regs.main.b,
+            ByteRegister::C => self.regs.main.c,
+            ByteRegister::D => self.regs.main.d,
+            ByteRegister::E => self.regs.main.e,
+            ByteRegister::H => self.regs.main.h,
+            ByteRegister::L => self.regs.main.l,
+            ByteRegister::I => self.regs.i,
+            ByteRegister::Operand => self.operand,
         }
     }
 
@@ -90,6 +108,15 @@ impl Draft {
     {
         match register {
             ByteRegister::A => self.regs.main.a = byte,
+            ByteRegister::F => self.regs.main.f = byte,
+            ByteRegister::B => self.regs.main.b = byte,
+            ByteRegister::C => self.regs.main.c = byte,
+            ByteRegister::D => self.regs.main.d = byte,
+            ByteRegister::E => self.regs.main.e = byte,
+            ByteRegister::H => self.regs.main.h = byte,
+            ByteRegister::L => self.regs.main.l = byte,
+            ByteRegister::I => self.regs.i = byte,
+            ByteRegister::Operand => self.operand = byte,
         }
     }
 
@@ -97,6 +124,12 @@ impl Draft {
         ensures { result ≡ word_in register self.now }
     {
         match register {
+            WordRegister::Af => self.regs.main.af(),
+            WordRegister::Bc => self.regs.main.bc(),
+            WordRegister::De => self.regs.main.de(),
+            WordRegister::Hl => self.regs.main.hl(),
+            WordRegister::Ix => self.regs.ix,
+            WordRegister::Iy => self.regs.iy,
             WordRegister::Sp => self.regs.sp,
             WordRegister::Pc => self.regs.pc,
             WordRegister::Pointer => self.pointer,
@@ -107,79 +140,21 @@ impl Draft {
         ensures { self.new ≡ with_word register word self.old }
     {
         match register {
+            WordRegister::Af => self.regs.main.set_af(word),
+            WordRegister::Bc => self.regs.main.set_bc(word),
+            WordRegister::De => self.regs.main.set_de(word),
+            WordRegister::Hl => self.regs.main.set_hl(word),
+            WordRegister::Ix => self.regs.ix = word,
+            WordRegister::Iy => self.regs.iy = word,
             WordRegister::Sp => self.regs.sp = word,
             WordRegister::Pc => self.regs.pc = word,
             WordRegister::Pointer => self.pointer = word,
         }
     }
 
-    fn push(&mut self, word: u16)
-        requires { length self.old.stack ≤ 14 }
-        ensures { self.new ≡ pushed word self.old }
+    fn flags(&self) -> Flags
+        ensures { result ≡ flags_in self.now }
     {
-        let Word { high, low } = Word::of(word);
-        let top = self.regs.sp;
-        self.stack.push(StackAccess {
-            at: top.wrapping_sub(1),
-            written: Some(high),
-        });
-        self.stack.push(StackAccess {
-            at: top.wrapping_sub(2),
-            written: Some(low),
-        });
-        self.regs.sp = top.wrapping_sub(2);
-    }
-
-    /// One move.
-    #[tactic(auto, unfolding(crate::specs::Effect::moved))]
-    pub fn make(&mut self, step: Move)
-        requires writes { length self.old.writes ≤ 7 }
-        requires stack { length self.old.stack ≤ 14 }
-        ensures moved { self.new ≡ moved step self.old }
-        ensures writes { length self.new.writes ≤ length self.old.writes + 1 }
-        ensures stack { length self.new.stack ≤ length self.old.stack + 2 }
-    {
-        match step {
-            Move::SetByte(register, byte) => self.set_byte(register, byte),
-            Move::SetWord(register, word) => self.set_word(register, word),
-            Move::Displace(register, displacement) => {
-                let word = displace(self.word(register), displacement);
-                self.set_word(register, word);
-            }
-            Move::WriteByte(at, register) => {
-                let write = Write {
-                    at: self.word(at),
-                    byte: self.byte(register),
-                };
-                self.writes.push(write);
-            }
-            Move::Push(register) => self.push(self.word(register)),
-            Move::ClearIff1 => self.regs.iff1 = false,
-        }
-    }
-
-    #[tactic(auto, unfolding(crate::specs::Effect::drafted))]
-    /// The moves, one after another, from nothing but the registers.
-    pub fn made(regs: Regs, moves: &Moves) -> Draft
-        requires { length moves.now ≤ 8 }
-        ensures { result ≡ drafted moves.now (effect_on regs) }
-    {
-        let mut draft = Draft::new(regs);
-        for step in moves.as_slice() {
-            draft.make(*step);
-        }
-        draft
-    }
-}
-
-/// A word plus the signed number, -128 to 127, that a byte stands for, modulo 65,536.
-pub fn displace(word: u16, displacement: u8) -> u16
-    ensures { result ≡ displaced word displacement }
-{
-    let low = word.wrapping_add(u16::from(displacement));
-    if displacement < 128 {
-        low
-    } else {
-        low.wrapping_sub(256)
+        Flags::of(self.regs.main.f)
     }
 }

@@ -3,23 +3,34 @@
 #![tactic(auto)]
 
 mod access;
+mod arithmetic_moves;
+mod block_moves;
 mod board;
+mod context;
 mod draft;
 mod env;
 mod event;
 mod fetching;
+mod flow_moves;
+mod load_moves;
 mod moves;
+mod operands;
 mod profile;
 mod ranges;
+mod registers;
 mod step;
+mod table;
 mod trap;
 
 pub use access::{StackAccess, Write};
 pub use board::{Board, Reset};
+pub use context::Context;
 pub use draft::{Draft, displace};
 pub use env::{Env, Inputs};
 pub use event::{Event, Kind};
 pub use fetching::fetch;
-pub use moves::{ByteRegister, Move, Moves, WordRegister, moves_for, moves_of_acceptance};
+pub use moves::{Move, Moves, Test};
 pub use profile::{Profile, Trap};
 pub use ranges::{object_ram_is_in_range, ram_is_in_range, regs_are_in_range, set_is_in_range};
+pub use registers::{ByteRegister, WordRegister};
+pub use table::{moves_for, moves_of_acceptance};

@@ -3,6 +3,7 @@ use Rattle.std.proofs.Math.Bool.{cond}
 use Rattle.std.proofs.lemmas.Grind.{common_steps}
 use Rattle.std.proofs.lemmas.List.Elements.{All-contains}
 use Rattle.std.proofs.lemmas.List.Folds.{list_any-from_Any}
+use Rattle.board_step.specs.Context.{context_of}
 use Rattle.board_step.specs.Decoded.{StandsAt}
 use Rattle.board_step.specs.Kind.{kind_of}
 use Rattle.board_step.specs.Reset.{IsReset}
@@ -77,18 +78,19 @@ pub never_traps_at : (rom : List ℕ) (cert : Contents) (s : State) (env : Env) 
 never_traps_at rom cert s env a h =
     let r = reads rom cert s a h in
     traps_executing (profile_of rom cert) s env (Ok r.stands.instr) None (is_instr cert s h) (starts_here cert s h) r.here
-    (no_trap (length rom) cert.region r.stands.instr (length (spelling r.stands.instr)) s r.stands.writes_no_rom r.stands.writes_no_gap)
+    (no_trap cert.region (context_of rom s env) r.stands.instr r.stands.known r.stands.writes_no_rom r.stands.writes_no_gap)
 
 -- and leads to such a state again
 next_holds : (rom : List ℕ) (cert : Contents) (s : State) (env : Env) (t : ℕ) → Holds cert s → (r : Reads rom cert s) →
-    Holds cert (ticked s.enable (done (length rom) r.stands.instr s) t env)
+    Holds cert (ticked s.enable (done (context_of rom s env) r.stands.instr) t env)
 next_holds rom cert s env t h r =
     let instr = r.stands.instr in
     let len = length (spelling instr) in
-    let l : Leaves instr len s (done (length rom) instr s) = leaves (length rom) instr s (never_enables rom cert r.row r.stands) in
-    let k : Ticks (done (length rom) instr s) (ticked s.enable (done (length rom) instr s) t env) = ticks s.enable (done (length rom) instr s) t env h.enable (l.enable ∙ h.enable) in
+    let c = context_of rom s env in
+    let l : Leaves instr len s (done c instr) = leaves c instr r.stands.known (never_enables rom cert r.row r.stands) in
+    let k : Ticks (done c instr) (ticked s.enable (done c instr) t env) = ticks s.enable (done c instr) t env h.enable (l.enable ∙ h.enable) in
     let after = row_after cert.rows _ _ r.stands.leads in
-    let pc : target_of instr ((r.row.address + len) % 65536) ≡ (ticked s.enable (done (length rom) instr s) t env).regs.pc =
+    let pc : target_of instr ((r.row.address + len) % 65536) ≡ (ticked s.enable (done c instr) t env).regs.pc =
     ap (λ (n : ℕ). target_of instr ((n + len) % 65536)) r.at ∙ sym l.pc ∙ ap (λ regs. regs.pc) (sym k.regs) in
     record {
       row = subst (RowAt cert.rows) pc after;
@@ -103,9 +105,10 @@ pub step_holds : (rom : List ℕ) (cert : Contents) (s new : State) (env : Env) 
 step_holds rom cert s new env event a h step =
     let r = reads rom cert s a h in
     let same : step.decoded ≡ Ok r.stands.instr = decoded_once _ step.decoded (Ok r.stands.instr) (step.stands (is_instr cert s h)) r.here in
-    let whole : new ≡ ticked s.enable (done (length rom) r.stands.instr s) (t_of r.stands.instr s.regs) env =
-    step.new_is ∙ ap (next_given (length rom) s env) same ∙ third s.latched s.halted _ _ _ h.latched h.halted in (
-      subst (Holds cert) (sym whole) (next_holds rom cert s env (t_of r.stands.instr s.regs) h r),
+    let c = context_of rom s env in
+    let whole : new ≡ ticked s.enable (done c r.stands.instr) (t_of c r.stands.instr) env =
+    step.new_is ∙ ap (next_given c) same ∙ third s.latched s.halted _ _ _ h.latched h.halted in (
+      subst (Holds cert) (sym whole) (next_holds rom cert s env (t_of c r.stands.instr) h r),
       ap (λ (e : Event). e.kind) step.event_is ∙ is_instr cert s h,
     )
 

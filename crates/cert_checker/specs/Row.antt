@@ -10,13 +10,26 @@ use Rattle.certificate.specs.declared.contents.Mode.{Mode}
 use Rattle.certificate.specs.declared.contents.Mode.TheVariants.{Unset, Set}
 use Rattle.certificate.specs.declared.contents.Row.{Row}
 use Rattle.z80_decode.specs.Spelling.{spelling}
-use Rattle.z80_decode.specs.declared.decoder.DecodeFault.{DecodeFault}
+use Rattle.z80_decode.specs.declared.fault.DecodeFault.{DecodeFault}
 use Rattle.z80_decode.specs.declared.instr.Instr.{Instr}
-use Rattle.z80_decode.specs.declared.instr.Instr.TheVariants.{StoreA, LoadPair, Jump, JumpRelative}
-use Rattle.z80_decode.specs.declared.instr.Address.TheVariants.{Direct}
+use Rattle.z80_decode.specs.declared.instr.Instr.TheVariants.{Nop, LoadImmediate, StoreA, LoadPair, Jump, JumpRelative}
+use Rattle.z80_decode.specs.declared.operands.Address.TheVariants.{Direct}
+use Rattle.z80_decode.specs.declared.operands.Place.TheVariants.{Register}
+use Rattle.z80_decode.specs.declared.operands.Register8.TheVariants.{A}
+use Rattle.z80_decode.specs.declared.operands.Register16.TheVariants.{Sp}
 use Rattle.cert_checker.specs.Covers.{is_covered}
 use Rattle.cert_checker.specs.declared.reason.Reason.{Reason}
 use Rattle.cert_checker.specs.declared.reason.Reason.TheVariants as reasons
+
+-- whether the checker knows an instruction: NOP, LD A,n, LD (nn),A, LD SP,nn, JP nn and JR e
+abbrev pub is_known : Instr → Bool
+is_known Nop = true
+is_known (LoadImmediate (Register A) n) = true
+is_known (StoreA (Direct nn)) = true
+is_known (LoadPair Sp nn) = true
+is_known (Jump nn) = true
+is_known (JumpRelative e) = true
+is_known _ = false
 
 -- the address of the data write of an instruction
 abbrev pub written_by : Instr → Option ℕ
@@ -49,7 +62,7 @@ target_of _ behind = behind
 
 -- The mode that an instruction leads to. Where SP is set and NMIs may be enabled there is none yet.
 abbrev pub mode_after : ℕ → Instr → Mode → Option Mode
-mode_after rom_len (LoadPair dd nn) mode = Some Set
+mode_after rom_len (LoadPair Sp nn) mode = Some Set
 mode_after rom_len instr Unset = Some Unset
 mode_after rom_len instr Set = if may_enable rom_len instr then None else Some Set
 
@@ -58,13 +71,18 @@ abbrev pub is_covered_after : List Row → ℕ → Option Mode → Bool
 is_covered_after rows address (Some mode) = is_covered rows address mode
 is_covered_after rows address None = false
 
+-- whether the state that a known instruction leads to is covered
+abbrev pub leads_on : ℕ → Contents → Row → Instr → Bool
+leads_on rom_len cert row instr =
+    is_known instr && is_covered_after cert.rows (target_of instr ((row.address + length (spelling instr)) % 65536)) (mode_after rom_len instr row.mode)
+
 abbrev pub is_unset : Mode → Bool
 is_unset Unset = true
 is_unset Set = false
 
 -- whether an instruction sets SP to a word other than the region's top
 abbrev pub sets_sp_wrongly : Contents → Instr → Bool
-sets_sp_wrongly cert (LoadPair dd nn) = not (nn == cert.region.top)
+sets_sp_wrongly cert (LoadPair Sp nn) = not (nn == cert.region.top)
 sets_sp_wrongly cert _ = false
 
 -- the lowest reason against an instruction at a row, or none
@@ -72,7 +90,7 @@ unfoldable pub reason_of : ℕ → Contents → Row → Instr → Option Reason
 reason_of rom_len cert row instr =
     if has_class rom_len is_rom (written_by instr) then Some reasons.WriteRom
     else if has_class rom_len is_unmapped (written_by instr) then Some reasons.WriteUnmapped
-    else if not (is_covered_after cert.rows (target_of instr ((row.address + length (spelling instr)) % 65536)) (mode_after rom_len instr row.mode)) then Some reasons.NotCovered
+    else if not (leads_on rom_len cert row instr) then Some reasons.NotCovered
     else if may_enable rom_len instr && is_unset row.mode then Some reasons.NmiBeforeStack
     else if sets_sp_wrongly cert instr then Some reasons.SpWrite
     else None

@@ -2,14 +2,14 @@ ghost use Rattle.std.specs.Prelude.{◌≡◌, ◌<◌, Bool, IfNone, length};
 ghost use Rattle.board_step.specs.Trap.{is_rom, is_unmapped};
 ghost use Rattle.address_map.specs.declared.map.WriteClass.{WriteClass};
 ghost use Rattle.z80_decode.specs.Spelling.{spelling};
-ghost use Rattle.cert_checker.specs.Row.{RowReason, written_by, has_class, passes, may_enable, target_of, mode_after, is_covered_after, sets_sp_wrongly, is_unset, reason_of};
+ghost use Rattle.cert_checker.specs.Row.{RowReason, is_known, written_by, has_class, passes, may_enable, target_of, mode_after, is_covered_after, sets_sp_wrongly, is_unset, reason_of};
 
 use crate::covering::covers;
 use crate::reason::Reason;
 use address_map::{Map, Rom, WriteClass};
 use board_step::{displace, fetch};
 use certificate::{Certificate, Mode, Row};
-use z80_decode::{Address, Instr};
+use z80_decode::{Address, Instr, Place, Register8, Register16};
 
 /// The lowest reason of the table of reasons against a row of the certificate, or None.
 pub fn reason_against(rom: &Rom, cert: &Certificate, row: Row) -> Option<Reason>
@@ -33,7 +33,9 @@ fn reason_for(map: &Map, cert: &Certificate, row: Row, instr: &Instr, len: u8) -
         Some(Reason::WriteRom)
     } else if writes_unmapped(map, instr) {
         Some(Reason::WriteUnmapped)
-    } else if !leads_to_row(cert, target(instr, behind), next_mode(map, instr, row.mode)) {
+    } else if !(knows(instr)
+        && leads_to_row(cert, target(instr, behind), next_mode(map, instr, row.mode)))
+    {
         Some(Reason::NotCovered)
     } else if enables && row.mode == Mode::Unset {
         Some(Reason::NmiBeforeStack)
@@ -42,6 +44,20 @@ fn reason_for(map: &Map, cert: &Certificate, row: Row, instr: &Instr, len: u8) -
     } else {
         None
     }
+}
+
+fn knows(instr: &Instr) -> bool
+    ensures { result ≡ is_known instr.now }
+{
+    matches!(
+        instr,
+        Instr::Nop
+            | Instr::LoadImmediate(Place::Register(Register8::A), _)
+            | Instr::StoreA(Address::Direct(_))
+            | Instr::LoadPair(Register16::Sp, _)
+            | Instr::Jump(_)
+            | Instr::JumpRelative(_)
+    )
 }
 
 fn write_class(map: &Map, instr: &Instr) -> Option<WriteClass>
@@ -85,7 +101,7 @@ fn next_mode(map: &Map, instr: &Instr, mode: Mode) -> Option<Mode>
     ensures { result ≡ mode_after map.now instr.now mode }
 {
     match (instr, mode) {
-        (Instr::LoadPair(_, _), _) => Some(Mode::Set),
+        (Instr::LoadPair(Register16::Sp, _), _) => Some(Mode::Set),
         (_, Mode::Unset) => Some(Mode::Unset),
         (_, Mode::Set) if enables_nmi(map, instr) => None,
         (_, Mode::Set) => Some(Mode::Set),
@@ -105,7 +121,7 @@ fn sets_other_sp(cert: &Certificate, instr: &Instr) -> bool
     ensures { result ≡ sets_sp_wrongly cert.now instr.now }
 {
     match instr {
-        Instr::LoadPair(_, word) => *word != cert.region().top,
+        Instr::LoadPair(Register16::Sp, word) => *word != cert.region().top,
         _ => false,
     }
 }

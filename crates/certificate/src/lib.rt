@@ -4,6 +4,8 @@
 
 mod contents;
 mod device;
+mod stub;
 
 pub use contents::{Certificate, Mode, Proc, Row};
+pub use stub::{CertFault, read};
 pub use device::{DeviceFault, Sink, Source};

@@ -1,6 +1,6 @@
 ghost use Rattle.std.specs.Prelude.{◌≡◌, ◌≤◌, ◌<◌, IfSome, IfErr, OnOk, length};
 ghost use Rattle.certificate.specs.Device.{HasGrown};
-ghost use Rattle.t_states.specs.declared.TheConstants.{FRAME};
+ghost use Rattle.t_states.specs.declared.frame.TheConstants.{FRAME};
 
 use crate::fault::PlayFault;
 use crate::fields::Fields;

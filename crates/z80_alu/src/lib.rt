@@ -1,8 +1,34 @@
 // The registers, the arithmetic and the flags of the Z80 (Zilog UM0080). It stands on no other crate.
+//
+// Every operation is total: any byte or word will do for each argument. `f` is F before, with its flags in their
+// places; `noise` is any byte, whose bit k stands for bit k of F where the manual leaves that bit open
+// (docs/INSTRUCTIONS.md, "Flags").
 #![tactic(auto)]
 
+mod add;
+mod bits;
+mod block;
+mod digits;
+mod flags;
+mod load;
+mod logic;
 mod regs;
+mod rotate;
+mod shift;
+#[cfg(test)]
+mod tests;
 mod word;
+mod words;
 
+pub use add::{add8, dec8, inc8, sub8};
+pub use bits::{reset_bit, set_bit, test_bit};
+pub use block::{block_compare_flags, block_load_flags};
+pub use digits::{daa, rld, rrd};
+pub use flags::Flags;
+pub use load::load_a_flags;
+pub use logic::{and8, ccf, cpl, or8, scf, xor8};
 pub use regs::{RegisterSet, Regs};
+pub use rotate::{rla, rlca, rra, rrca, shift8};
+pub use shift::Shift;
 pub use word::Word;
+pub use words::{adc16, add16, dec16, inc16, sbc16};

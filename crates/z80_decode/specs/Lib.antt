@@ -1,1 +1,8 @@
+pub mod Operands
+pub mod Kinds
 pub mod Spelling
+pub mod UnprefixedPage
+pub mod CbPage
+pub mod EdPage
+pub mod IndexPage
+pub mod Decoding

@@ -1,8 +1,30 @@
-// The codes of the Z80's instructions (Zilog UM0080): what each is spelled, and the decoder.
+// The documented instructions of the Z80 (Zilog UM0080), how they are spelled, and the decoder.
 #![tactic(auto)]
 
-mod decoder;
+mod cb_page;
+mod decoding;
+mod ed_page;
+mod fault;
+mod fields;
+mod index_page;
 mod instr;
+mod kinds;
+mod operands;
+mod spelling;
+mod unprefixed_page;
 
-pub use decoder::{DecodeFault, decode, one_spelling};
-pub use instr::{Address, Instr, Place, Register8, Register16};
+pub use decoding::decode;
+pub use fault::DecodeFault;
+pub use instr::Instr;
+pub use kinds::{
+    AccumulatorRotate, ArithmeticKind, Bit, BlockKind, Condition, Mode, RestartAddress, ShiftKind,
+    ShortCondition,
+};
+pub use operands::{
+    Address, Direct, Index, IndexPair, Memory, Operand, Pair, Place, Pointer, Register8,
+    Register16, Special, StackPair,
+};
+pub use spelling::one_spelling;
+
+#[cfg(test)]
+mod tests;

@@ -1,0 +1,98 @@
+ghost use Rattle.std.specs.Prelude.{◌≡◌, ◌+◌, ◌≤◌, length};
+ghost use Rattle.board_step.specs.Effect.{effect_on, moved, drafted, goes_on};
+ghost use Rattle.board_step.specs.Room.{writes_by, accesses_by, writes_in, accesses_in};
+
+use crate::context::Context;
+use crate::draft::Draft;
+use crate::draft::memory::displace;
+use crate::moves::{Move, Moves};
+use z80_alu::{Regs, ccf, dec16, inc16, scf};
+
+impl Draft {
+    /// The moves, one after another, from nothing but the registers.
+    #[tactic(auto, unfolding(crate::specs::Effect::drafted))]
+    pub fn made(context: &Context, regs: Regs, moves: &Moves) -> Draft
+        requires writes { writes_in moves.now ≤ 2 }
+        requires stack { accesses_in moves.now ≤ 2 }
+        ensures { result ≡ drafted context.now moves.now (effect_on regs) }
+    {
+        let mut draft = Draft::new(regs);
+        for step in moves.as_slice() {
+            draft.make(context, *step);
+            if !draft.goes_on(*step) {
+                return draft;
+            }
+        }
+        draft
+    }
+
+    fn goes_on(&self, step: Move) -> bool
+        ensures { result ≡ goes_on step self.now }
+    {
+        match step {
+            Move::OnlyIf(_) => self.taken,
+            _ => true,
+        }
+    }
+
+    /// One move, where there is room for its accesses.
+    #[tactic(auto, unfolding(crate::specs::Effect::moved))]
+    pub fn make(&mut self, context: &Context, step: Move)
+        requires writes { length self.old.writes + writes_by step ≤ 2 }
+        requires stack { length self.old.stack + accesses_by step ≤ 2 }
+        ensures { self.new ≡ moved context.now step self.old }
+    {
+        match step {
+            Move::SetByte(register, byte) => self.set_byte(register, byte),
+            Move::SetWord(register, word) => self.set_word(register, word),
+            Move::CopyByte(to, from) => self.set_byte(to, self.byte(from)),
+            Move::CopyWord(to, from) => self.set_word(to, self.word(from)),
+            Move::Displace(register, by) => self.set_word(
+                register,
+                displace(self.word(register), by),
+            ),
+            Move::ReadByte(register, at) => self.read_byte(context, register, self.word(at)),
+            Move::WriteByte(at, register) => self.write_byte(self.word(at), self.byte(register)),
+            Move::ReadWord(register, at) => self.read_word(context, register, self.word(at)),
+            Move::WriteWord(at, register) => self.write_word(self.word(at), self.word(register)),
+            Move::Push(register) => self.push(self.word(register)),
+            Move::Pop(register) => self.pop(context, register),
+            Move::ExchangeStack(register) => self.exchange_stack(context, register),
+            Move::ExchangeDeHl => self.exchange_de_hl(),
+            Move::ExchangeAf => self.exchange_af(),
+            Move::ExchangeSets => self.exchange_sets(),
+            Move::Arithmetic(kind, register) => self.operate(context, kind, register),
+            Move::Increment(register) => self.increment(context, register),
+            Move::Decrement(register) => self.decrement(context, register),
+            Move::CountDown(register) => self.set_byte(
+                register,
+                self.byte(register).wrapping_sub(1),
+            ),
+            Move::Shift(kind, register) => self.shift(context, kind, register),
+            Move::RotateA(kind) => self.rotate_a(context, kind),
+            Move::DecimalAdjust => self.decimal_adjust(context),
+            Move::Complement => self.complement(context),
+            Move::Negate => self.negate(context),
+            Move::SetCarry => self.set_flags(scf(self.regs.main.f, context.noise())),
+            Move::ComplementCarry => self.set_flags(ccf(self.regs.main.f, context.noise())),
+            Move::AddWord(to, from) => self.add_word(context, to, from),
+            Move::AddCarryWord(to, from) => self.add_carry_word(context, to, from),
+            Move::SubtractCarryWord(to, from) => self.subtract_carry_word(context, to, from),
+            Move::IncrementWord(register) => self.set_word(register, inc16(self.word(register))),
+            Move::DecrementWord(register) => self.set_word(register, dec16(self.word(register))),
+            Move::TestBit(bit, register) => self.test_bit(context, bit, register),
+            Move::SetBit(bit, register) => self.set_bit(bit, register),
+            Move::ResetBit(bit, register) => self.reset_bit(bit, register),
+            Move::RotateDigitsLeft => self.rotate_digits_left(context),
+            Move::RotateDigitsRight => self.rotate_digits_right(context),
+            Move::BlockLoadFlags => self.set_block_load_flags(context),
+            Move::BlockCompareFlags => self.set_block_compare_flags(context),
+            Move::LoadASpecial(special) => self.load_a_special(context, special),
+            Move::SetInterrupts(set) => self.set_interrupts(set),
+            Move::ClearIff1 => self.regs.iff1 = false,
+            Move::RestoreIff1 => self.regs.iff1 = self.regs.iff2,
+            Move::Halt => self.halts = true,
+            Move::OnlyIf(test) => self.taken = self.holds(test),
+        }
+    }
+}

@@ -1,0 +1,253 @@
+// Expected values are UM0080's: each table was written from the manual's T-states, not from the code.
+use crate::costs::cost;
+use crate::io::is_io;
+use z80_decode::decode;
+
+/// The T-states behind each first byte, with zeros after it, where no condition holds and nothing
+/// repeats, sixteen codes a line. A digit is itself, A to N are 10 to 23, and '-' is undocumented.
+const UNPREFIXED: &[u8; 256] = b"\
+    4A7644744B764474\
+    8A764474CB764474\
+    7AG644747BG64474\
+    7AD6BBA47BD64474\
+    4444447444444474\
+    4444447444444474\
+    4444447444444474\
+    7777774744444474\
+    4444447444444474\
+    4444447444444474\
+    4444447444444474\
+    4444447444444474\
+    5AAAAB7B5AA8AH7B\
+    5AABAB7B54ABA-7B\
+    5AAJAB7B54A4A-7B\
+    5AA4AB7B56A4A-7B";
+
+/// Behind CB.
+const BEHIND_CB: &[u8; 256] = b"\
+    888888F8888888F8\
+    888888F8888888F8\
+    888888F8888888F8\
+    --------888888F8\
+    888888C8888888C8\
+    888888C8888888C8\
+    888888C8888888C8\
+    888888C8888888C8\
+    888888F8888888F8\
+    888888F8888888F8\
+    888888F8888888F8\
+    888888F8888888F8\
+    888888F8888888F8\
+    888888F8888888F8\
+    888888F8888888F8\
+    888888F8888888F8";
+
+/// Behind ED.
+const BEHIND_ED: &[u8; 256] = b"\
+    ----------------\
+    ----------------\
+    ----------------\
+    ----------------\
+    CCFK8E89CCFK-E-9\
+    CCFK--89CCFK--89\
+    CCFK---ICCFK---I\
+    --FK----CCFK----\
+    ----------------\
+    ----------------\
+    GGGG----GGGG----\
+    GGGG----GGGG----\
+    ----------------\
+    ----------------\
+    ----------------\
+    ----------------";
+
+/// Behind DD, and behind FD.
+const BEHIND_INDEX: &[u8; 256] = b"\
+    ---------F------\
+    ---------F------\
+    -EKA-----FKA----\
+    ----NNJ--F------\
+    ------J-------J-\
+    ------J-------J-\
+    ------J-------J-\
+    JJJJJJ-J------J-\
+    ------J-------J-\
+    ------J-------J-\
+    ------J-------J-\
+    ------J-------J-\
+    ----------------\
+    ----------------\
+    -E-N-F---8------\
+    ---------A------";
+
+/// Each last byte of DD CB 05 and FD CB 05.
+const BEHIND_INDEX_CB: &[u8; 256] = b"\
+    ------N-------N-\
+    ------N-------N-\
+    ------N-------N-\
+    --------------N-\
+    ------K-------K-\
+    ------K-------K-\
+    ------K-------K-\
+    ------K-------K-\
+    ------N-------N-\
+    ------N-------N-\
+    ------N-------N-\
+    ------N-------N-\
+    ------N-------N-\
+    ------N-------N-\
+    ------N-------N-\
+    ------N-------N-";
+
+/// The T-states where the condition holds, of each first byte; '.' where that makes no difference.
+const UNPREFIXED_TAKEN: &[u8; 256] = b"\
+    ................\
+    D...............\
+    C.......C.......\
+    C.......C.......\
+    ................\
+    ................\
+    ................\
+    ................\
+    ................\
+    ................\
+    ................\
+    ................\
+    B...H...B...H...\
+    B...H...B...H...\
+    B...H...B...H...\
+    B...H...B...H...";
+
+/// The T-states of a block instruction that goes on, behind ED; '.' where there is one cost.
+const BEHIND_ED_TAKEN: &[u8; 256] = b"\
+    ................\
+    ................\
+    ................\
+    ................\
+    ................\
+    ................\
+    ................\
+    ................\
+    ................\
+    ................\
+    ................\
+    LLLL....LLLL....\
+    ................\
+    ................\
+    ................\
+    ................";
+
+/// The instructions of input and output behind ED.
+const PORTS_BEHIND_ED: &[u8; 256] = b"\
+    ................\
+    ................\
+    ................\
+    ................\
+    ##......##......\
+    ##......##......\
+    ##......##......\
+    ........##......\
+    ................\
+    ................\
+    ..##......##....\
+    ..##......##....\
+    ................\
+    ................\
+    ................\
+    ................";
+
+/// The T-states as a digit or a letter, or '-' where no instruction was decoded.
+fn mark_of(bytes: &[u8], taken: bool) -> u8 {
+    let Ok((instr, _)) = decode(bytes) else {
+        return b'-';
+    };
+    match cost(&instr, taken) {
+        digit @ 0..=9 => b'0' + digit,
+        letter => b'A' + (letter - 10),
+    }
+}
+
+/// What a table of the second cost gives, or the first where that makes no difference.
+fn or_same(taken: u8, first: u8) -> u8 {
+    if taken == b'.' { first } else { taken }
+}
+
+fn uses_port(bytes: &[u8]) -> bool {
+    match decode(bytes) {
+        Ok((instr, _)) => is_io(&instr),
+        Err(_) => false,
+    }
+}
+
+#[test]
+fn costs_every_code(rt: HostRuntime) {
+    for code in 0..=255u8 {
+        let place = usize::from(code);
+        let first = UNPREFIXED[place];
+        assert_eq!(rt; mark_of(&[code, 0, 0, 0], false), first, "{code:02X}");
+        assert_eq!(rt;
+            mark_of(&[code, 0, 0, 0], true),
+            or_same(UNPREFIXED_TAKEN[place], first),
+            "{code:02X} taken"
+        );
+        let first = BEHIND_ED[place];
+        assert_eq!(rt; mark_of(&[0xED, code, 0, 0], false), first, "ED {code:02X}");
+        assert_eq!(rt;
+            mark_of(&[0xED, code, 0, 0], true),
+            or_same(BEHIND_ED_TAKEN[place], first),
+            "ED {code:02X} taken"
+        );
+    }
+}
+
+#[test]
+fn ignores_taken_elsewhere(rt: HostRuntime) {
+    for code in 0..=255u8 {
+        let place = usize::from(code);
+        for taken in [false, true] {
+            assert_eq!(rt;
+                mark_of(&[0xCB, code, 0, 0], taken),
+                BEHIND_CB[place],
+                "CB {code:02X}"
+            );
+            assert_eq!(rt;
+                mark_of(&[0xDD, code, 0, 0], taken),
+                BEHIND_INDEX[place],
+                "DD {code:02X}"
+            );
+            assert_eq!(rt;
+                mark_of(&[0xFD, code, 0, 0], taken),
+                BEHIND_INDEX[place],
+                "FD {code:02X}"
+            );
+            assert_eq!(rt;
+                mark_of(&[0xDD, 0xCB, 5, code], taken),
+                BEHIND_INDEX_CB[place],
+                "DD CB 05 {code:02X}"
+            );
+            assert_eq!(rt;
+                mark_of(&[0xFD, 0xCB, 5, code], taken),
+                BEHIND_INDEX_CB[place],
+                "FD CB 05 {code:02X}"
+            );
+        }
+    }
+}
+
+#[test]
+fn tells_ports(rt: HostRuntime) {
+    for code in 0..=255u8 {
+        assert_eq!(rt;
+            uses_port(&[code, 0, 0, 0]),
+            code == 0xD3 || code == 0xDB,
+            "{code:02X}"
+        );
+        assert_eq!(rt;
+            uses_port(&[0xED, code, 0, 0]),
+            PORTS_BEHIND_ED[usize::from(code)] == b'#',
+            "ED {code:02X}"
+        );
+        assert!(rt; !uses_port(&[0xCB, code, 0, 0]), "CB {code:02X}");
+        assert!(rt; !uses_port(&[0xDD, code, 0, 0]), "DD {code:02X}");
+    }
+}

@@ -1,0 +1,20 @@
+use Rattle.std.proofs.Common.{◌+◌, arith}
+use Rattle.std.specs.Int.{from_bool}
+use Rattle.std.proofs.lemmas.Nat.{and_mask}
+use Rattle.z80_alu.specs.Words.{sum16, carried_sum16_flags}
+use Rattle.z80_alu.proofs.BitTests.{sign_of_word, from_bool_le}
+use Rattle.z80_alu.proofs.WordCarries.{half_carry_of_sum16, overflow_of_sum16}
+use Rattle.z80_alu.proofs.words.adc16.Goals as goal
+
+pub returns-clause-flags : goal.returns-clause-flags
+unfolding carried_sum16_flags
+returns-clause-flags c =
+    let a = c.args.a in
+    let b = c.args.b in
+    let carry = from_bool c.args.carry in
+    let value = and_mask (a + b + carry) 16 in
+    let small = from_bool_le c.args.carry in
+    let sign = sign_of_word (sum16 a b c.args.carry) (omega arith) in
+    let half = half_carry_of_sum16 a b carry _ small value in
+    let over = overflow_of_sum16 a b carry _ c.ranges.a.fits c.ranges.b.fits small value in
+    cc

@@ -1,0 +1,24 @@
+ghost use Rattle.std.specs.Prelude.{◌≡◌};
+ghost use Rattle.z80_decode.specs.CbPage.{behind_cb};
+
+use crate::fields::Fields;
+use crate::instr::Instr;
+use crate::kinds::{Bit, ShiftKind};
+use crate::operands::Place;
+
+/// The instruction of an opcode behind the prefix CB, on a place that the caller has read from the
+/// field zzz.
+pub(crate) fn behind_cb(opcode: u8, place: Place) -> Option<Instr>
+    ensures { result ≡ behind_cb opcode place }
+{
+    let Fields { x, y, .. } = Fields::of(opcode);
+    match x {
+        0 => match ShiftKind::of(y) {
+            Some(kind) => Some(Instr::Shift(kind, place)),
+            None => None,
+        },
+        1 => Some(Instr::TestBit(Bit::of(y), place)),
+        2 => Some(Instr::ResetBit(Bit::of(y), place)),
+        _ => Some(Instr::SetBit(Bit::of(y), place)),
+    }
+}

@@ -1,0 +1,83 @@
+ghost use Rattle.std.specs.Prelude.{◌≡◌};
+ghost use Rattle.z80_decode.specs.EdPage.{behind_ed, port_or_pair, load_or_store_pair, block_instr, single};
+
+use crate::fields::Fields;
+use crate::instr::Instr;
+use crate::kinds::{BlockKind, Mode};
+use crate::operands::{Direct, Pair, Register8, Register16, Special};
+
+/// The instruction of an opcode behind the prefix ED, with the word that follows it.
+pub(crate) fn behind_ed(opcode: u8, word: u16) -> Option<Instr>
+    ensures { result ≡ behind_ed opcode word }
+{
+    let Fields { x, y, z } = Fields::of(opcode);
+    match x {
+        1 if z < 4 => port_or_pair(y, z, word),
+        1 => single(opcode),
+        2 => block_instr(y, z),
+        _ => None,
+    }
+}
+
+/// 01 yyy 0zz
+fn port_or_pair(y: u8, z: u8, word: u16) -> Option<Instr>
+    ensures { result ≡ port_or_pair y z word }
+{
+    match z {
+        0 => Some(Instr::InputRegister(Register8::of(y)?)),
+        1 => Some(Instr::OutputRegister(Register8::of(y)?)),
+        2 if y % 2 == 0 => Some(Instr::SbcHl(Pair::of(y / 2))),
+        2 => Some(Instr::AdcHl(Pair::of(y / 2))),
+        _ => Some(load_or_store_pair(y, word)),
+    }
+}
+
+/// 01 yyy 011
+fn load_or_store_pair(y: u8, word: u16) -> Instr
+    ensures { result ≡ load_or_store_pair y word }
+{
+    let pair = Direct::Pair(Register16::of(y / 2));
+    if y % 2 == 0 {
+        Instr::StorePairDirect(pair, word)
+    } else {
+        Instr::LoadPairDirect(pair, word)
+    }
+}
+
+/// 01 yyy 1zz: the opcodes that have no operand in them.
+fn single(opcode: u8) -> Option<Instr>
+    ensures { result ≡ single opcode }
+{
+    match opcode {
+        0x44 => Some(Instr::Negate),
+        0x45 => Some(Instr::ReturnFromNonMaskable),
+        0x46 => Some(Instr::InterruptMode(Mode::Zero)),
+        0x47 => Some(Instr::StoreASpecial(Special::I)),
+        0x4D => Some(Instr::ReturnFromInterrupt),
+        0x4F => Some(Instr::StoreASpecial(Special::R)),
+        0x56 => Some(Instr::InterruptMode(Mode::One)),
+        0x57 => Some(Instr::LoadASpecial(Special::I)),
+        0x5E => Some(Instr::InterruptMode(Mode::Two)),
+        0x5F => Some(Instr::LoadASpecial(Special::R)),
+        0x67 => Some(Instr::RotateDigitsRight),
+        0x6F => Some(Instr::RotateDigitsLeft),
+        _ => None,
+    }
+}
+
+/// 10 yyy zzz, of which 10 1yy 0zz are documented.
+fn block_instr(y: u8, z: u8) -> Option<Instr>
+    ensures { result ≡ block_instr y z }
+{
+    if y < 4 {
+        return None;
+    }
+    let kind = BlockKind::of(y);
+    match z {
+        0 => Some(Instr::BlockLoad(kind)),
+        1 => Some(Instr::BlockCompare(kind)),
+        2 => Some(Instr::BlockInput(kind)),
+        3 => Some(Instr::BlockOutput(kind)),
+        _ => None,
+    }
+}

@@ -1,0 +1,175 @@
+ghost use Rattle.std.specs.Prelude.{◌≡◌, ◌≤◌, ℕ, List, [], ◌++◌, length};
+ghost use Rattle.z80_decode.specs.declared.instr.Instr.{Instr};
+ghost use Rattle.z80_decode.specs.Spelling.{spelling, at, at_behind_cb, at_memory, at_pair, at_stack_pair, at_pointer, at_direct};
+
+use crate::instr::Instr;
+use crate::operands::{Address, Direct, Memory, Operand, Place, Pointer, Register16, StackPair};
+
+/// No two instructions are spelled alike, nor is the spelling of one the beginning of another's. A
+/// law: it does nothing when it is called.
+pub fn one_spelling()
+    ensures alike { (i j : Instr) → spelling i ≡ spelling j → i ≡ j }
+    ensures no_beginning { (i j : Instr) (rest : List ℕ) → spelling i ++ rest ≡ spelling j → rest ≡ [] }
+{}
+
+impl Memory {
+    fn length(self) -> u8
+        ensures exact { (op : ℕ) → result ≡ length (at_memory self op) }
+        ensures short { (1 ≤ result) × (result ≤ 3) }
+    {
+        match self {
+            Memory::AtHl => 1,
+            Memory::At(_, _) => 3,
+        }
+    }
+}
+
+impl Place {
+    fn length(self) -> u8
+        ensures exact { (op : ℕ → ℕ) → result ≡ length (at self op) }
+        ensures short { (1 ≤ result) × (result ≤ 3) }
+    {
+        match self {
+            Place::Register(_) => 1,
+            Place::Memory(memory) => memory.length(),
+        }
+    }
+
+    fn length_behind_cb(self) -> u8
+        ensures exact { (op : ℕ → ℕ) → result ≡ length (at_behind_cb self op) }
+        ensures short { (1 ≤ result) × (result ≤ 4) }
+    {
+        match self {
+            Place::Register(_) | Place::Memory(Memory::AtHl) => 2,
+            Place::Memory(Memory::At(_, _)) => 4,
+        }
+    }
+}
+
+impl Register16 {
+    fn length(self) -> u8
+        ensures exact { (op : ℕ → ℕ) → result ≡ length (at_pair self op) }
+        ensures short { (1 ≤ result) × (result ≤ 2) }
+    {
+        match self {
+            Register16::Bc | Register16::De | Register16::Hl | Register16::Sp => 1,
+            Register16::Ix | Register16::Iy => 2,
+        }
+    }
+}
+
+impl StackPair {
+    fn length(self) -> u8
+        ensures exact { (op : ℕ → ℕ) → result ≡ length (at_stack_pair self op) }
+        ensures short { (1 ≤ result) × (result ≤ 2) }
+    {
+        match self {
+            StackPair::Bc | StackPair::De | StackPair::Hl | StackPair::Af => 1,
+            StackPair::Ix | StackPair::Iy => 2,
+        }
+    }
+}
+
+impl Pointer {
+    fn length(self) -> u8
+        ensures exact { (op : ℕ) → result ≡ length (at_pointer self op) }
+        ensures short { (1 ≤ result) × (result ≤ 2) }
+    {
+        match self {
+            Pointer::Hl => 1,
+            Pointer::Ix | Pointer::Iy => 2,
+        }
+    }
+}
+
+impl Direct {
+    fn length(self) -> u8
+        ensures exact { (short : ℕ) (long : ℕ → ℕ) → result ≡ length (at_direct self short long) }
+        ensures short { (1 ≤ result) × (result ≤ 2) }
+    {
+        match self {
+            Direct::ShortHl => 1,
+            Direct::Pair(_) => 2,
+        }
+    }
+}
+
+impl Instr {
+    /// How many bytes spell the instruction, 1 to 4.
+    pub(crate) fn length(&self) -> u8
+        ensures exact { result ≡ length (spelling self.now) }
+        ensures short { (1 ≤ result) × (result ≤ 4) }
+    {
+        match self {
+            Instr::Nop
+            | Instr::Halt
+            | Instr::DisableInterrupts
+            | Instr::EnableInterrupts
+            | Instr::LoadA(Address::Bc | Address::De)
+            | Instr::StoreA(Address::Bc | Address::De)
+            | Instr::ExchangeDeHl
+            | Instr::ExchangeAf
+            | Instr::ExchangeSets
+            | Instr::DecimalAdjust
+            | Instr::Complement
+            | Instr::ComplementCarry
+            | Instr::SetCarry
+            | Instr::AddHl(_)
+            | Instr::RotateA(_)
+            | Instr::Restart(_)
+            | Instr::Return
+            | Instr::ReturnIf(_) => 1,
+
+            Instr::InterruptMode(_)
+            | Instr::LoadASpecial(_)
+            | Instr::StoreASpecial(_)
+            | Instr::BlockLoad(_)
+            | Instr::BlockCompare(_)
+            | Instr::BlockInput(_)
+            | Instr::BlockOutput(_)
+            | Instr::Arithmetic(_, Operand::Immediate(_))
+            | Instr::Negate
+            | Instr::AdcHl(_)
+            | Instr::SbcHl(_)
+            | Instr::AddIndex(_, _)
+            | Instr::RotateDigitsLeft
+            | Instr::RotateDigitsRight
+            | Instr::JumpRelative(_)
+            | Instr::JumpRelativeIf(_, _)
+            | Instr::DecrementJump(_)
+            | Instr::ReturnFromInterrupt
+            | Instr::ReturnFromNonMaskable
+            | Instr::InputImmediate(_)
+            | Instr::InputRegister(_)
+            | Instr::OutputImmediate(_)
+            | Instr::OutputRegister(_) => 2,
+
+            Instr::LoadA(Address::Direct(_))
+            | Instr::StoreA(Address::Direct(_))
+            | Instr::Jump(_)
+            | Instr::JumpIf(_, _)
+            | Instr::Call(_)
+            | Instr::CallIf(_, _) => 3,
+
+            Instr::LoadRegister(_, place)
+            | Instr::Arithmetic(_, Operand::Place(place))
+            | Instr::Increment(place)
+            | Instr::Decrement(place) => place.length(),
+            Instr::LoadImmediate(place, _) => place.length() + 1,
+            Instr::Store(memory, _) => memory.length(),
+            Instr::Shift(_, place)
+            | Instr::TestBit(_, place)
+            | Instr::SetBit(_, place)
+            | Instr::ResetBit(_, place) => place.length_behind_cb(),
+            Instr::LoadPair(pair, _) => pair.length() + 2,
+            Instr::IncrementPair(pair) | Instr::DecrementPair(pair) => pair.length(),
+            Instr::LoadPairDirect(direct, _) | Instr::StorePairDirect(direct, _) => {
+                direct.length() + 2
+            }
+            Instr::LoadSp(pointer) | Instr::ExchangeStack(pointer) | Instr::JumpTo(pointer) => {
+                pointer.length()
+            }
+            Instr::Push(pair) | Instr::Pop(pair) => pair.length(),
+        }
+    }
+}
