@@ -1,3 +1,5 @@
 pub mod Contents
 pub mod Device
+pub mod Fields
+pub mod Reads
 pub mod Text

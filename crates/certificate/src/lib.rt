@@ -4,6 +4,8 @@
 
 mod contents;
 mod device;
+mod fields;
+mod line;
 
 pub use contents::{Certificate, Mode, Proc, Row};
 pub use device::{DeviceFault, Sink, Source};
