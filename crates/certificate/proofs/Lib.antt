@@ -1,2 +1,6 @@
+pub mod CutLemmas
 pub mod FieldLemmas
 pub mod LineLemmas
+pub mod ReaderLemmas
+pub mod TextLemmas
+pub mod WholeLemmas

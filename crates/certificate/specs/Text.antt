@@ -1,58 +1,57 @@
-use Rattle.std.specs.Prelude.{ℕ, ◌+◌, ◌/◌, ◌%◌, List, [], ◌∷◌, ◌++◌, map, codes, replicate, nat_lt, if◌then◌else◌}
-use Rattle.std.specs.Fmt.{decimal}
-use Rattle.std.specs.List.{flat_map, join_with_byte}
-use Rattle.certificate.specs.declared.contents.Mode.{Mode}
-use Rattle.certificate.specs.declared.contents.Mode.TheVariants.{Unset, Set}
-use Rattle.certificate.specs.declared.line.Keyword.{Keyword}
-use Rattle.certificate.specs.declared.line.Keyword.TheVariants as keywords
+use Rattle.std.specs.Prelude.{ℕ, ◌+◌, ◌-◌, ◌≤◌, ◌≡◌, List, [], ◌∷◌, ◌++◌, map, length, take}
+use Rattle.std.specs.List.{flat_map, join_with_byte, AllByRecursion}
 use Rattle.certificate.specs.declared.line.Line.{Line}
 use Rattle.certificate.specs.declared.line.Line.TheVariants as lines
-use Rattle.certificate.specs.Contents.{Contents}
-
--- a hexadecimal digit, upper case
-abbrev pub hex_digit : ℕ → ℕ
-hex_digit n = if nat_lt n 10 then 48 + n else 55 + n
-
--- a word as four hexadecimal digits
-unfoldable pub hex4 : ℕ → List ℕ
-hex4 n = hex_digit (n / 4096) ∷ hex_digit (n / 256 % 16) ∷ hex_digit (n / 16 % 16) ∷ hex_digit (n % 16) ∷ []
-
-abbrev pub mode_letter : Mode → List ℕ
-mode_letter Unset = codes "u"
-mode_letter Set = codes "s"
-
--- a row's ten pairs, of which nothing is known, and its four fields that say nothing
-abbrev pub unknown_fields : List (List ℕ)
-unknown_fields = replicate 10 (codes "*") ++ replicate 4 (codes "-")
-
--- the first field of each kind of line
-abbrev pub keyword_text : Keyword → List ℕ
-keyword_text keywords.Galcert = codes "galcert"
-keyword_text keywords.Rom = codes "rom"
-keyword_text keywords.Stack = codes "stack"
-keyword_text keywords.Budget = codes "budget"
-keyword_text keywords.Proc = codes "proc"
-keyword_text keywords.Row = codes "row"
-keyword_text keywords.End = codes "end"
-
--- the fields of each kind of line (docs/CERTIFICATE.md)
-unfoldable pub fields_of : Line → List (List ℕ)
-fields_of lines.Header = codes "galcert" ∷ codes "1" ∷ []
-fields_of (lines.Rom len) = codes "rom" ∷ decimal len ∷ []
-fields_of (lines.Stack region) = codes "stack" ∷ hex4 region.low ∷ hex4 region.top ∷ []
-fields_of lines.Budget = codes "budget" ∷ codes "-" ∷ []
-fields_of (lines.Main proc) = codes "proc" ∷ codes "main" ∷ codes "0000" ∷ decimal proc.rank ∷ decimal proc.depth ∷ codes "-" ∷ []
-fields_of (lines.Row row) = codes "row" ∷ codes "0" ∷ hex4 row.address ∷ mode_letter row.mode ∷ unknown_fields
-fields_of lines.End = codes "end" ∷ []
+use Rattle.certificate.specs.Contents.{Contents, RowsRise, MAX_ROW_COUNT}
+use Rattle.certificate.specs.Fields.{IsWord}
+use Rattle.certificate.specs.Line.{fields_of}
 
 -- lines as bytes: the fields of a line are parted by one space, and each line ends with one LF
 unfoldable pub text_of_lines : List Line → List ℕ
 text_of_lines lines = flat_map (λ line. join_with_byte 32 (fields_of line) ++ 10 ∷ []) lines
 
--- the lines of a certificate, in their order
+-- the lines of a certificate up to its last row, in their order
+abbrev pub lines_to_rows : Contents → List Line
+lines_to_rows c = lines.Header ∷ lines.Rom c.rom_len ∷ lines.Stack c.region ∷ lines.Budget ∷ lines.Main c.main ∷ map lines.Row c.rows
+
+-- the lines of a certificate
 abbrev pub lines_of : Contents → List Line
-lines_of c = lines.Header ∷ lines.Rom c.rom_len ∷ lines.Stack c.region ∷ lines.Budget ∷ lines.Main c.main ∷ (map lines.Row c.rows ++ lines.End ∷ [])
+lines_of c = lines_to_rows c ++ lines.End ∷ []
 
 -- the text of a certificate
 abbrev pub text_of : Contents → List ℕ
 text_of c = text_of_lines (lines_of c)
+
+-- a certificate in form, but that it may have any number of rows
+pub record IsInFormButForCount (c : Contents) : Type 0 where
+  pub rom_len : IsWord c.rom_len
+  pub region : IsWord c.region.low × IsWord c.region.top
+  pub main : IsWord c.main.rank × IsWord c.main.depth
+  pub rows : AllByRecursion (λ row. IsWord row.address) c.rows
+  pub rise : RowsRise c.rows
+
+-- a certificate in form
+pub record IsInForm (c : Contents) : Type 0 where
+  pub form : IsInFormButForCount c
+  pub few : length c.rows ≤ MAX_ROW_COUNT
+
+-- the bytes begin with the first n lines of a certificate of this form
+pub record BeginsWith (Form : Contents → Type 0) (n : ℕ) (bytes : List ℕ) : Type 0 where
+  pub certificate : Contents
+  pub form : Form certificate
+  pub within : n ≤ length (lines_of certificate)
+  pub rest : List ℕ
+  pub begins : bytes ≡ text_of_lines (take n (lines_of certificate)) ++ rest
+
+-- line n, counted from 1, is the first that is no certificate's: the lines before it begin one, and with it they begin none
+pub record IsFirstBadLine (n : ℕ) (bytes : List ℕ) : Type 0 where
+  pub before : BeginsWith IsInForm (n - 1) bytes
+  pub bad : BeginsWith IsInFormButForCount n bytes → ⊥
+
+-- the bytes begin with a certificate's lines up to its last row, all in form, but with one row too many
+pub record HasTooManyRows (bytes : List ℕ) : Type 0 where
+  pub certificate : Contents
+  pub form : IsInFormButForCount certificate
+  pub many : length certificate.rows ≡ MAX_ROW_COUNT + 1
+  pub rest : List ℕ
+  pub begins : bytes ≡ text_of_lines (lines_to_rows certificate) ++ rest

@@ -4,8 +4,13 @@
 
 mod contents;
 mod device;
+mod fault;
 mod fields;
 mod line;
+mod reader;
+mod text;
 
 pub use contents::{Certificate, Mode, Proc, Row};
 pub use device::{DeviceFault, Sink, Source};
+pub use fault::CertFault;
+pub use text::read;

@@ -1,7 +1,7 @@
 ghost use Rattle.std.specs.Prelude.{◌≡◌, ◌∷◌, [], ◌↔◌, ◌++◌, IsTrue, codes, ℕ, List};
 ghost use Rattle.std.specs.Fmt.{decimal};
-ghost use Rattle.certificate.specs.Reads.{Reads, IsWord, IsInRange, fields_in, Always};
-ghost use Rattle.certificate.specs.Text.{hex4, mode_letter, unknown_fields, keyword_text, fields_of};
+ghost use Rattle.certificate.specs.Fields.{Reads, IsWord, fields_in, Always, hex4};
+ghost use Rattle.certificate.specs.Line.{IsInRange, mode_letter, unknown_fields, keyword_text, fields_of};
 
 use crate::contents::{Mode, Proc, Row};
 use crate::fields::{Fields, decimal_field, hex4_field};
@@ -126,7 +126,7 @@ fn row_fields(mut fields: Fields) -> Option<Row>
 }
 
 impl Line {
-    #[tactic(auto, unfolding(crate::specs::Text::fields_of))]
+    #[tactic(auto, unfolding(crate::specs::Line::fields_of))]
     /// The line that has this text, which comes without its LF.
     pub fn of(text: &[u8]) -> Option<Line>
         ensures { Reads fields_of IsInRange (fields_in text.now) result }
