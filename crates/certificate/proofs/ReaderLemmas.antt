@@ -162,8 +162,8 @@ takes_text old new text line (Err (faults.Line n)) range same bad = (
       let is_line : line ≡ other = fields_of_injective line other range (goes_in_range c form (suc (length (lines_read old))) _ other e) (sym same ∙ fields) in
       bad.1 c form (e ∙ ap (λ l. lines_read old ++ l ∷ []) (sym is_line)),
 )
-takes_text old new text line (Err faults.Limit) range same many = (many.0, subst IsInRange many.1 range, same ∙ ap fields_of many.1, many.2)
-takes_text old new text line (Err faults.NoMemory) range same _ = tt
+takes_text old new text line (Err faults.Limit) range same row = (row.0, same ∙ ap fields_of row.1, row.2, row.3)
+takes_text old new text line (Err faults.NoMemory) range same row = (row.0, same ∙ ap fields_of row.1, row.2, row.3)
 
 -- a text that is no line's goes on no certificate
 pub no_line : (before : List Line) (text : List ℕ) → ((line : Line) → IsInRange line → fields_in text ≢ fields_of line) → NoTextGoesOn before text

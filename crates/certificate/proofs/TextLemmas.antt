@@ -11,11 +11,11 @@ use Rattle.certificate.specs.declared.line.Line.{Line}
 use Rattle.certificate.specs.declared.line.Line.TheVariants as lines
 use Rattle.certificate.specs.declared.reader.Stage.{Stage}
 use Rattle.certificate.specs.declared.reader.Stage.TheVariants as stages
-use Rattle.certificate.specs.Contents.{Contents}
+use Rattle.certificate.specs.Contents.{Contents, MAX_ROW_COUNT}
 use Rattle.certificate.specs.Fields.{fields_in, IsWord}
 use Rattle.certificate.specs.Line.{IsInRange, fields_of}
-use Rattle.certificate.specs.Text.{IsInFormButForCount, IsInForm, BeginsWith, IsFirstBadLine, HasTooManyRows, lines_of, lines_to_rows, text_of_lines, text_of}
-use Rattle.certificate.specs.Reader.{Progress, IsProgress, IsOneTooMany, lines_before, lines_read, NoTextGoesOn, TakesText}
+use Rattle.certificate.specs.Text.{IsInFormButForCount, IsInForm, BeginsWith, IsFirstBadLine, BeginsWithRows, HasTooManyRows, HasRows, lines_of, lines_to_rows, text_of_lines, text_of}
+use Rattle.certificate.specs.Reader.{Progress, IsProgress, IsNextRow, lines_before, lines_read, NoTextGoesOn, TakesText}
 use Rattle.certificate.proofs.CutLemmas.{cut, cut_text}
 use Rattle.certificate.proofs.LineLemmas.{fields_of_injective}
 use Rattle.certificate.proofs.ReaderLemmas.{lines_in_range, goes_on, goes_in_range, end_no_row}
@@ -186,36 +186,43 @@ whole_begins bytes p rest line after stands next c form e =
     }
 
 -- a row too many is no certificate's
-too_many_for : (bytes : List ℕ) (p : Progress) (rest line after : List ℕ) → Stands bytes p rest → HasLine rest line after → (row : Row) → IsInRange (lines.Row row) → fields_in line ≡ fields_of (lines.Row row) → IsOneTooMany p row →
+too_many_for : (bytes : List ℕ) (p : Progress) (rest line after : List ℕ) → Stands bytes p rest → HasLine rest line after → (row : Row) → fields_in line ≡ fields_of (lines.Row row) → IsNextRow p row → length p.contents.rows ≡ MAX_ROW_COUNT →
     (c : Contents) → IsInForm c → bytes ≡ text_of c → ⊥
 unfolding whole_begins
-too_many_for bytes p rest line after stands next row range same many c form e =
+too_many_for bytes p rest line after stands next row same is_next full c form e =
     let begins = whole_begins bytes p rest line after stands next c form e in
     let found = next_line_of bytes p rest line after stands next begins in
-    let is_row : found.0 ≡ lines.Row row = fields_of_injective found.0 (lines.Row row) (goes_in_range c form.form (suc (length (lines_read p))) (lines_read p) found.0 found.1) range (found.2 ∙ same) in
+    let is_row : found.0 ≡ lines.Row row = fields_of_injective found.0 (lines.Row row) (goes_in_range c form.form (suc (length (lines_read p))) (lines_read p) found.0 found.1) is_next.range (found.2 ∙ same) in
     let Goes : Stage → Type 0 = λ s. take (suc (length (lines_before s p.contents))) (lines_of c) ≡ lines_before s p.contents ++ found.0 ∷ [] in
-    let goes : Goes stages.Rows = subst Goes many.stage found.1 in
+    let goes : Goes stages.Rows = subst Goes is_next.stage found.1 in
     elim (goes_on c.rows p.contents.rows found.0 (ap (drop 5) goes)) [
       | inl last ↦ end_no_row row (sym is_row ∙ last)
-      | inr more ↦ absurd (omega (arith, form.few, many.full, ap length more.3, length-append p.contents.rows (more.0 ∷ more.1)))
+      | inr more ↦ absurd (omega (arith, form.few, full, ap length more.3, length-append p.contents.rows (more.0 ∷ more.1)))
     ]
 
 rows_push : (rows : List Row) (row : Row) → AllByRecursion (λ r. IsWord r.address) rows → IsWord row.address → AllByRecursion (λ r. IsWord r.address) (rows ++ row ∷ [])
 rows_push [] row words word = (word, tt)
 rows_push (r ∷ rows) row words word = (words.0, rows_push rows row words.1 word)
 
--- the bytes begin with a row too many
-too_many : (bytes : List ℕ) (p : Progress) (rest line after : List ℕ) → Stands bytes p rest → HasLine rest line after → (row : Row) → IsInRange (lines.Row row) → fields_in line ≡ fields_of (lines.Row row) → IsOneTooMany p row → HasTooManyRows bytes
-too_many bytes p rest line after stands next row range same many =
+abbrev with_row : Contents → Row → Contents
+with_row c row = record { rom_len = c.rom_len; region = c.region; main = c.main; rows = c.rows ++ row ∷ [] }
+
+with_row_form : (p : Progress) (row : Row) → IsProgress p → IsNextRow p row → IsInFormButForCount (with_row p.contents row)
+with_row_form p row progress next =
+    let form = progress.form.form in
+    record { rom_len = form.rom_len; region = form.region; main = form.main; rows = rows_push p.contents.rows row form.rows next.range; rise = next.rise }
+
+-- the bytes begin with the lines up to the next row
+begins_with_row : (Form : Contents → Type 0) (bytes : List ℕ) (p : Progress) (rest line after : List ℕ) → Stands bytes p rest → HasLine rest line after → (row : Row) → fields_in line ≡ fields_of (lines.Row row) → IsNextRow p row →
+    Form (with_row p.contents row) → BeginsWithRows Form bytes
+begins_with_row Form bytes p rest line after stands next row same is_next form =
     let d = p.contents in
-    let form = stands.form.form.form in
     let Text : Stage → Type 0 = λ s. bytes ≡ text_of_lines (lines_before s d) ++ rest in
-    let text : Text stages.Rows = subst Text many.stage stands.text in
+    let text : Text stages.Rows = subst Text is_next.stage stands.text in
     let head : List Line → List Line = λ rows. lines.Header ∷ lines.Rom d.rom_len ∷ lines.Stack d.region ∷ lines.Budget ∷ lines.Main d.main ∷ rows in
     record {
-      certificate = record { rom_len = d.rom_len; region = d.region; main = d.main; rows = d.rows ++ row ∷ [] };
-      form = record { rom_len = form.rom_len; region = form.region; main = form.main; rows = rows_push d.rows row form.rows range; rise = many.rise };
-      many = length_push d.rows row ∙ ap (λ n. n + 1) many.full;
+      certificate = with_row d row;
+      form = form;
       rest = after;
       begins = text ∙ ap (λ more. text_of_lines (lines_to_rows d) ++ more) next.text ∙ sym (text_push (lines_to_rows d) (lines.Row row) line after same)
           ∙ ap (λ rows. text_of_lines (head rows) ++ after) (sym (map-append lines.Row d.rows (row ∷ [])));
@@ -236,15 +243,24 @@ refused_line T bytes p new rest line after faults.NoMemory stands next _ n e = c
 
 pub refused_limit : (T : Type 0) (bytes : List ℕ) (p new : Progress) (rest line after : List ℕ) (fault : CertFault) → Stands bytes p rest → HasLine rest line after → TakesText {T = T} p line (Err fault) new → fault ≡ faults.Limit → HasTooManyRows bytes
 refused_limit T bytes p new rest line after (faults.Line m) stands next bad e = cc
-refused_limit T bytes p new rest line after faults.Limit stands next many e = too_many bytes p rest line after stands next many.0 many.1 many.2 many.3
+refused_limit T bytes p new rest line after faults.Limit stands next (row, same, is_next, full) e =
+    begins_with_row _ bytes p rest line after stands next row same is_next (with_row_form p row stands.form is_next, length_push p.contents.rows row ∙ ap (λ n. n + 1) full)
 refused_limit T bytes p new rest line after faults.NoMemory stands next _ e = cc
+
+pub refused_memory : (T : Type 0) (bytes : List ℕ) (p new : Progress) (rest line after : List ℕ) (fault : CertFault) → Stands bytes p rest → HasLine rest line after → TakesText {T = T} p line (Err fault) new → fault ≡ faults.NoMemory → HasRows bytes
+refused_memory T bytes p new rest line after (faults.Line m) stands next bad e = cc
+refused_memory T bytes p new rest line after faults.Limit stands next _ e = cc
+refused_memory T bytes p new rest line after faults.NoMemory stands next (row, same, is_next, room) e =
+    let form = with_row_form p row stands.form is_next in
+    let count = length_push p.contents.rows row in
+    begins_with_row _ bytes p rest line after stands next row same is_next (record { form = form; few = omega arith }, omega arith)
 
 pub refused_only : (T : Type 0) (bytes : List ℕ) (p new : Progress) (rest line after : List ℕ) (fault : CertFault) → Stands bytes p rest → HasLine rest line after → TakesText {T = T} p line (Err fault) new →
     (c : Contents) → IsInForm c → bytes ≡ text_of c → fault ≡ faults.NoMemory
 refused_only T bytes p new rest line after (faults.Line m) stands next bad c form e =
     absurd (none_begins bytes p rest line after stands next bad.1 (whole_begins bytes p rest line after stands next c form e))
-refused_only T bytes p new rest line after faults.Limit stands next many c form e =
-    absurd (too_many_for bytes p rest line after stands next many.0 many.1 many.2 many.3 c form e)
+refused_only T bytes p new rest line after faults.Limit stands next (row, same, is_next, full) c form e =
+    absurd (too_many_for bytes p rest line after stands next row same is_next full c form e)
 refused_only T bytes p new rest line after faults.NoMemory stands next _ c form e = refl
 
 -- the clauses of `read` at the end

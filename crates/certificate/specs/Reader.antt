@@ -1,4 +1,4 @@
-use Rattle.std.specs.Prelude.{ℕ, ◌≡◌, ◌≢◌, suc, List, [], ◌∷◌, ◌++◌, length, take, Option, Some, None, Result, Ok, Err}
+use Rattle.std.specs.Prelude.{◌<◌, ℕ, ◌≡◌, ◌≢◌, suc, List, [], ◌∷◌, ◌++◌, length, take, Option, Some, None, Result, Ok, Err}
 use Rattle.certificate.specs.declared.contents.Row.{Row}
 use Rattle.certificate.specs.declared.fault.CertFault.{CertFault}
 use Rattle.certificate.specs.declared.fault.CertFault.TheVariants as faults
@@ -59,30 +59,27 @@ NoneGoesOn before line = (c : Contents) → IsInFormButForCount c → take (suc 
 abbrev pub NoTextGoesOn : List Line → List ℕ → Type 0
 NoTextGoesOn before text = (line : Line) (c : Contents) → IsInFormButForCount c → take (suc (length before)) (lines_of c) ≡ before ++ line ∷ [] → fields_in text ≢ fields_of line
 
--- the row goes on behind the rows that were read, which are as many as may be
-pub record IsOneTooMany (p : Progress) (row : Row) : Type 0 where
+-- the row comes behind the rows that were read
+pub record IsNextRow (p : Progress) (row : Row) : Type 0 where
   pub stage : p.stage ≡ stages.Rows
+  pub range : IsInRange (lines.Row row)
   pub rise : RowsRise (p.contents.rows ++ row ∷ [])
-  pub full : length p.contents.rows ≡ MAX_ROW_COUNT
 
--- the fault is that the line is none that comes, or that it is a row too many
-abbrev pub IsFault : CertFault → ℕ → Type 0 → Type 0 → Type 0
-IsFault (faults.Line n) number bad many = (n ≡ number) × bad
-IsFault faults.Limit number bad many = many
-IsFault faults.NoMemory number bad many = Unit {0}
+-- a fault is that the next line is bad, that it is a row but one too many, or that there is no memory for this row
+abbrev pub IsFault : CertFault → Progress → Type 0 → (Row → Type 0) → Type 0
+IsFault (faults.Line n) p bad IsRow = (n ≡ suc (length (lines_read p))) × bad
+IsFault faults.Limit p bad IsRow = (row : Row) × IsRow row × IsNextRow p row × (length p.contents.rows ≡ MAX_ROW_COUNT)
+IsFault faults.NoMemory p bad IsRow = (row : Row) × IsRow row × IsNextRow p row × (length p.contents.rows < MAX_ROW_COUNT)
 
 -- one more line was read, or why it was not
 abbrev pub TakesLine : {T : Type 0} → Progress → Line → Result T CertFault → Progress → Type 0
 TakesLine old line (Ok _) new = lines_read new ≡ lines_read old ++ line ∷ []
-TakesLine old line (Err fault) new =
-    IsFault fault (suc (length (lines_read old))) (NoneGoesOn (lines_read old) line) ((row : Row) × (line ≡ lines.Row row) × IsOneTooMany old row)
+TakesLine old line (Err fault) new = IsFault fault old (NoneGoesOn (lines_read old) line) (λ row. line ≡ lines.Row row)
 
 -- the same of a line's text
 abbrev pub TakesText : {T : Type 0} → Progress → List ℕ → Result T CertFault → Progress → Type 0
 TakesText old text (Ok _) new = (line : Line) × IsInRange line × (fields_in text ≡ fields_of line) × (lines_read new ≡ lines_read old ++ line ∷ [])
-TakesText old text (Err fault) new =
-    IsFault fault (suc (length (lines_read old))) (NoTextGoesOn (lines_read old) text)
-    ((row : Row) × IsInRange (lines.Row row) × (fields_in text ≡ fields_of (lines.Row row)) × IsOneTooMany old row)
+TakesText old text (Err fault) new = IsFault fault old (NoTextGoesOn (lines_read old) text) (λ row. fields_in text ≡ fields_of (lines.Row row))
 
 -- the certificate of the lines that were read, or they are not all of one
 abbrev pub Ends : Progress → Result Contents CertFault → Type 0

@@ -1,4 +1,4 @@
-use Rattle.std.specs.Prelude.{ℕ, ◌+◌, ◌-◌, ◌≤◌, ◌≡◌, List, [], ◌∷◌, ◌++◌, map, length, take}
+use Rattle.std.specs.Prelude.{ℕ, ◌+◌, ◌-◌, ◌<◌, ◌≤◌, ◌≡◌, List, [], ◌∷◌, ◌++◌, map, length, take}
 use Rattle.std.specs.List.{flat_map, join_with_byte, AllByRecursion}
 use Rattle.certificate.specs.declared.line.Line.{Line}
 use Rattle.certificate.specs.declared.line.Line.TheVariants as lines
@@ -48,10 +48,17 @@ pub record IsFirstBadLine (n : ℕ) (bytes : List ℕ) : Type 0 where
   pub before : BeginsWith IsInForm (n - 1) bytes
   pub bad : BeginsWith IsInFormButForCount n bytes → ⊥
 
--- the bytes begin with a certificate's lines up to its last row, all in form, but with one row too many
-pub record HasTooManyRows (bytes : List ℕ) : Type 0 where
+-- the bytes begin with the lines of a certificate of this form up to its last row
+pub record BeginsWithRows (Form : Contents → Type 0) (bytes : List ℕ) : Type 0 where
   pub certificate : Contents
-  pub form : IsInFormButForCount certificate
-  pub many : length certificate.rows ≡ MAX_ROW_COUNT + 1
+  pub form : Form certificate
   pub rest : List ℕ
   pub begins : bytes ≡ text_of_lines (lines_to_rows certificate) ++ rest
+
+-- the bytes begin with one row too many, and all is in form but for that
+abbrev pub HasTooManyRows : List ℕ → Type 0
+HasTooManyRows bytes = BeginsWithRows (λ c. IsInFormButForCount c × (length c.rows ≡ MAX_ROW_COUNT + 1)) bytes
+
+-- the bytes begin with a row or more, and all is in form
+abbrev pub HasRows : List ℕ → Type 0
+HasRows bytes = BeginsWithRows (λ c. IsInForm c × (0 < length c.rows)) bytes

@@ -14,3 +14,6 @@ pub use contents::{Certificate, Mode, Proc, Row};
 pub use device::{DeviceFault, Sink, Source};
 pub use fault::CertFault;
 pub use text::read;
+
+#[cfg(test)]
+mod tests;

@@ -110,6 +110,7 @@ impl Reader {
         requires range { IsInRange (Line.Row row) }
         ensures line { TakesLine self.old (Line.Row row) result self.new }
         ensures form { IsProgress self.new }
+        ensures err { OnErr result (self.new ≡ self.old) }
     {
         if !may_follow(self.rows.as_slice(), row) {
             return Err(CertFault::Line(self.number()));
@@ -117,10 +118,10 @@ impl Reader {
         if self.rows.len() == ROW_LIMIT {
             return Err(CertFault::Limit);
         }
-        match self.rows.push(row) {
-            Ok(()) => Ok(()),
-            Err(_) => Err(CertFault::NoMemory),
+        if self.rows.push(row).is_err() {
+            return Err(CertFault::NoMemory);
         }
+        Ok(())
     }
 
     /// Reads one more line.
@@ -128,6 +129,7 @@ impl Reader {
         requires { IsInRange line }
         ensures line { TakesLine self.old line result self.new }
         ensures form { OnOk result (IsProgress self.new) }
+        ensures err { OnErr result (self.new ≡ self.old) }
     {
         let Some(stage) = self.stage.next(line) else {
             return Err(CertFault::Line(self.number()));
@@ -147,6 +149,7 @@ impl Reader {
     pub fn line(&mut self, text: &[u8]) -> Result<(), CertFault>
         ensures line { TakesText self.old text.now result self.new }
         ensures form { OnOk result (IsProgress self.new) }
+        ensures err { OnErr result (self.new ≡ self.old) }
     {
         match Line::of(text) {
             Some(line) => self.take(line),

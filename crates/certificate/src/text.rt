@@ -1,6 +1,6 @@
 ghost use Rattle.std.specs.Prelude.{◌≡◌, ℕ, IfOk, IsOkUnless};
 ghost use Rattle.certificate.specs.Contents.{Contents};
-ghost use Rattle.certificate.specs.Text.{HasTooManyRows, IsFirstBadLine, IsInForm, text_of};
+ghost use Rattle.certificate.specs.Text.{HasRows, HasTooManyRows, IsFirstBadLine, IsInForm, text_of};
 
 use crate::contents::Certificate;
 use crate::fault::CertFault;
@@ -19,9 +19,10 @@ pub fn read(alloc: Global, bytes: &[u8]) -> Result<Certificate, CertFault>
     ensures found { IfOk result (λ c. IsInForm c × (bytes.now ≡ text_of c)) }
     // The text of a certificate in form is read as this certificate, unless memory runs out.
     ensures only { (c : Contents) → IsInForm c → bytes.now ≡ text_of c → IsOkUnless result CertFault.NoMemory × IfOk result (λ read. read ≡ c) }
-    // Which line is refused.
+    // Which fault other bytes give, and that memory is asked for rows alone.
     ensures line { (n : ℕ) → result ≡ Err (CertFault.Line n) → IsFirstBadLine n bytes.now }
     ensures limit { result ≡ Err CertFault.Limit → HasTooManyRows bytes.now }
+    ensures memory { result ≡ Err CertFault.NoMemory → HasRows bytes.now }
 {
     let mut reader = Reader::new(alloc);
     let mut rest = bytes;

@@ -1,6 +1,6 @@
 use Rattle.std.proofs.Common.{length, arith, sym, ap, refl, ◌∙◌, tests}
 use Rattle.std.proofs.lemmas.Result.{err_from_is_err_and}
-use Rattle.certificate.proofs.TextLemmas.{HasLine, stands_first, stands_next, refused_line, refused_limit, refused_only, ended_line, line_number, same_fault}
+use Rattle.certificate.proofs.TextLemmas.{HasLine, stands_first, stands_next, refused_line, refused_limit, refused_memory, refused_only, ended_line, line_number, same_fault}
 use Rattle.certificate.proofs.WholeLemmas.{nothing_behind, ended_only, ended_number}
 use Rattle.certificate.proofs.text.read.Goals as goal
 
@@ -29,6 +29,12 @@ returns-in_err-line-clause-limit c same =
     let p = err_from_is_err_and c.from_residual.result c.from_residual.ensures.1 in
     let next : HasLine c.loop-line.rest.now c.in-Some.line.now c.in-Some.after.now = record { text = c.in-Some.ensures.cut; parts = c.in-Some.ensures.parts } in
     refused_limit (Unit {0}) _ c.loop-line.reader c.line.new.self _ _ _ c.in_err-line.field-0.0 c.loop-line.invariant next c.in_err-line.ensures.line (sym p.2 ∙ same_fault _ _ _ p.1 same)
+
+pub returns-in_err-line-clause-memory : goal.returns-in_err-line-clause-memory
+returns-in_err-line-clause-memory c same =
+    let p = err_from_is_err_and c.from_residual.result c.from_residual.ensures.1 in
+    let next : HasLine c.loop-line.rest.now c.in-Some.line.now c.in-Some.after.now = record { text = c.in-Some.ensures.cut; parts = c.in-Some.ensures.parts } in
+    refused_memory (Unit {0}) _ c.loop-line.reader c.line.new.self _ _ _ c.in_err-line.field-0.0 c.loop-line.invariant next c.in_err-line.ensures.line (sym p.2 ∙ same_fault _ _ _ p.1 same)
 
 pub returns-then-not-is_empty-clause-only : goal.returns-then-not-is_empty-clause-only
 returns-then-not-is_empty-clause-only c d form e =
