@@ -1,3 +1,6 @@
 pub mod Contents
 pub mod Device
+pub mod Fields
+pub mod Line
+pub mod Reader
 pub mod Text

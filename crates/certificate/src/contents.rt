@@ -4,6 +4,9 @@ ghost use Rattle.certificate.specs.Contents.{RowsRise, MAX_ROW_COUNT};
 use address_map::Region;
 use std::marker::Model;
 
+/// How many rows a certificate may have.
+pub const ROW_LIMIT: usize = 65_535;
+
 /// What is known of the stack pointer and the NMI at a row.
 #[derive(Clone, Copy, Debug, PartialEq, Eq)]
 pub enum Mode {
@@ -52,6 +55,20 @@ impl Model for Certificate {
 }
 
 impl Certificate {
+    /// A certificate of these parts.
+    pub fn of(rom_len: u16, region: Region, main: Proc, rows: Vec<Row>) -> Certificate
+        requires rise { RowsRise rows.items }
+        requires few { length rows.items ≤ MAX_ROW_COUNT }
+        ensures { result ≡ record { rom_len = rom_len; region = region; main = main; rows = rows.items } }
+    {
+        Certificate {
+            rom_len,
+            region,
+            main,
+            rows,
+        }
+    }
+
     /// The ROM's length in bytes that the certificate was made for, 0 to 65,535.
     pub fn rom_len(&self) -> u16
         ensures { result ≡ self.now.rom_len }

@@ -4,8 +4,16 @@
 
 mod contents;
 mod device;
-mod stub;
+mod fault;
+mod fields;
+mod line;
+mod reader;
+mod text;
 
 pub use contents::{Certificate, Mode, Proc, Row};
-pub use stub::{CertFault, read};
 pub use device::{DeviceFault, Sink, Source};
+pub use fault::CertFault;
+pub use text::read;
+
+#[cfg(test)]
+mod tests;

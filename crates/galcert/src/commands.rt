@@ -90,7 +90,7 @@ fn judge<'r, W: Sink>(
     let certificate = match read(alloc, text) {
         Ok(certificate) => certificate,
         Err(CertFault::Line(line)) => {
-            return Err(written_status(write_bad_line(b"bad certificate", line, out), REFUSED));
+            return Err(written_status(write_bad_line(b"bad certificate", line as u64, out), REFUSED));
         }
         Err(CertFault::Limit) => {
             return Err(written_status(put(out, b"bad certificate limit\n"), REFUSED));

@@ -1,0 +1,6 @@
+use Rattle.certificate.proofs.FieldLemmas.{replicate_stops}
+use Rattle.certificate.proofs.fields.Fields.skip_all.Goals as goal
+
+pub returns-then-not-skip : goal.returns-then-not-skip
+returns-then-not-skip c =
+    replicate_stops _ _ c.args.word.now _ _ c.loop-test.true c.loop.invariant c.if-not-skip.ensures

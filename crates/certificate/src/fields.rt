@@ -1,0 +1,134 @@
+ghost use Rattle.std.specs.Prelude.{◌≡◌, ◌≢◌, ◌<◌, ◌∷◌, ◌==◌, ◌↔◌, [], ◌++◌, IsTrue, MatchOption, replicate};
+ghost use Rattle.std.specs.List.{slice_split, position};
+ghost use Rattle.std.specs.Fmt.{decimal};
+ghost use Rattle.certificate.specs.Fields.{TakesField, TakesWord, TakesFields, Reads, IsWord, fields_in, hex_digit, hex4};
+
+use std::marker::Model;
+
+/// Where the first byte of this kind stands.
+fn position_of(bytes: &[u8], mark: u8) -> Option<usize>
+    ensures { result ≡ position (λ b. b == mark) bytes.now }
+{
+    bytes.iter().position(|b| *b == mark)
+}
+
+/// What stands before the first byte of this kind, and what stands behind it.
+pub fn split_once(bytes: &[u8], mark: u8) -> Option<(&[u8], &[u8])>
+    ensures cut { MatchOption result (slice_split (λ b. b == mark) bytes.now ≡ bytes.now ∷ []) (λ x. bytes.now ≡ x.0.now ++ mark ∷ x.1.now) }
+    ensures parts { MatchOption result (slice_split (λ b. b == mark) bytes.now ≡ bytes.now ∷ []) (λ x. slice_split (λ b. b == mark) bytes.now ≡ x.0.now ∷ slice_split (λ b. b == mark) x.1.now) }
+{
+    let at = position_of(bytes, mark)?;
+    Some((&bytes[..at], &bytes[at + 1..]))
+}
+
+/// The fields of a line that are still to be read.
+#[derive(Drop)]
+pub struct Fields<'a> {
+    rest: Option<&'a [u8]>,
+}
+
+impl<'a> Model for Fields<'a> {
+    ghost use Rattle.std.specs.Prelude.{List, ℕ};
+    ghost use Rattle.certificate.specs.Fields.{fields_left};
+
+    ghost Value = { List (List ℕ) };
+
+    ghost view = { λ f. fields_left f.rest };
+}
+
+impl<'a> Fields<'a> {
+    /// All fields of a line.
+    pub fn of(line: &'a [u8]) -> Fields<'a>
+        ensures { result ≡ fields_in line.now }
+    {
+        Fields { rest: Some(line) }
+    }
+
+    /// The next field, if there is one.
+    pub fn next(&mut self) -> Option<&'a [u8]>
+        ensures { TakesField self.old result self.new }
+    {
+        let rest = self.rest?;
+        match split_once(rest, b' ') {
+            Some((field, after)) => {
+                self.rest = Some(after);
+                Some(field)
+            }
+            None => {
+                self.rest = None;
+                Some(rest)
+            }
+        }
+    }
+
+    /// Takes off the next field, if it is this word.
+    pub fn skip(&mut self, word: &[u8]) -> bool
+        ensures { TakesWord word.now self.old result self.new }
+    {
+        match self.next() {
+            Some(field) => field == word,
+            None => false,
+        }
+    }
+
+    /// Takes off the next fields, if they are all this word.
+    pub fn skip_all(&mut self, word: &[u8], count: usize) -> bool
+        ensures { TakesFields (replicate count word.now) self.old result self.new }
+    {
+        for _ in 0..count {
+            if !self.skip(word) {
+                return false;
+            }
+        }
+        true
+    }
+
+    /// Whether no field is left.
+    pub fn is_empty(&self) -> bool
+        ensures { IsTrue result ↔ (self.now ≡ []) }
+    {
+        self.rest.is_none()
+    }
+}
+
+/// A number from 0 to 65,535 in decimal, without leading zeros.
+pub fn decimal_field(field: &[u8]) -> Option<u16>
+    ensures { Reads decimal IsWord field.now result }
+{
+    if field.is_empty() || field[0] == b'+' {
+        return None;
+    }
+    if field[0] == b'0' && field.len() != 1 {
+        return None;
+    }
+    let Ok(text) = str::from_utf8(field) else {
+        return None;
+    };
+    text.parse::<u16>().ok()
+}
+
+/// The value of a hexadecimal digit, upper case.
+fn hex_digit_value(byte: u8) -> Option<u16>
+    ensures { Reads hex_digit (λ d. d < 16) byte result }
+{
+    match byte {
+        b'0'..=b'9' => Some(u16::from(byte - b'0')),
+        b'A'..=b'F' => Some(u16::from(byte - b'A') + 10),
+        _ => None,
+    }
+}
+
+#[tactic(auto, unfolding(crate::specs::Fields::hex4))]
+/// A number from 0 to 65,535 as four hexadecimal digits, upper case.
+pub fn hex4_field(field: &[u8]) -> Option<u16>
+    ensures { Reads hex4 IsWord field.now result }
+{
+    let [a, b, c, d] = field else {
+        return None;
+    };
+    let a = hex_digit_value(*a)?;
+    let b = hex_digit_value(*b)?;
+    let c = hex_digit_value(*c)?;
+    let d = hex_digit_value(*d)?;
+    Some(a * 0x1000 + b * 0x100 + c * 0x10 + d)
+}
