@@ -37,3 +37,5 @@ pub use table::{moves_for, moves_of_acceptance};
 
 #[cfg(test)]
 mod acceptance_tests;
+#[cfg(test)]
+mod tests;
