@@ -157,11 +157,11 @@ impl Reader {
         }
     }
 
-    /// The certificate, if all of its lines were read.
-    pub fn end(self) -> Result<Certificate, CertFault>
-        ensures { Ends self result }
+    /// The certificate, if all of its lines were read and no byte is left.
+    pub fn end(self, rest: &[u8]) -> Result<Certificate, CertFault>
+        ensures { Ends self rest.now result }
     {
-        if self.stage != Stage::Nothing {
+        if self.stage != Stage::Nothing || !rest.is_empty() {
             return Err(CertFault::Line(self.number()));
         }
         let Reader {
