@@ -1,4 +1,4 @@
-ghost use Rattle.std.specs.Prelude.{◌≡◌, ◌≢◌, ◌<◌, ◌∷◌, ◌==◌, ◌↔◌, [], ◌++◌, IsTrue, MatchOption, replicate};
+ghost use Rattle.std.specs.Prelude.{◌≡◌, ◌<◌, ◌∷◌, ◌==◌, ◌↔◌, [], ◌++◌, IsTrue, MatchOption, replicate};
 ghost use Rattle.std.specs.List.{slice_split, position};
 ghost use Rattle.std.specs.Fmt.{decimal};
 ghost use Rattle.certificate.specs.Fields.{BeginsDecimal, TakesField, TakesWord, TakesFields, Reads, IsWord, fields_in, hex_digit, hex4};
@@ -126,8 +126,8 @@ fn hex_digit_value(byte: u8) -> Option<u16>
     }
 }
 
-#[tactic(auto, unfolding(crate::specs::Fields::hex4))]
 /// A number from 0 to 65,535 as four hexadecimal digits, upper case.
+#[tactic(auto, unfolding(crate::specs::Fields::hex4))]
 pub fn hex4_field(field: &[u8]) -> Option<u16>
     ensures { Reads hex4 IsWord field.now result }
 {

@@ -1,4 +1,4 @@
-ghost use Rattle.std.specs.Prelude.{◌≡◌, ◌≢◌, ◌∷◌, [], ◌++◌, ◌↔◌, IsTrue, suc, length, IfOk, MatchResult, OnErr, OnOk, OnSome, MatchOption};
+ghost use Rattle.std.specs.Prelude.{◌≡◌, ◌∷◌, [], ◌++◌, ◌↔◌, IsTrue, suc, length, OnErr, OnOk};
 ghost use Rattle.certificate.specs.Contents.{RowsRise};
 ghost use Rattle.certificate.specs.Line.{IsInRange};
 ghost use Rattle.certificate.specs.Reader.{IsProgress, lines_read, next_stage, TakesLine, TakesText, Ends};
@@ -12,7 +12,7 @@ use std::alloc::Global;
 use std::marker::Model;
 
 /// Which line comes next.
-#[derive(Clone, Copy, Debug, PartialEq, Eq)]
+#[derive(Clone, Copy, PartialEq, Eq)]
 pub enum Stage {
     Header,
     Rom,
