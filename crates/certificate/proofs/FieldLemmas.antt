@@ -13,7 +13,7 @@ use Rattle.std.proofs.lemmas.Str.{IsUtf8-from_ascii}
 use Rattle.std.proofs.lemmas.Str.Parse.{IsNumeralModel, numerals_by_value, tells_digits, parse_plain}
 use Rattle.std.proofs.lemmas.Fmt.{first_decimal, decimal_digit, decimal-digits_value, parse-decimal, IsAscii-decimal, decimal_nonempty}
 use Rattle.std.proofs.lemmas.Bool.{ltb-true, ltb-false, eqb-true}
-use Rattle.certificate.specs.Fields.{fields_left, Reads, IsWord}
+use Rattle.certificate.specs.Fields.{BeginsDecimal, fields_left, Reads, IsWord}
 
 -- a text has at least one part
 pub slice_split_some : (p : ℕ → Bool) (xs : List ℕ) → slice_split p xs ≡ [] → ⊥
@@ -55,31 +55,20 @@ first_digit zero small = inl refl
 first_digit (suc n) small = inr (first_decimal (suc n) (omega arith) (omega arith))
 
 -- a number's decimal has no sign
-pub decimal_plain : (n : ℕ) → IsWord n → get_or (decimal n) 0 0 ≢ 43
+decimal_plain : (n : ℕ) → IsWord n → get_or (decimal n) 0 0 ≢ 43
 decimal_plain n small e = elim (first_digit n small) [ inl z ↦ absurd (omega (arith, ap (λ ds. get_or ds 0 0) (ap decimal z ∙ decimal_digit 0 (lit< tt)))) | inr above ↦ absurd (omega arith) ]
 
 -- nor a leading zero
-pub decimal_short : (n : ℕ) → IsWord n → get_or (decimal n) 0 0 ≡ 48 → length (decimal n) ≡ 1
+decimal_short : (n : ℕ) → IsWord n → get_or (decimal n) 0 0 ≡ 48 → length (decimal n) ≡ 1
 decimal_short n small e = elim (first_digit n small) [ inl z ↦ ap length (ap decimal z ∙ decimal_digit 0 (lit< tt)) | inr above ↦ absurd (omega arith) ]
 
--- nor no digit
-pub decimal_some : (n : ℕ) → IsWord n → length (decimal n) ≢ 0
-decimal_some n small e = absurd (omega (arith, decimal_nonempty n (omega arith)))
+-- each decimal begins as one
+pub decimal_begins : (bs : List ℕ) (n : ℕ) → IsWord n → bs ≡ decimal n → BeginsDecimal bs
+decimal_begins bs n small e = subst BeginsDecimal (sym e) record { some = decimal_nonempty n (omega arith); no_sign = decimal_plain n small; no_leading_zero = decimal_short n small }
 
--- and it is ASCII, so it is text
-pub decimal_text : (n : ℕ) → IsWord n → IsUtf8 (decimal n)
-decimal_text n small = IsUtf8-from_ascii (decimal n) (IsAscii-decimal n (omega arith))
-
--- what each decimal keeps to
-pub record IsPlainDecimal (bs : List ℕ) : Type 0 where
-  pub some : length bs ≢ 0
-  pub no_sign : get_or bs 0 0 ≢ 43
-  pub short : get_or bs 0 0 ≡ 48 → length bs ≡ 1
-  pub text : IsUtf8 bs
-
-pub is_plain_decimal : (bs : List ℕ) (n : ℕ) → IsWord n → bs ≡ decimal n → IsPlainDecimal bs
-is_plain_decimal bs n small e =
-    subst IsPlainDecimal (sym e) record { some = decimal_some n small; no_sign = decimal_plain n small; short = decimal_short n small; text = decimal_text n small }
+-- and is text
+pub decimal_is_text : (bs : List ℕ) (n : ℕ) → IsWord n → bs ≡ decimal n → IsUtf8 bs
+decimal_is_text bs n small e = subst IsUtf8 (sym e) (IsUtf8-from_ascii (decimal n) (IsAscii-decimal n (omega arith)))
 
 err_not_ok : {E : Type 0} (e : E) (n : ℕ) → Err e ≡ Ok n → ⊥
 err_not_ok e n same = cc
@@ -87,14 +76,14 @@ err_not_ok e n same = cc
 own : IsNumeralModel (AllDigits 10) (digits_value 10)
 own = numerals_by_value _ tells_digits
 
--- what `parse` gives is the number whose decimal the text is, if it has no sign and no leading zero
-pub decimal_from_parse : {E : Type 0} (bs : List ℕ) (r : Result ℕ E) → ParsesUnsigned 16 10 bs r → get_or bs 0 0 ≢ 43 → (get_or bs 0 0 ≡ 48 → length bs ≡ 1) → Reads decimal IsWord bs (result_ok r)
-decimal_from_parse {E} bs (Ok n) h plain short =
-    let k = parse_plain own {E = E} 16 bs (Ok n) h plain in
+-- what `parse` gives is the number whose decimal the text is, if it begins as one
+pub decimal_from_parse : {E : Type 0} (bs : List ℕ) (r : Result ℕ E) → ParsesUnsigned 16 10 bs r → BeginsDecimal bs → Reads decimal IsWord bs (result_ok r)
+decimal_from_parse {E} bs (Ok n) h begins =
+    let k = parse_plain own {E = E} 16 bs (Ok n) h begins.no_sign in
     let value = k.1 in
     let small : digits_value 10 bs < 65536 = k.0.2 in
-    (omega arith, sym (ap decimal value ∙ decimal-digits_value own bs k.0.0 k.0.1 short (omega arith)))
-decimal_from_parse bs (Err e) h plain short = λ n small same.
+    (omega arith, sym (ap decimal value ∙ decimal-digits_value own bs k.0.0 k.0.1 begins.no_leading_zero (omega arith)))
+decimal_from_parse bs (Err e) h begins = λ n small same.
     err_not_ok e n (parse-decimal 16 n bs (Err e) (omega arith) (omega arith) same h)
 
 -- no field is left where no text is left

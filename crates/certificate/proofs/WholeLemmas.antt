@@ -96,22 +96,19 @@ ends_at stages.Main d c e = absurd (omega (arith, ap length e))
 ends_at stages.Rows d c e = absurd (no_end c.rows d.rows (ap (drop 5) e))
 ends_at stages.Nothing d c e = refl
 
--- the text of a certificate does not end with other bytes
-pub nothing_behind : (bytes : List ℕ) (p : Progress) (rest : List ℕ) → Stands bytes p rest → slice_split (λ b. b == 10) rest ≡ rest ∷ [] → (c : Contents) → IsInForm c → bytes ≡ text_of c → rest ≡ []
-nothing_behind bytes p rest stands last c form e = (whole_read bytes p rest stands last c form e).1
-
--- and the certificate that was read is this one
-pub ended_only : (bytes : List ℕ) (p : Progress) (rest : List ℕ) (r : Result Contents CertFault) → Stands bytes p rest → slice_split (λ b. b == 10) rest ≡ rest ∷ [] → Ends p r →
+-- the certificate that was read is this one
+pub ended_only : (bytes : List ℕ) (p : Progress) (rest : List ℕ) (r : Result Contents CertFault) → Stands bytes p rest → slice_split (λ b. b == 10) rest ≡ rest ∷ [] → Ends p rest r →
     (c : Contents) → IsInForm c → bytes ≡ text_of c → IsOkUnless r faults.NoMemory × IfOk r (λ read. read ≡ c)
 ended_only bytes p rest (Ok read) stands last ends c form e =
     let whole = whole_read bytes p rest stands last c form e in
     let Lines : Stage → Type 0 = λ s. lines_of c ≡ lines_before s p.contents in
     let at_end : Lines stages.Nothing = subst Lines ends.0 whole.0 in
-    (tt, ends.1 ∙ sym (contents_same c p.contents at_end))
+    (tt, ends.2 ∙ sym (contents_same c p.contents at_end))
 ended_only bytes p rest (Err fault) stands last ends c form e =
-    absurd (ends.0 (ends_at p.stage p.contents c (whole_read bytes p rest stands last c form e).0))
+    let whole = whole_read bytes p rest stands last c form e in
+    absurd (ends.1 (ends_at p.stage p.contents c whole.0) whole.1)
 
 -- the number of the line that is missing at the end
-pub ended_number : (p : Progress) (r : Result Contents CertFault) (n : ℕ) → Ends p r → r ≡ Err (faults.Line n) → n ≡ suc (length (lines_read p))
-ended_number p (Ok c) n ends e = cc
-ended_number p (Err fault) n ends e = line_number _ _ (sym ends.1 ∙ same_fault {T = Contents} (Err fault) fault (faults.Line n) refl e)
+pub ended_number : (p : Progress) (rest : List ℕ) (r : Result Contents CertFault) (n : ℕ) → Ends p rest r → r ≡ Err (faults.Line n) → n ≡ suc (length (lines_read p))
+ended_number p rest (Ok c) n ends e = cc
+ended_number p rest (Err fault) n ends e = line_number _ _ (sym ends.0 ∙ same_fault {T = Contents} (Err fault) fault (faults.Line n) refl e)

@@ -1,4 +1,4 @@
-use Rattle.std.specs.Prelude.{ℕ, ◌+◌, ◌/◌, ◌%◌, ◌≤◌, ◌≡◌, ◌≢◌, ◌==◌, nat_lt, if◌then◌else◌, Bool, true, false, List, [], ◌∷◌, ◌++◌, Option, Some, None}
+use Rattle.std.specs.Prelude.{◌<◌, length, slice_index, ℕ, ◌+◌, ◌/◌, ◌%◌, ◌≤◌, ◌≡◌, ◌≢◌, ◌==◌, nat_lt, if◌then◌else◌, Bool, true, false, List, [], ◌∷◌, ◌++◌, Option, Some, None}
 use Rattle.std.specs.List.{slice_split}
 use denote.Ref.{Bor}
 
@@ -14,6 +14,12 @@ Always x = Unit {0}
 -- a number of sixteen bits
 abbrev pub IsWord : ℕ → Type 0
 IsWord n = n ≤ 65535
+
+-- there is a byte, it is no sign, and no other byte follows a zero
+pub record BeginsDecimal (field : List ℕ) : Type 0 where
+  pub some : 0 < length field
+  pub no_sign : slice_index field 0 ≢ 43
+  pub no_leading_zero : slice_index field 0 ≡ 48 → length field ≡ 1
 
 -- a hexadecimal digit, upper case
 abbrev pub hex_digit : ℕ → ℕ

@@ -81,7 +81,7 @@ abbrev pub TakesText : {T : Type 0} → Progress → List ℕ → Result T CertF
 TakesText old text (Ok _) new = (line : Line) × IsInRange line × (fields_in text ≡ fields_of line) × (lines_read new ≡ lines_read old ++ line ∷ [])
 TakesText old text (Err fault) new = IsFault fault old (NoTextGoesOn (lines_read old) text) (λ row. fields_in text ≡ fields_of (lines.Row row))
 
--- the certificate of the lines that were read, or they are not all of one
-abbrev pub Ends : Progress → Result Contents CertFault → Type 0
-Ends p (Ok c) = (p.stage ≡ stages.Nothing) × (c ≡ p.contents)
-Ends p (Err fault) = (p.stage ≢ stages.Nothing) × (fault ≡ faults.Line (suc (length (lines_read p))))
+-- the certificate of the lines that were read, or lines of it are missing, or a rest is left
+abbrev pub Ends : Progress → List ℕ → Result Contents CertFault → Type 0
+Ends p rest (Ok c) = (p.stage ≡ stages.Nothing) × (rest ≡ []) × (c ≡ p.contents)
+Ends p rest (Err fault) = (fault ≡ faults.Line (suc (length (lines_read p)))) × (p.stage ≡ stages.Nothing → rest ≢ [])

@@ -5,7 +5,7 @@ use address_map::Region;
 use std::marker::Model;
 
 /// How many rows a certificate may have.
-pub const ROW_LIMIT: usize = 65_535;
+pub(crate) const ROW_LIMIT: usize = 65_535;
 
 /// What is known of the stack pointer and the NMI at a row.
 #[derive(Clone, Copy, Debug, PartialEq, Eq)]
@@ -56,7 +56,7 @@ impl Model for Certificate {
 
 impl Certificate {
     /// A certificate of these parts.
-    pub fn of(rom_len: u16, region: Region, main: Proc, rows: Vec<Row>) -> Certificate
+    pub(crate) fn of(rom_len: u16, region: Region, main: Proc, rows: Vec<Row>) -> Certificate
         requires rise { RowsRise rows.items }
         requires few { length rows.items ≤ MAX_ROW_COUNT }
         ensures { result ≡ record { rom_len = rom_len; region = region; main = main; rows = rows.items } }

@@ -1,7 +1,7 @@
-ghost use Rattle.std.specs.Prelude.{◌≡◌, ◌≢◌, ◌<◌, ◌∷◌, ◌==◌, ◌↔◌, [], ◌++◌, IsTrue, MatchOption, replicate};
+ghost use Rattle.std.specs.Prelude.{◌≡◌, ◌<◌, ◌∷◌, ◌==◌, ◌↔◌, [], ◌++◌, IsTrue, MatchOption, replicate};
 ghost use Rattle.std.specs.List.{slice_split, position};
 ghost use Rattle.std.specs.Fmt.{decimal};
-ghost use Rattle.certificate.specs.Fields.{TakesField, TakesWord, TakesFields, Reads, IsWord, fields_in, hex_digit, hex4};
+ghost use Rattle.certificate.specs.Fields.{BeginsDecimal, TakesField, TakesWord, TakesFields, Reads, IsWord, fields_in, hex_digit, hex4};
 
 use std::marker::Model;
 
@@ -91,14 +91,22 @@ impl<'a> Fields<'a> {
     }
 }
 
+/// Whether a decimal may begin so: there is a byte, it is no sign, and no other byte follows a zero.
+fn begins_decimal(field: &[u8]) -> bool
+    ensures { IsTrue result ↔ BeginsDecimal field.now }
+{
+    match field {
+        [] | [b'+', ..] => false,
+        [b'0', ..] => field.len() == 1,
+        _ => true,
+    }
+}
+
 /// A number from 0 to 65,535 in decimal, without leading zeros.
 pub fn decimal_field(field: &[u8]) -> Option<u16>
     ensures { Reads decimal IsWord field.now result }
 {
-    if field.is_empty() || field[0] == b'+' {
-        return None;
-    }
-    if field[0] == b'0' && field.len() != 1 {
+    if !begins_decimal(field) {
         return None;
     }
     let Ok(text) = str::from_utf8(field) else {
@@ -118,8 +126,8 @@ fn hex_digit_value(byte: u8) -> Option<u16>
     }
 }
 
-#[tactic(auto, unfolding(crate::specs::Fields::hex4))]
 /// A number from 0 to 65,535 as four hexadecimal digits, upper case.
+#[tactic(auto, unfolding(crate::specs::Fields::hex4))]
 pub fn hex4_field(field: &[u8]) -> Option<u16>
     ensures { Reads hex4 IsWord field.now result }
 {

@@ -1,4 +1,4 @@
-ghost use Rattle.std.specs.Prelude.{◌≡◌, ◌∷◌, [], ◌↔◌, ◌++◌, IsTrue, codes, ℕ, List};
+ghost use Rattle.std.specs.Prelude.{◌≡◌, ◌∷◌, [], ◌↔◌, IsTrue, codes};
 ghost use Rattle.std.specs.Fmt.{decimal};
 ghost use Rattle.certificate.specs.Fields.{Reads, IsWord, fields_in, Always, hex4};
 ghost use Rattle.certificate.specs.Line.{IsInRange, mode_letter, unknown_fields, keyword_text, fields_of};
@@ -8,7 +8,7 @@ use crate::fields::{Fields, decimal_field, hex4_field};
 use address_map::Region;
 
 /// One line of a certificate's text, with what it says.
-#[derive(Clone, Copy, Debug, PartialEq, Eq)]
+#[derive(Clone, Copy)]
 pub enum Line {
     Header,
     Rom(u16),
@@ -20,7 +20,7 @@ pub enum Line {
 }
 
 /// The first field of a line, which tells its kind.
-#[derive(Clone, Copy, Debug, PartialEq, Eq)]
+#[derive(Clone, Copy)]
 pub enum Keyword {
     Galcert,
     Rom,
@@ -126,8 +126,8 @@ fn row_fields(mut fields: Fields) -> Option<Row>
 }
 
 impl Line {
-    #[tactic(auto, unfolding(crate::specs::Line::fields_of))]
     /// The line that has this text, which comes without its LF.
+    #[tactic(auto, unfolding(crate::specs::Line::fields_of))]
     pub fn of(text: &[u8]) -> Option<Line>
         ensures { Reads fields_of IsInRange (fields_in text.now) result }
     {

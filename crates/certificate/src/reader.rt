@@ -1,4 +1,4 @@
-ghost use Rattle.std.specs.Prelude.{◌≡◌, ◌≢◌, ◌∷◌, [], ◌++◌, ◌↔◌, IsTrue, suc, length, IfOk, MatchResult, OnErr, OnOk, OnSome, MatchOption};
+ghost use Rattle.std.specs.Prelude.{◌≡◌, ◌∷◌, [], ◌++◌, ◌↔◌, IsTrue, suc, length, OnErr, OnOk};
 ghost use Rattle.certificate.specs.Contents.{RowsRise};
 ghost use Rattle.certificate.specs.Line.{IsInRange};
 ghost use Rattle.certificate.specs.Reader.{IsProgress, lines_read, next_stage, TakesLine, TakesText, Ends};
@@ -12,7 +12,7 @@ use std::alloc::Global;
 use std::marker::Model;
 
 /// Which line comes next.
-#[derive(Clone, Copy, Debug, PartialEq, Eq)]
+#[derive(Clone, Copy, PartialEq, Eq)]
 pub enum Stage {
     Header,
     Rom,
@@ -157,11 +157,11 @@ impl Reader {
         }
     }
 
-    /// The certificate, if all of its lines were read.
-    pub fn end(self) -> Result<Certificate, CertFault>
-        ensures { Ends self result }
+    /// The certificate, if all of its lines were read and no byte is left.
+    pub fn end(self, rest: &[u8]) -> Result<Certificate, CertFault>
+        ensures { Ends self rest.now result }
     {
-        if self.stage != Stage::Nothing {
+        if self.stage != Stage::Nothing || !rest.is_empty() {
             return Err(CertFault::Line(self.number()));
         }
         let Reader {

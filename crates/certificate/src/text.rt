@@ -30,8 +30,5 @@ pub fn read(alloc: Global, bytes: &[u8]) -> Result<Certificate, CertFault>
         reader.line(line)?;
         rest = after;
     }
-    if !rest.is_empty() {
-        return Err(CertFault::Line(reader.number()));
-    }
-    reader.end()
+    reader.end(rest)
 }

@@ -1,7 +1,7 @@
-use Rattle.std.proofs.Common.{length, arith, sym, ap, refl, ◌∙◌, tests}
+use Rattle.std.proofs.Common.{sym, ◌∙◌}
 use Rattle.std.proofs.lemmas.Result.{err_from_is_err_and}
-use Rattle.certificate.proofs.TextLemmas.{HasLine, stands_first, stands_next, refused_line, refused_limit, refused_memory, refused_only, ended_line, line_number, same_fault}
-use Rattle.certificate.proofs.WholeLemmas.{nothing_behind, ended_only, ended_number}
+use Rattle.certificate.proofs.TextLemmas.{HasLine, stands_first, stands_next, refused_line, refused_limit, refused_memory, refused_only, ended_line, same_fault}
+use Rattle.certificate.proofs.WholeLemmas.{ended_only, ended_number}
 use Rattle.certificate.proofs.text.read.Goals as goal
 
 pub loop-line-init : goal.loop-line-init
@@ -36,19 +36,10 @@ returns-in_err-line-clause-memory c same =
     let next : HasLine c.loop-line.rest.now c.in-Some.line.now c.in-Some.after.now = record { text = c.in-Some.ensures.cut; parts = c.in-Some.ensures.parts } in
     refused_memory (Unit {0}) _ c.loop-line.reader c.line.new.self _ _ _ c.in_err-line.field-0.0 c.loop-line.invariant next c.in_err-line.ensures.line (sym p.2 ∙ same_fault _ _ _ p.1 same)
 
-pub returns-then-not-is_empty-clause-only : goal.returns-then-not-is_empty-clause-only
-returns-then-not-is_empty-clause-only c d form e =
-    let empty = nothing_behind _ c.loop-line.reader c.loop-line.rest.now c.loop-line.invariant c.in_default.ensures.cut d form e in
-    absurd (omega (arith, tests, ap length empty, c.if-not-is_empty.ensures))
-
-pub returns-then-not-is_empty-clause-line : goal.returns-then-not-is_empty-clause-line
-returns-then-not-is_empty-clause-line c n same =
-    ended_line _ c.loop-line.reader c.loop-line.rest.now c.loop-line.invariant c.in_default.ensures.cut n (line_number _ _ (same_fault _ _ _ refl same) ∙ c.number.ensures)
-
 pub returns-clause-only : goal.returns-clause-only
 returns-clause-only c =
     ended_only c.args.bytes.now c.loop-line.reader c.loop-line.rest.now c.end.result c.loop-line.invariant c.in_default.ensures.cut c.end.ensures
 
 pub returns-clause-line : goal.returns-clause-line
 returns-clause-line c n same =
-    ended_line _ c.loop-line.reader c.loop-line.rest.now c.loop-line.invariant c.in_default.ensures.cut n (ended_number c.loop-line.reader c.end.result n c.end.ensures same)
+    ended_line _ c.loop-line.reader c.loop-line.rest.now c.loop-line.invariant c.in_default.ensures.cut n (ended_number c.loop-line.reader c.loop-line.rest.now c.end.result n c.end.ensures same)
