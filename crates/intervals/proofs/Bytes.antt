@@ -1,7 +1,7 @@
 -- Bounds on logic of bytes, and the two rotations as sums.
-use Rattle.std.proofs.Common.{◌≡◌, ℕ, ◌+◌, ◌*◌, ◌/◌, ◌%◌, ◌^◌, ◌<◌, ◌≤◌, min, max, Bool, true, false, cond, leb, List, [], ◌∷◌, Some, None, refl, sym, ◌∙◌, ap, arith, rules, bit_and, bit_or, bit_xor, find, unwrap_or}
+use Rattle.std.proofs.Common.{◌≡◌, ℕ, ◌+◌, ◌*◌, ◌/◌, ◌%◌, ◌^◌, ◌<◌, ◌≤◌, max, Bool, true, false, cond, leb, List, [], ◌∷◌, Some, refl, ◌∙◌, ap, arith, bit_or, bit_xor, find, unwrap_or}
 use Rattle.std.specs.Int.{w8, rotate_left, rotate_right}
-use Rattle.std.proofs.lemmas.Nat.{or_lt, xor_lt, or_shifted, or_comm, le_or_l, le_or_r, and_le_l, and_le_r, pow_below}
+use Rattle.std.proofs.lemmas.Nat.{or_lt, xor_lt, or_shifted, or_comm, le_or_l, le_or_r, pow_below}
 use Rattle.std.proofs.lemmas.Bool.Decides.{nat_tests}
 use Rattle.intervals.specs.Range.{Interval, Within}
 use Rattle.intervals.specs.Logic.{ones_from, rotation_left, rotation_right, with_bit_set}

@@ -1,5 +1,5 @@
 -- Logic, shifts and rotates of ranges of bytes (docs/CHECKER.md, "The window rule and the table of results").
-use Rattle.std.specs.Prelude.{ℕ, ◌+◌, ◌-◌, ◌*◌, ◌/◌, ◌%◌, ◌^◌, ◌==◌, ◌&&◌, Bool, min, max, nat_le, if◌then◌else◌, List, [], ◌∷◌, find, unwrap_or, bit_and, bit_or, bit_xor}
+use Rattle.std.specs.Prelude.{ℕ, ◌+◌, ◌-◌, ◌*◌, ◌/◌, ◌%◌, ◌^◌, ◌==◌, ◌&&◌, Bool, min, max, nat_le, if◌then◌else◌, [], ◌∷◌, find, unwrap_or, bit_and, bit_or, bit_xor}
 use Rattle.intervals.specs.Range.{Interval, single, full}
 
 -- the range is one value

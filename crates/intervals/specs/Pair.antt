@@ -4,7 +4,7 @@ use Rattle.intervals.specs.declared.pair.Pair.{Pair}
 use Rattle.intervals.specs.declared.reg_pair.RegPair.{RegPair}
 use Rattle.intervals.specs.Domain.{Entry}
 use Rattle.intervals.specs.RegPair.{place_of}
-use Rattle.intervals.specs.Range.{Interval, Within, Covers, Meets, hull, full, intersection, without}
+use Rattle.intervals.specs.Range.{Interval, Within, Covers, Meets, hull, full, intersection}
 
 -- the word and both of its bytes lie in their ranges, and with an origin it is what that pair was at the entry
 pub record Holds (p : Pair) (entry : Entry) (v : ℕ) : Type 0 where
@@ -38,7 +38,7 @@ hull_of_pairs a b = record {
   word = hull a.word b.word;
   high = hull a.high b.high;
   low = hull a.low b.low;
-  origin = shared_origin a.origin b.origin
+  origin = shared_origin a.origin b.origin;
 }
 
 -- the words that the ends of two ranges of bytes make

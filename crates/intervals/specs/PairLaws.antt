@@ -58,7 +58,7 @@ shared_second None b = tt
 shared_second (Some r) None = tt
 shared_second (Some r) (Some s) =
     let at : (t : Bool) → eqb (place_of r) (place_of s) ≡ t → CoversOrigin (cond t (Some r) None) (Some s) =
-        elim [ true ↦ λ e. ap Some (sym (same_from_place r s (search rules))) | false ↦ λ e. tt ] in
+    elim [ true ↦ λ e. ap Some (sym (same_from_place r s (search rules))) | false ↦ λ e. tt ] in
     at (eqb (place_of r) (place_of s)) refl
 
 pub covers_itself : (a : Pair) → CoversPair a a
@@ -70,7 +70,7 @@ covers_along a b c h k = record {
   word = omega arith;
   high = omega arith;
   low = omega arith;
-  origin = origin_covers_along a.origin b.origin c.origin h.origin k.origin
+  origin = origin_covers_along a.origin b.origin c.origin h.origin k.origin;
 }
 
 pub holds_wider : (a b : Pair) (entry : Entry) (v : ℕ) → CoversPair a b → Holds b entry v → Holds a entry v
@@ -78,7 +78,7 @@ holds_wider a b entry v h k = record {
   word = omega arith;
   high = omega arith;
   low = omega arith;
-  origin = origin_wider a.origin b.origin (λ r. v ≡ entry r) h.origin k.origin
+  origin = origin_wider a.origin b.origin (λ r. v ≡ entry r) h.origin k.origin;
 }
 
 pub hull_covers_first : (a b : Pair) → CoversPair (hull_of_pairs a b) a
@@ -86,7 +86,7 @@ hull_covers_first a b = record {
   word = omega arith;
   high = omega arith;
   low = omega arith;
-  origin = shared_first a.origin b.origin
+  origin = shared_first a.origin b.origin;
 }
 
 pub hull_covers_second : (a b : Pair) → CoversPair (hull_of_pairs a b) b
@@ -94,5 +94,5 @@ hull_covers_second a b = record {
   word = omega arith;
   high = omega arith;
   low = omega arith;
-  origin = shared_second a.origin b.origin
+  origin = shared_second a.origin b.origin;
 }

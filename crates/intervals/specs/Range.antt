@@ -1,5 +1,5 @@
 -- Ranges of bytes and of words (docs/CHECKER.md, "Ranges and their normal form").
-use Rattle.std.specs.Prelude.{◌≡◌, ℕ, ◌+◌, ◌-◌, ◌≤◌, min, max, ◌==◌, nat_le, if◌then◌else◌, Option, Some, None}
+use Rattle.std.specs.Prelude.{ℕ, ◌+◌, ◌-◌, ◌≤◌, min, max, ◌==◌, nat_le, if◌then◌else◌, Option, Some, None}
 
 -- the whole numbers from low to high, both included
 pub record Interval : Type 0 where
