@@ -73,7 +73,7 @@ impl ByteRange {
     pub fn at_least(low: u8) -> ByteRange
         ensures { result ≡ record { low = low; high = 255 } }
     {
-        ByteRange { low, high: u8::MAX }
+        ByteRange::of_ends(low, u8::MAX)
     }
 
     /// The least byte.

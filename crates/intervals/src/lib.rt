@@ -8,6 +8,8 @@ mod logic;
 mod pair;
 mod reg_pair;
 mod sums;
+#[cfg(test)]
+mod tests;
 mod word_range;
 
 pub use byte_range::ByteRange;

@@ -73,10 +73,7 @@ impl WordRange {
     pub fn at_least(low: u16) -> WordRange
         ensures { result ≡ record { low = low; high = 65535 } }
     {
-        WordRange {
-            low,
-            high: u16::MAX,
-        }
+        WordRange::of_ends(low, u16::MAX)
     }
 
     /// The least word.
