@@ -1,0 +1,5 @@
+pub mod Variable
+pub mod Linear
+pub mod LinearLaws
+pub mod Effect
+pub mod Ranges

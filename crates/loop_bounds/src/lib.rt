@@ -1,0 +1,13 @@
+// Linear bounds over the registers and the stack slots of a row (docs/CHECKER.md, "Linear bounds, effects and
+// tightening"). It stands on `intervals` alone.
+#![tactic(auto)]
+
+mod effect;
+mod linear;
+mod ranges;
+mod variable;
+
+pub use effect::{Change, Effect, SlotChange};
+pub use linear::{Linear, Term};
+pub use ranges::{Ranges, Tightenable};
+pub use variable::{Part, SlotNumber, Variable};
