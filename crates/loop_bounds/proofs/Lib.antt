@@ -1,1 +1,4 @@
 pub mod LinearLemmas
+pub mod VariableLemmas
+pub mod Boxes
+pub mod FormLemmas

@@ -3,3 +3,5 @@ pub mod Linear
 pub mod LinearLaws
 pub mod Effect
 pub mod Ranges
+pub mod Bounds
+pub mod Form

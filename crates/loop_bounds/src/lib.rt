@@ -3,6 +3,7 @@
 #![tactic(auto)]
 
 mod effect;
+mod form;
 mod linear;
 mod ranges;
 mod variable;

@@ -1,0 +1,98 @@
+ghost use Rattle.std.specs.Prelude.{◌≡◌, ◌≢◌, ℕ, ◌+◌, ◌*◌, ◌<◌, ◌≤◌, ◌^◌, ◌↔◌, IsTrue, [], length, MatchOption, All, HoldsAt, ℤ, pos, ◌+ℤ◌, ◌*ℤ◌, ◌≤ℤ◌, unsigned_abs, FitsSigned};
+ghost use Rattle.std.specs.Int.{w32};
+ghost use Rattle.loop_bounds.specs.declared.variable.Variable.{Variable};
+ghost use Rattle.loop_bounds.specs.Linear.{total, value};
+ghost use Rattle.loop_bounds.specs.Effect.{Valuation, whole};
+ghost use Rattle.loop_bounds.specs.Ranges.{LiesIn};
+ghost use Rattle.loop_bounds.specs.Form.{weight};
+
+use crate::linear::Term;
+use crate::ranges::Ranges;
+use crate::variable::Variable;
+use std::marker::Model;
+
+/// A sum of at most six terms with distinct variables, in any order, whose coefficients may be 0.
+#[derive(Drop)]
+pub struct Form {
+    constant: i128,
+    terms: [Term; 6],
+    count: usize,
+}
+
+impl Model for Form {
+    ghost use Rattle.std.specs.Prelude.{take};
+    ghost use Rattle.loop_bounds.specs.Linear.{Sum};
+    ghost use Rattle.loop_bounds.specs.Form.{IsForm};
+
+    ghost Value = { Sum };
+
+    ghost view = { λ f. record { constant = f.constant; terms = take f.count f.terms } };
+
+    ghost invariant = { λ f. IsForm f.terms f.count };
+}
+
+/// The term with something added to its coefficient.
+fn raised(term: &Term, by: i32) -> Term
+    requires { FitsSigned w32 (term.now.coefficient +ℤ by) }
+    ensures { result ≡ record term.now { coefficient = term.now.coefficient +ℤ by } }
+{
+    Term {
+        coefficient: term.coefficient + by,
+        variable: term.variable,
+    }
+}
+
+/// The place of the first term with a variable.
+fn position(terms: &[Term], variable: &Variable) -> Option<usize>
+    ensures { MatchOption result (All (λ t. t.variable ≢ variable.now) terms.now)
+        (λ k. (k < length terms.now) × HoldsAt (λ t. t.variable ≡ variable.now) terms.now k) }
+{
+    terms.iter().position(|term| term.variable == *variable)
+}
+
+impl Form {
+    /// A constant.
+    pub fn new(constant: i128) -> Form
+        ensures { result ≡ record { constant = constant; terms = [] } }
+    {
+        let unused = Term {
+            coefficient: 0,
+            variable: Variable::A,
+        };
+        Form {
+            constant,
+            terms: [unused; 6],
+            count: 0,
+        }
+    }
+
+    /// Adds to the constant.
+    pub fn raise(&mut self, by: i128)
+        requires { unsigned_abs self.old.constant + unsigned_abs by < 2 ^ 100 }
+        ensures { self.new ≡ record self.old { constant = self.old.constant +ℤ by } }
+    {
+        self.constant += by;
+    }
+
+    /// Adds a multiple of a variable.
+    pub fn add(&mut self, term: Term)
+        requires room { length self.old.terms < 6 }
+        requires fits { weight self.old.terms + unsigned_abs term.coefficient < 2 ^ 31 }
+        ensures total { (x : Variable → ℤ) → total x self.new.terms
+            ≡ total x self.old.terms +ℤ term.coefficient *ℤ x term.variable }
+        ensures constant { self.new.constant ≡ self.old.constant }
+        ensures count { length self.new.terms ≤ length self.old.terms + 1 }
+        ensures weight { weight self.new.terms ≤ weight self.old.terms + unsigned_abs term.coefficient }
+    {
+        match position(&self.terms[..self.count], &term.variable) {
+            Some(place) => {
+                let raised = raised(&self.terms[place], term.coefficient);
+                self.terms[place] = raised;
+            }
+            None => {
+                self.terms[self.count] = term;
+                self.count += 1;
+            }
+        }
+    }
+}
