@@ -1,9 +1,12 @@
 -- The least value of a sum over a box: it is a bound, and it is reached.
-use Rattle.std.proofs.Common.{◌≡◌, ◌≢◌, ℕ, suc, ◌+◌, ◌*◌, ◌<◌, ◌≤◌, Bool, true, false, cond, eqb, List, [], ◌∷◌, ◌++◌, length, get_or, set, take, ℤ, pos, negsuc, neg_ℤ, ◌+ℤ◌, ◌-ℤ◌, ◌*ℤ◌, ◌≤ℤ◌, refl, sym, subst, ap, ◌∙◌, arith, rules, All, AllPairs, unsigned_abs, sum_by}
+use Rattle.std.proofs.Common.{◌≡◌, ◌≢◌, ℕ, suc, ◌+◌, ◌*◌, ◌<◌, ◌≤◌, ◌^◌, Bool, true, false, cond, eqb, List, [], ◌∷◌, ◌++◌, length, get_or, set, take, ℤ, pos, negsuc, neg_ℤ, ◌+ℤ◌, ◌-ℤ◌, ◌*ℤ◌, ◌≤ℤ◌, refl, sym, subst, ap, ◌∙◌, arith, rules, All, AllPairs, unsigned_abs, sum_by, take_all}
 use Rattle.std.proofs.Math.IntN.{pos-*ℤ-pos, negsuc-*ℤ-pos, zero-*ℤ, +ℤ_assoc, +ℤ_idl, +ℤ_idr, +ℤ_comm}
-use Rattle.std.proofs.lemmas.Int.{ints}
+use Rattle.std.proofs.lemmas.Int.{ints, unsigned_abs-mul}
 use Rattle.std.proofs.lemmas.Nat.{mul-le}
-use Rattle.std.proofs.lemmas.List.Elements.{All-head, All-tail}
+use Rattle.std.proofs.lemmas.List.{take_more}
+use Rattle.std.proofs.lemmas.List.Sums.{sum_by-append, sum_by-take-le}
+use Rattle.loop_bounds.proofs.FormLemmas.{abs_sum}
+use Rattle.std.proofs.lemmas.List.Elements.{All-head, All-tail, All-push}
 use Rattle.intervals.specs.Range.{Interval, Within}
 use Rattle.loop_bounds.specs.declared.variable.Variable.{Variable}
 use Rattle.loop_bounds.specs.declared.linear.Term.{Term}
@@ -12,7 +15,7 @@ use Rattle.loop_bounds.specs.Linear.{Sum, total, value}
 use Rattle.loop_bounds.specs.Effect.{Valuation, whole}
 use Rattle.loop_bounds.specs.Ranges.{Box, LiesIn}
 use Rattle.loop_bounds.proofs.VariableLemmas.{same_from_place, choice_same, choice_other}
-use Rattle.loop_bounds.specs.Form.{AreDistinct, weight, end_of, least_total}
+use Rattle.loop_bounds.specs.Form.{AreDistinct, weight, end_of, least_total, IsNonEmpty, IsLeastSoFar}
 
 -- a multiple is least at its end
 multiple_bound : (c : ℤ) (r : Interval) (x : ℕ) → Within r x → (c *ℤ pos (end_of r c)) ≤ℤ (c *ℤ pos x)
@@ -20,9 +23,6 @@ multiple_bound (pos n) r x h =
     rw (pos-*ℤ-pos n r.low, pos-*ℤ-pos n x) (omega (arith, ints, mul-le n r.low n x (omega arith) h.0))
 multiple_bound (negsuc n) r x h =
     rw (negsuc-*ℤ-pos n r.high, negsuc-*ℤ-pos n x) (omega (arith, ints, mul-le (suc n) x (suc n) r.high (omega arith) h.1))
-
-abbrev pub IsNonEmpty : Box → Term → Type 0
-IsNonEmpty box t = (box t.variable).low ≤ (box t.variable).high
 
 pub least_bound : (box : Box) (ts : List Term) → All (IsNonEmpty box) ts → (x : Valuation) → LiesIn box x → least_total box ts ≤ℤ total (whole x) ts
 least_bound box [] h x inside = omega (arith, ints)
@@ -58,10 +58,10 @@ total_agree x y (t ∷ ts) h =
     let rest = total_agree x y ts (All-tail (λ u. x u.variable ≡ y u.variable) t ts h) in
     ap (λ z. t.coefficient *ℤ z +ℤ total x ts) first ∙ ap (λ z. t.coefficient *ℤ y t.variable +ℤ z) rest
 
-distinct_head : (t : Term) (ts : List Term) → AreDistinct (t ∷ ts) → All (λ u. t.variable ≢ u.variable) ts
+pub distinct_head : (t : Term) (ts : List Term) → AreDistinct (t ∷ ts) → All (λ u. t.variable ≢ u.variable) ts
 distinct_head t ts h k d p = h 0 (suc k) d (omega arith) (omega arith)
 
-distinct_tail : (t : Term) (ts : List Term) → AreDistinct (t ∷ ts) → AreDistinct ts
+pub distinct_tail : (t : Term) (ts : List Term) → AreDistinct (t ∷ ts) → AreDistinct ts
 distinct_tail t ts h i j d p q = h (suc i) (suc j) d (omega arith) (omega arith)
 
 worst_reached : (box : Box) (ts : List Term) → AreDistinct ts → total (whole (worst box ts)) ts ≡ least_total box ts
@@ -78,3 +78,59 @@ worst_reached box (t ∷ ts) h =
 -- the least total over the box is reached
 pub least_reached : (box : Box) (ts : List Term) → AreDistinct ts → (x : Valuation) × LiesIn box x × (total (whole x) ts ≡ least_total box ts)
 least_reached box ts h = (worst box ts, worst_inside box ts, worst_reached box ts h)
+
+least_total_push : (box : Box) (ts : List Term) (t : Term) → least_total box (ts ++ t ∷ []) ≡ least_total box ts +ℤ t.coefficient *ℤ pos (end_of (box t.variable) t.coefficient)
+least_total_push box [] t = omega (arith, ints)
+least_total_push box (u ∷ ts) t = omega (arith, ints, least_total_push box ts t)
+
+end_below : (c : ℤ) (r : Interval) → r.low ≤ r.high → r.high ≤ 65535 → end_of r c ≤ 65535
+end_below (pos n) r h k = omega arith
+end_below (negsuc n) r h k = k
+
+multiple_size : (c : ℤ) (n : ℕ) → n ≤ 65535 → unsigned_abs (c *ℤ pos n) ≤ 65535 * unsigned_abs c
+multiple_size c n h = rw unsigned_abs-mul (omega (arith, mul-le (unsigned_abs c) n (unsigned_abs c) 65535 (omega arith) h))
+
+pub least_none : (box : Box) (c : ℤ) → IsLeastSoFar box c [] c
+least_none box c = record { exact = sym (+ℤ_idr c); ranges = λ k d p. absurd (omega arith); size = omega arith }
+
+pub least_push : (box : Box) (c : ℤ) (ts : List Term) (t : Term) (r : Interval) (least m : ℤ) → IsLeastSoFar box c ts least → r ≡ box t.variable → m ≡ t.coefficient *ℤ pos (end_of r t.coefficient) → r.low ≤ r.high → r.high ≤ 65535 → IsLeastSoFar box c (ts ++ t ∷ []) (least +ℤ m)
+least_push box c ts t r least m h e is ordered within =
+    let here : m ≡ t.coefficient *ℤ pos (end_of (box t.variable) t.coefficient) = is ∙ ap (λ (q : Interval). t.coefficient *ℤ pos (end_of q t.coefficient)) e in
+    let low : unsigned_abs (t.coefficient *ℤ pos (end_of r t.coefficient)) ≤ 65535 * unsigned_abs t.coefficient =
+        multiple_size t.coefficient (end_of r t.coefficient) (end_below t.coefficient r ordered within) in
+    let small : unsigned_abs m ≤ 65535 * unsigned_abs t.coefficient = rw is low in
+    let heavier = sum_by-append (λ (u : Term). unsigned_abs u.coefficient) ts (t ∷ []) in
+    let sum : unsigned_abs (least +ℤ m) ≤ unsigned_abs least + unsigned_abs m = abs_sum least m in
+    let there : IsNonEmpty box t = subst (λ (q : Interval). q.low ≤ q.high) e ordered in
+    record {
+        exact = omega (arith, ints, h.exact, here, least_total_push box ts t);
+        ranges = All-push (IsNonEmpty box) ts t h.ranges there;
+        size = omega (arith, h.size, heavier)
+    }
+
+pub least_more : (box : Box) (c : ℤ) (ts : List Term) (k : ℕ) (t : Term) (r : Interval) (least m : ℤ) → IsLeastSoFar box c (take k ts) least → k < length ts → t ≡ get_or ts k t → r ≡ box t.variable → m ≡ t.coefficient *ℤ pos (end_of r t.coefficient) → r.low ≤ r.high → r.high ≤ 65535 → IsLeastSoFar box c (take (k + 1) ts) (least +ℤ m)
+least_more box c ts k t r least m h inside at e is ordered within =
+    let more : take (k + 1) ts ≡ take k ts ++ t ∷ [] = take_more ts k t inside ∙ ap (λ (u : Term). take k ts ++ u ∷ []) (sym at) in
+    rw more (least_push box c (take k ts) t r least m h e is ordered within)
+
+-- the size of the least value of a sum that has not too great coefficients
+pub least_fits : (box : Box) (c : ℤ) (ts : List Term) (k : ℕ) (least : ℤ) → IsLeastSoFar box c (take k ts) least → unsigned_abs c < 2 ^ 60 → weight ts < 2 ^ 31 → unsigned_abs least < 2 ^ 61
+least_fits box c ts k least h small light =
+    let part = sum_by-take-le (λ (u : Term). unsigned_abs u.coefficient) ts k in
+    omega (arith, h.size, part)
+
+module _ (box : Box) (s : Sum) (ts : List Term) (k : ℕ) (least : ℤ) (h : IsLeastSoFar box s.constant (take k ts) least) (all : length ts ≤ k) (e : ts ≡ s.terms) where
+  seen : take k ts ≡ s.terms
+  seen = take_all k ts all ∙ e
+
+  pub whole_bound : (x : Valuation) → LiesIn box x → least ≤ℤ value (whole x) s
+  whole_bound x inside =
+      let bound = least_bound box (take k ts) h.ranges x inside in
+      let same : total (whole x) (take k ts) ≡ total (whole x) s.terms = ap (total (whole x)) seen in
+      omega (arith, ints, h.exact, bound, same)
+
+  pub whole_reached : AreDistinct ts → (x : Valuation) × LiesIn box x × (value (whole x) s ≡ least)
+  whole_reached apart =
+      let r = least_reached box s.terms (subst AreDistinct e apart) in
+      let same : least_total box (take k ts) ≡ least_total box s.terms = ap (least_total box) seen in
+      (r.0, r.1, omega (arith, ints, h.exact, same, r.2))

@@ -41,7 +41,7 @@ total_set x (t ∷ ts) zero d f v h e =
 total_set x (t ∷ ts) (suc k) d f v h e =
     omega (arith, ints, total_set x ts k d f v (omega arith) e)
 
-abs_sum : (a b : ℤ) → unsigned_abs (a +ℤ b) ≤ unsigned_abs a + unsigned_abs b
+pub abs_sum : (a b : ℤ) → unsigned_abs (a +ℤ b) ≤ unsigned_abs a + unsigned_abs b
 abs_sum a b = omega (arith, ints)
 
 weight_set : (ts : List Term) (k : ℕ) (d t : Term) (f : ℤ) → k < length ts → t.coefficient ≡ (get_or ts k d).coefficient +ℤ f → weight (set ts k t) ≤ weight ts + unsigned_abs f

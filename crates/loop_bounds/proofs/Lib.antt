@@ -1,4 +1,6 @@
 pub mod LinearLemmas
 pub mod VariableLemmas
-pub mod Boxes
 pub mod FormLemmas
+pub mod Boxes
+pub mod Signed
+pub mod Zeros

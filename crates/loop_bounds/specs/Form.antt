@@ -1,5 +1,5 @@
 -- Sums of terms with distinct variables, as the decisions keep them.
-use Rattle.std.specs.Prelude.{◌≡◌, ◌≢◌, ℕ, ◌≤◌, List, [], ◌∷◌, length, take, ℤ, pos, negsuc, ◌+ℤ◌, ◌*ℤ◌, unsigned_abs, sum_by, AllPairs}
+use Rattle.std.specs.Prelude.{◌≡◌, ◌≢◌, ℕ, ◌+◌, ◌*◌, ◌≤◌, List, [], ◌∷◌, length, take, ℤ, pos, negsuc, ◌+ℤ◌, ◌*ℤ◌, unsigned_abs, sum_by, All, AllPairs}
 use Rattle.intervals.specs.Range.{Interval}
 use Rattle.loop_bounds.specs.declared.linear.Term.{Term}
 use Rattle.loop_bounds.specs.Ranges.{Box}
@@ -22,8 +22,18 @@ abbrev pub least_total : Box → List Term → ℤ
 least_total box [] = pos 0
 least_total box (t ∷ ts) = t.coefficient *ℤ pos (end_of (box t.variable) t.coefficient) +ℤ least_total box ts
 
+-- the range of the term's variable holds a value
+abbrev pub IsNonEmpty : Box → Term → Type 0
+IsNonEmpty box t = (box t.variable).low ≤ (box t.variable).high
+
 -- the first of six places hold the terms
 pub record IsForm (terms : List Term) (count : ℕ) : Type 0 where
   pub places : length terms ≡ 6
   pub within : count ≤ 6
   pub distinct : AreDistinct (take count terms)
+
+-- what the least value of a sum is over a box, as far as its terms were seen
+pub record IsLeastSoFar (box : Box) (constant : ℤ) (seen : List Term) (least : ℤ) : Type 0 where
+  pub exact : least ≡ constant +ℤ least_total box seen
+  pub ranges : All (IsNonEmpty box) seen
+  pub size : unsigned_abs least ≤ unsigned_abs constant + 65535 * weight seen

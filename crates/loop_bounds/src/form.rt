@@ -4,11 +4,12 @@ ghost use Rattle.loop_bounds.specs.declared.variable.Variable.{Variable};
 ghost use Rattle.loop_bounds.specs.Linear.{total, value};
 ghost use Rattle.loop_bounds.specs.Effect.{Valuation, whole};
 ghost use Rattle.loop_bounds.specs.Ranges.{LiesIn};
-ghost use Rattle.loop_bounds.specs.Form.{weight};
+ghost use Rattle.loop_bounds.specs.Form.{weight, end_of};
 
 use crate::linear::Term;
 use crate::ranges::Ranges;
 use crate::variable::Variable;
+use intervals::WordRange;
 use std::marker::Model;
 
 /// A sum of at most six terms with distinct variables, in any order, whose coefficients may be 0.
@@ -40,6 +41,24 @@ fn raised(term: &Term, by: i32) -> Term
         coefficient: term.coefficient + by,
         variable: term.variable,
     }
+}
+
+/// The least multiple of a value in the range.
+fn least_multiple(coefficient: i32, range: WordRange) -> i128
+    ensures value { result ≡ coefficient *ℤ pos (end_of range coefficient) }
+    ensures ordered { range.low ≤ range.high }
+    ensures within { range.high ≤ 65535 }
+{
+    let (low, high) = (range.low(), range.high());
+    let end = if coefficient >= 0 { low } else { high };
+    i128::from(coefficient) * i128::from(end)
+}
+
+/// Whether each coefficient is 0.
+fn all_zero(terms: &[Term]) -> bool
+    ensures { IsTrue result ↔ All (λ t. t.coefficient ≡ pos 0) terms.now }
+{
+    terms.iter().all(|term| term.coefficient == 0)
 }
 
 /// The place of the first term with a variable.
@@ -94,5 +113,30 @@ impl Form {
                 self.count += 1;
             }
         }
+    }
+
+    /// The least value over the ranges.
+    pub fn least<R: Ranges>(&self, ranges: &R) -> i128
+        requires small { unsigned_abs self.now.constant < 2 ^ 60 }
+        requires light { weight self.now.terms < 2 ^ 31 }
+        ensures bound { (x : Valuation) → LiesIn (R.range_of ranges.now) x → result ≤ℤ value (whole x) self.now }
+        ensures reached { (x : Valuation) × LiesIn (R.range_of ranges.now) x × (value (whole x) self.now ≡ result) }
+        ensures size { unsigned_abs result < 2 ^ 61 }
+    {
+        let mut least = self.constant;
+        for term in &self.terms[..self.count] {
+            least += least_multiple(term.coefficient, ranges.range(term.variable));
+        }
+        least
+    }
+
+    /// Whether the value is 0 wherever its variables are.
+    pub fn is_zero(&self) -> bool
+        ensures { IsTrue result ↔ ((x : Valuation) → value (whole x) self.now ≡ pos 0) }
+    {
+        if self.constant != 0 {
+            return false;
+        }
+        all_zero(&self.terms[..self.count])
     }
 }
