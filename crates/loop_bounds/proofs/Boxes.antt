@@ -87,7 +87,7 @@ end_below : (c : ℤ) (r : Interval) → r.low ≤ r.high → r.high ≤ 65535 �
 end_below (pos n) r h k = omega arith
 end_below (negsuc n) r h k = k
 
-multiple_size : (c : ℤ) (n : ℕ) → n ≤ 65535 → unsigned_abs (c *ℤ pos n) ≤ 65535 * unsigned_abs c
+pub multiple_size : (c : ℤ) (n : ℕ) → n ≤ 65535 → unsigned_abs (c *ℤ pos n) ≤ 65535 * unsigned_abs c
 multiple_size c n h = rw unsigned_abs-mul (omega (arith, mul-le (unsigned_abs c) n (unsigned_abs c) 65535 (omega arith) h))
 
 pub least_none : (box : Box) (c : ℤ) → IsLeastSoFar box c [] c

@@ -1,6 +1,6 @@
 -- A form after one more multiple of a variable.
-use Rattle.std.proofs.Common.{◌≡◌, ◌≢◌, ℕ, zero, suc, ◌+◌, ◌<◌, ◌≤◌, List, [], ◌∷◌, ◌++◌, length, get_or, set, take, ℤ, pos, negsuc, ◌+ℤ◌, ◌*ℤ◌, refl, sym, subst, ap, ◌∙◌, arith, All, AllPairs, HoldsAt, unsigned_abs, length-append}
-use Rattle.std.proofs.Math.IntN.{suc_ℤ, pred_ℤ, suc_ℤ-+ℤ, pred_ℤ-+ℤ, suc_ℤ-*ℤ, pred_ℤ-*ℤ, zero-*ℤ, +ℤ_idl, +ℤ_idr}
+use Rattle.std.proofs.Common.{◌≡◌, ◌≢◌, ℕ, zero, suc, ◌+◌, ◌<◌, ◌≤◌, List, [], ◌∷◌, ◌++◌, length, get_or, set, take, ℤ, pos, negsuc, ◌+ℤ◌, ◌-ℤ◌, ◌*ℤ◌, refl, sym, subst, ap, ◌∙◌, arith, All, AllPairs, HoldsAt, unsigned_abs, length-append}
+use Rattle.std.proofs.Math.IntN.{one, *ℤ-one, *ℤ_comm, suc_ℤ, pred_ℤ, suc_ℤ-+ℤ, pred_ℤ-+ℤ, suc_ℤ-*ℤ, pred_ℤ-*ℤ, zero-*ℤ, +ℤ_idl, +ℤ_idr}
 use Rattle.std.proofs.Math.Seq.{take-set-lt}
 use Rattle.std.proofs.lemmas.Int.{ints}
 use Rattle.std.proofs.lemmas.List.{take_more_set, get_or-set_same, get_or-set_other, get_or-take, length-take, length-set}
@@ -111,3 +111,25 @@ module _ (ts : List Term) (count : ℕ) (t : Term) (form : IsForm ts count) (roo
 
   pub pushed_total : (x : Variable → ℤ) → total x (take (count + 1) (set ts count t)) ≡ total x (take count ts) +ℤ t.coefficient *ℤ x t.variable
   pushed_total x = ap (total x) (take_more_set ts count t room_here) ∙ total_push x (take count ts) t
+
+pub raised_product : (c : ℤ) (n : ℕ) → c *ℤ (pos n +ℤ pos 1) ≡ c *ℤ pos n +ℤ c
+unfolding one
+raised_product c n =
+    let turned = *ℤ_comm c (pos n +ℤ pos 1) in
+    let split = product_of_sum (pos n) (pos 1) c in
+    let first = *ℤ_comm (pos n) c in
+    let once : c *ℤ pos 1 ≡ c = *ℤ-one c in
+    let second = *ℤ_comm (pos 1) c in
+    omega (arith, ints, turned, split, first, once, second)
+
+pub lowered_product : (c : ℤ) (n : ℕ) → c *ℤ (pos n -ℤ pos 1) ≡ c *ℤ pos n -ℤ c
+unfolding one
+lowered_product c n =
+    let split = product_of_sum (pos n -ℤ pos 1) (pos 1) c in
+    let back : pos n -ℤ pos 1 +ℤ pos 1 ≡ pos n = omega (arith, ints) in
+    let whole = ap (λ z. z *ℤ c) back in
+    let turned = *ℤ_comm c (pos n -ℤ pos 1) in
+    let first = *ℤ_comm (pos n) c in
+    let once : c *ℤ pos 1 ≡ c = *ℤ-one c in
+    let second = *ℤ_comm (pos 1) c in
+    omega (arith, ints, turned, split, whole, first, once, second)

@@ -4,3 +4,6 @@ pub mod FormLemmas
 pub mod Boxes
 pub mod Signed
 pub mod Zeros
+pub mod RewrittenLemmas
+pub mod NeverNegative
+pub mod BoundsLemmas

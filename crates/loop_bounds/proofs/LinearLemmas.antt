@@ -48,7 +48,7 @@ extended_from s t h room small before = record {
     rising = all_pairs_push IsBefore s.terms t h.rising before
 }
 
-at_end : (ts : List Term) (t d : Term) → get_or (ts ++ t ∷ []) (length ts) d ≡ t
+pub at_end : (ts : List Term) (t d : Term) → get_or (ts ++ t ∷ []) (length ts) d ≡ t
 at_end [] t d = refl
 at_end (x ∷ ts) t d = at_end ts t d
 

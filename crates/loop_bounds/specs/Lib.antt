@@ -5,3 +5,5 @@ pub mod Effect
 pub mod Ranges
 pub mod Bounds
 pub mod Form
+pub mod Signed
+pub mod Rewritten

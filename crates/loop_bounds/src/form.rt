@@ -43,6 +43,13 @@ fn raised(term: &Term, by: i32) -> Term
     }
 }
 
+/// A multiple of a value of a variable.
+pub fn multiple(coefficient: i32, value: u16) -> i128
+    ensures { result ≡ coefficient *ℤ pos value }
+{
+    i128::from(coefficient) * i128::from(value)
+}
+
 /// The least multiple of a value in the range.
 fn least_multiple(coefficient: i32, range: WordRange) -> i128
     ensures value { result ≡ coefficient *ℤ pos (end_of range coefficient) }
@@ -50,8 +57,7 @@ fn least_multiple(coefficient: i32, range: WordRange) -> i128
     ensures within { range.high ≤ 65535 }
 {
     let (low, high) = (range.low(), range.high());
-    let end = if coefficient >= 0 { low } else { high };
-    i128::from(coefficient) * i128::from(end)
+    multiple(coefficient, if coefficient >= 0 { low } else { high })
 }
 
 /// Whether each coefficient is 0.

@@ -2,12 +2,15 @@
 // tightening"). It stands on `intervals` alone.
 #![tactic(auto)]
 
+mod bounds;
 mod effect;
 mod form;
 mod linear;
 mod ranges;
+mod rewritten;
 mod variable;
 
+pub use bounds::{becomes, decreases, vanishes};
 pub use effect::{Change, Effect, SlotChange};
 pub use linear::{Linear, Term};
 pub use ranges::{Ranges, Tightenable};
