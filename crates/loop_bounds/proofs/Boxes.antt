@@ -18,7 +18,7 @@ use Rattle.loop_bounds.proofs.VariableLemmas.{same_from_place, choice_same, choi
 use Rattle.loop_bounds.specs.Form.{AreDistinct, weight, end_of, least_total, IsNonEmpty, IsLeastSoFar}
 
 -- a multiple is least at its end
-multiple_bound : (c : ℤ) (r : Interval) (x : ℕ) → Within r x → (c *ℤ pos (end_of r c)) ≤ℤ (c *ℤ pos x)
+pub multiple_bound : (c : ℤ) (r : Interval) (x : ℕ) → Within r x → (c *ℤ pos (end_of r c)) ≤ℤ (c *ℤ pos x)
 multiple_bound (pos n) r x h =
     rw (pos-*ℤ-pos n r.low, pos-*ℤ-pos n x) (omega (arith, ints, mul-le n r.low n x (omega arith) h.0))
 multiple_bound (negsuc n) r x h =

@@ -7,3 +7,4 @@ pub mod Zeros
 pub mod RewrittenLemmas
 pub mod NeverNegative
 pub mod BoundsLemmas
+pub mod TightenLemmas

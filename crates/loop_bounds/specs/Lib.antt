@@ -7,3 +7,4 @@ pub mod Bounds
 pub mod Form
 pub mod Signed
 pub mod Rewritten
+pub mod Tighten

@@ -45,14 +45,16 @@ fn raised(term: &Term, by: i32) -> Term
 
 /// A multiple of a value of a variable.
 pub fn multiple(coefficient: i32, value: u16) -> i128
-    ensures { result ≡ coefficient *ℤ pos value }
+    ensures value { result ≡ coefficient *ℤ pos value }
+    ensures size { unsigned_abs result ≤ 65535 * unsigned_abs coefficient }
 {
     i128::from(coefficient) * i128::from(value)
 }
 
 /// The least multiple of a value in the range.
-fn least_multiple(coefficient: i32, range: WordRange) -> i128
+pub fn least_multiple(coefficient: i32, range: WordRange) -> i128
     ensures value { result ≡ coefficient *ℤ pos (end_of range coefficient) }
+    ensures size { unsigned_abs result ≤ 65535 * unsigned_abs coefficient }
     ensures ordered { range.low ≤ range.high }
     ensures within { range.high ≤ 65535 }
 {

@@ -30,7 +30,7 @@ returns-in-Lowered-clause-value c = λ before free.
 pub returns-in-Constant-clause-value : goal.returns-in-Constant-clause-value
 returns-in-Constant-clause-value c = λ before free.
     let fits : FitsSigned w32 c.args.term.coefficient = search rules in
-    rw c.in-Constant.is (constant_value before free c.args.self.now.known c.raise-in-Constant.new.self c.args.self.now.unknown c.args.term.coefficient c.in-Constant.value _ c.raise-in-Constant.ensures (let m = simp to_z-of_z at c.multiple.ensures in let wide : FitsSigned w128 c.multiple.result = search rules in rw to_z-of_z m))
+    rw c.in-Constant.is (constant_value before free c.args.self.now.known c.raise-in-Constant.new.self c.args.self.now.unknown c.args.term.coefficient c.in-Constant.value _ c.raise-in-Constant.ensures (let m = simp to_z-of_z at c.multiple.ensures.value in let wide : FitsSigned w128 c.multiple.result = search rules in rw to_z-of_z m))
 
 pub returns-in-Unknown-clause-value : goal.returns-in-Unknown-clause-value
 returns-in-Unknown-clause-value c = λ before free.
@@ -41,5 +41,5 @@ pub returns-in-Constant-clause-room : goal.returns-in-Constant-clause-room
 returns-in-Constant-clause-room c =
     let fits : FitsSigned w32 c.args.term.coefficient = search rules in
     let wide : FitsSigned w128 c.multiple.result = search rules in
-    let m = simp to_z-of_z at c.multiple.ensures in
+    let m = simp to_z-of_z at c.multiple.ensures.value in
     constant_room c.args.self.now c.raise-in-Constant.new.self c.args.term.coefficient _ c.in-Constant.value c.requires.small (search rules) c.raise-in-Constant.ensures (rw to_z-of_z m)
