@@ -1,5 +1,5 @@
 -- What is left of one linear after another was taken from it.
-use Rattle.std.proofs.Common.{◌≡◌, ◌≢◌, ℕ, ◌<◌, ◌≤◌, ◌^◌, Bool, true, false, not, List, [], length, get_or, ℤ, pos, neg_ℤ, ◌+ℤ◌, ◌-ℤ◌, ◌≤ℤ◌, sym, subst, ap, ◌∙◌, arith, All, IsTrue, unsigned_abs}
+use Rattle.std.proofs.Common.{◌≡◌, ◌≢◌, ℕ, ◌≤◌, Bool, true, false, not, List, [], get_or, ℤ, pos, ◌+ℤ◌, ◌-ℤ◌, ◌≤ℤ◌, sym, subst, ap, ◌∙◌, arith, All, IsTrue, unsigned_abs}
 use Rattle.std.proofs.lemmas.Int.{ints}
 use Rattle.loop_bounds.specs.declared.effect.Effect.{Effect}
 use Rattle.loop_bounds.specs.declared.effect.Change.{Change}
@@ -8,7 +8,7 @@ use Rattle.loop_bounds.specs.declared.linear.Term.{Term}
 use Rattle.loop_bounds.specs.declared.rewritten.Rewritten.{Rewritten}
 use Rattle.loop_bounds.specs.declared.variable.Variable.{Variable}
 use Rattle.loop_bounds.specs.Linear.{Sum, IsLinear, total, value}
-use Rattle.loop_bounds.specs.Effect.{Valuation, whole, changed, after, change_of, IsKnown}
+use Rattle.loop_bounds.specs.Effect.{Valuation, whole, changed, after, change_of}
 use Rattle.loop_bounds.specs.Ranges.{Box, LiesIn}
 use Rattle.loop_bounds.specs.Bounds.{Decreases}
 use Rattle.loop_bounds.specs.Signed.{signed}
@@ -71,9 +71,10 @@ fact_value effect start last fact known unknown first kept before free =
 
 -- what decides a comparison of two values decides the values themselves
 pub decided_by_value : (P : Bool) (source target : Box) (from to : Sum) (cost : ℕ) (effect : Effect) (last : Rewritten) → ((before free : Valuation) → value_of_both before free last ≡ value (whole before) from -ℤ pos cost -ℤ value (after effect before free) to) → (IsTrue P → (before free : Valuation) → LiesIn source before → LiesIn target free → pos 0 ≤ℤ value_of_both before free last) × (((before free : Valuation) → LiesIn source before → LiesIn target free → pos 0 ≤ℤ value_of_both before free last) → IsTrue P) → (IsTrue P → Decreases from to cost effect source target) × (Decreases from to cost effect source target → IsTrue P)
-decided_by_value P source target from to cost effect last e h =
-    (λ t before free p q. subst (λ z. pos 0 ≤ℤ z) (e before free) (h.0 t before free p q),
-     λ d. h.1 (λ before free p q. subst (λ z. pos 0 ≤ℤ z) (sym (e before free)) (d before free p q)))
+decided_by_value P source target from to cost effect last e h = (
+  λ t before free p q. subst (λ z. pos 0 ≤ℤ z) (e before free) (h.0 t before free p q),
+  λ d. h.1 (λ before free p q. subst (λ z. pos 0 ≤ℤ z) (sym (e before free)) (d before free p q)),
+)
 
 pub of_constant : {c d : ℤ} → c ≡ d → (let s : Sum = record { constant = c; terms = [] } in s) ≡ record { constant = d; terms = [] }
 of_constant e = ap (λ (z : ℤ). let s : Sum = record { constant = z; terms = [] } in s) e

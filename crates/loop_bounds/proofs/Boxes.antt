@@ -1,6 +1,6 @@
 -- The least value of a sum over a box: it is a bound, and it is reached.
-use Rattle.std.proofs.Common.{◌≡◌, ◌≢◌, ℕ, suc, ◌+◌, ◌*◌, ◌<◌, ◌≤◌, ◌^◌, Bool, true, false, cond, eqb, List, [], ◌∷◌, ◌++◌, length, get_or, set, take, ℤ, pos, negsuc, neg_ℤ, ◌+ℤ◌, ◌-ℤ◌, ◌*ℤ◌, ◌≤ℤ◌, refl, sym, subst, ap, ◌∙◌, arith, rules, All, AllPairs, unsigned_abs, sum_by, take_all}
-use Rattle.std.proofs.Math.IntN.{pos-*ℤ-pos, negsuc-*ℤ-pos, zero-*ℤ, +ℤ_assoc, +ℤ_idl, +ℤ_idr, +ℤ_comm}
+use Rattle.std.proofs.Common.{◌≡◌, ◌≢◌, ℕ, suc, ◌+◌, ◌*◌, ◌<◌, ◌≤◌, ◌^◌, Bool, true, false, cond, eqb, List, [], ◌∷◌, ◌++◌, length, get_or, take, ℤ, pos, negsuc, ◌+ℤ◌, ◌*ℤ◌, ◌≤ℤ◌, refl, sym, subst, ap, ◌∙◌, arith, rules, All, unsigned_abs, take_all}
+use Rattle.std.proofs.Math.IntN.{pos-*ℤ-pos, negsuc-*ℤ-pos, +ℤ_idr}
 use Rattle.std.proofs.lemmas.Int.{ints, unsigned_abs-mul}
 use Rattle.std.proofs.lemmas.Nat.{mul-le}
 use Rattle.std.proofs.lemmas.List.{take_more}
@@ -46,8 +46,8 @@ worst_inside box [] v h = search rules
 worst_inside box (t ∷ ts) v h =
     let at : (b : Bool) → eqb (place_of v) (place_of t.variable) ≡ b → Within (box v) (cond b (end_of (box t.variable) t.coefficient) (worst box ts v)) =
     elim [
-        true ↦ λ e. let same : v ≡ t.variable = same_from_place v t.variable (search rules) in subst (λ w. Within (box v) (end_of (box w) t.coefficient)) same (end_inside t.coefficient (box v) h)
-        | false ↦ λ e. worst_inside box ts v h
+      | true ↦ λ e. let same : v ≡ t.variable = same_from_place v t.variable (search rules) in subst (λ w. Within (box v) (end_of (box w) t.coefficient)) same (end_inside t.coefficient (box v) h)
+      | false ↦ λ e. worst_inside box ts v h
     ] in
     at (eqb (place_of v) (place_of t.variable)) refl
 
@@ -71,7 +71,7 @@ worst_reached box (t ∷ ts) h =
     let here : worst box (t ∷ ts) t.variable ≡ end_of (box t.variable) t.coefficient = choice_same t.variable t.variable _ _ refl in
     let others = distinct_head t ts h in
     let agree : total (whole (worst box (t ∷ ts))) ts ≡ total (whole (worst box ts)) ts =
-        total_agree _ _ ts (λ k d p. ap pos (choice_other _ _ _ _ (λ e. others k d p (sym e)))) in
+    total_agree _ _ ts (λ k d p. ap pos (choice_other _ _ _ _ (λ e. others k d p (sym e)))) in
     ap (λ n. t.coefficient *ℤ pos n +ℤ total (whole (worst box (t ∷ ts))) ts) here
     ∙ ap (λ z. t.coefficient *ℤ pos (end_of (box t.variable) t.coefficient) +ℤ z) (agree ∙ worst_reached box ts (distinct_tail t ts h))
 
@@ -97,15 +97,15 @@ pub least_push : (box : Box) (c : ℤ) (ts : List Term) (t : Term) (r : Interval
 least_push box c ts t r least m h e is ordered within =
     let here : m ≡ t.coefficient *ℤ pos (end_of (box t.variable) t.coefficient) = is ∙ ap (λ (q : Interval). t.coefficient *ℤ pos (end_of q t.coefficient)) e in
     let low : unsigned_abs (t.coefficient *ℤ pos (end_of r t.coefficient)) ≤ 65535 * unsigned_abs t.coefficient =
-        multiple_size t.coefficient (end_of r t.coefficient) (end_below t.coefficient r ordered within) in
+    multiple_size t.coefficient (end_of r t.coefficient) (end_below t.coefficient r ordered within) in
     let small : unsigned_abs m ≤ 65535 * unsigned_abs t.coefficient = rw is low in
     let heavier = sum_by-append (λ (u : Term). unsigned_abs u.coefficient) ts (t ∷ []) in
     let sum : unsigned_abs (least +ℤ m) ≤ unsigned_abs least + unsigned_abs m = abs_sum least m in
     let there : IsNonEmpty box t = subst (λ (q : Interval). q.low ≤ q.high) e ordered in
     record {
-        exact = omega (arith, ints, h.exact, here, least_total_push box ts t);
-        ranges = All-push (IsNonEmpty box) ts t h.ranges there;
-        size = omega (arith, h.size, heavier)
+      exact = omega (arith, ints, h.exact, here, least_total_push box ts t);
+      ranges = All-push (IsNonEmpty box) ts t h.ranges there;
+      size = omega (arith, h.size, heavier);
     }
 
 pub least_more : (box : Box) (c : ℤ) (ts : List Term) (k : ℕ) (t : Term) (r : Interval) (least m : ℤ) → IsLeastSoFar box c (take k ts) least → k < length ts → t ≡ get_or ts k t → r ≡ box t.variable → m ≡ t.coefficient *ℤ pos (end_of r t.coefficient) → r.low ≤ r.high → r.high ≤ 65535 → IsLeastSoFar box c (take (k + 1) ts) (least +ℤ m)

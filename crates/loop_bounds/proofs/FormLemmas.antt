@@ -1,12 +1,11 @@
 -- A form after one more multiple of a variable.
-use Rattle.std.proofs.Common.{◌≡◌, ◌≢◌, ℕ, zero, suc, ◌+◌, ◌<◌, ◌≤◌, List, [], ◌∷◌, ◌++◌, length, get_or, set, take, ℤ, pos, negsuc, ◌+ℤ◌, ◌-ℤ◌, ◌*ℤ◌, refl, sym, subst, ap, ◌∙◌, arith, All, AllPairs, HoldsAt, unsigned_abs, length-append}
-use Rattle.std.proofs.Math.IntN.{one, *ℤ-one, *ℤ_comm, suc_ℤ, pred_ℤ, suc_ℤ-+ℤ, pred_ℤ-+ℤ, suc_ℤ-*ℤ, pred_ℤ-*ℤ, zero-*ℤ, +ℤ_idl, +ℤ_idr}
+use Rattle.std.proofs.Common.{◌≡◌, ◌≢◌, ℕ, zero, suc, ◌+◌, ◌<◌, ◌≤◌, List, [], ◌∷◌, ◌++◌, length, get_or, set, take, ℤ, pos, negsuc, ◌+ℤ◌, ◌-ℤ◌, ◌*ℤ◌, refl, sym, subst, ap, ◌∙◌, arith, All, HoldsAt, unsigned_abs}
+use Rattle.std.proofs.Math.IntN.{one, *ℤ-one, *ℤ_comm, suc_ℤ-+ℤ, pred_ℤ-+ℤ, suc_ℤ-*ℤ, pred_ℤ-*ℤ, zero-*ℤ, +ℤ_idl}
 use Rattle.std.proofs.Math.Seq.{take-set-lt}
 use Rattle.std.proofs.lemmas.Int.{ints}
-use Rattle.std.proofs.lemmas.List.{take_more_set, get_or-set_same, get_or-set_other, get_or-take, length-take, length-set}
-use Rattle.std.proofs.lemmas.List.Sums.{sum_by-set, sum_by-append}
+use Rattle.std.proofs.lemmas.List.{take_more_set, get_or-take, length-take, length-set}
+use Rattle.std.proofs.lemmas.List.Sums.{sum_by-set}
 use Rattle.std.proofs.lemmas.List.Quantifiers.{all_pairs_push}
-use Rattle.std.proofs.lemmas.Bool.{cases_eq}
 use Rattle.loop_bounds.specs.declared.variable.Variable.{Variable}
 use Rattle.loop_bounds.specs.declared.linear.Term.{Term}
 use Rattle.loop_bounds.specs.Linear.{total}
@@ -48,7 +47,7 @@ weight_set : (ts : List Term) (k : ℕ) (d t : Term) (f : ℤ) → k < length ts
 weight_set ts k d t f h e =
     let change = sum_by-set (λ (u : Term). unsigned_abs u.coefficient) ts k t d h in
     let size : unsigned_abs t.coefficient ≤ unsigned_abs (get_or ts k d).coefficient + unsigned_abs f =
-        rw e (abs_sum (get_or ts k d).coefficient f) in
+    rw e (abs_sum (get_or ts k d).coefficient f) in
     omega (arith, change, size)
 
 variable_set : (ts : List Term) (k : ℕ) (d t : Term) → k < length ts → t.variable ≡ (get_or ts k d).variable → (i : ℕ) (c : Term) → i < length ts → (get_or (set ts k t) i c).variable ≡ (get_or ts i c).variable
@@ -89,8 +88,8 @@ module _ (ts : List Term) (count k : ℕ) (d t raised : Term) (form : IsForm ts 
   pub raised_total : (x : Variable → ℤ) → total x (take count (set ts k raised)) ≡ total x (take count ts) +ℤ t.coefficient *ℤ x t.variable
   raised_total x =
       let new : raised ≡ record { coefficient = (get_or (take count ts) k d).coefficient +ℤ t.coefficient; variable = t.variable } =
-          is ∙ ap (λ (v : Variable). let u : Term = record { coefficient = (get_or ts k d).coefficient +ℤ t.coefficient; variable = v } in u) same_variable
-          ∙ ap (λ (u : Term). let w : Term = record { coefficient = u.coefficient +ℤ t.coefficient; variable = t.variable } in w) (sym front) in
+      is ∙ ap (λ (v : Variable). let u : Term = record { coefficient = (get_or ts k d).coefficient +ℤ t.coefficient; variable = v } in u) same_variable
+      ∙ ap (λ (u : Term). let w : Term = record { coefficient = u.coefficient +ℤ t.coefficient; variable = t.variable } in w) (sym front) in
       ap (total x) (same_front ∙ ap (set (take count ts) k) new) ∙ total_set x (take count ts) k d t.coefficient t.variable inside (here d)
 
   pub raised_weight : weight (take count (set ts k raised)) ≤ weight (take count ts) + unsigned_abs t.coefficient

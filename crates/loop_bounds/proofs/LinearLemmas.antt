@@ -1,8 +1,8 @@
 -- One more term at the end of a linear.
-use Rattle.std.proofs.Common.{◌≡◌, ◌≢◌, ℕ, suc, ◌+◌, ◌-◌, ◌<◌, ◌≤◌, List, [], ◌∷◌, ◌++◌, length, get_or, take, set, replicate, ℤ, refl, sym, subst, ap, ◌∙◌, arith, append_assoc, length-append, All, AllPairs, unsigned_abs}
+use Rattle.std.proofs.Common.{◌≡◌, ◌≢◌, ℕ, suc, ◌+◌, ◌-◌, ◌<◌, ◌≤◌, List, [], ◌∷◌, ◌++◌, length, get_or, take, set, replicate, ℤ, refl, sym, subst, ap, ◌∙◌, arith, append_assoc, length-append, All, unsigned_abs}
 use Rattle.std.proofs.Math.Seq.{set-append_seam}
 use Rattle.std.proofs.lemmas.List.{take_more_set, get_or_append_left}
-use Rattle.std.proofs.lemmas.List.Elements.{All-push, All-cons, All-nil}
+use Rattle.std.proofs.lemmas.List.Elements.{All-push}
 use Rattle.std.proofs.lemmas.List.Quantifiers.{all_pairs_push}
 use Rattle.loop_bounds.specs.declared.linear.Term.{Term}
 use Rattle.loop_bounds.specs.Variable.{place_of}
@@ -29,9 +29,9 @@ stored_more c terms count t h l =
     let room : count < 3 = omega (arith, length-append (take count terms) (t ∷ []), l.count) in
     let more = take_more_set terms count t (omega arith) in
     record {
-        linear = rw more l;
-        rest = rw more (subst (λ n. set terms n t ≡ padded (take count terms ++ t ∷ [])) front (set_in_padded (take count terms) terms t (omega arith) h.rest));
-        within = omega arith
+      linear = rw more l;
+      rest = rw more (subst (λ n. set terms n t ≡ padded (take count terms ++ t ∷ [])) front (set_in_padded (take count terms) terms t (omega arith) h.rest));
+      within = omega arith;
     }
 
 abbrev IsBefore : Term → Term → Type 0
@@ -42,10 +42,10 @@ IsSmall t = (0 < unsigned_abs t.coefficient) × (unsigned_abs t.coefficient ≤ 
 
 pub extended_from : (s : Sum) (t : Term) → IsLinear s → length s.terms < 3 → IsSmall t → All (λ u. IsBefore u t) s.terms → IsLinear (extended s t)
 extended_from s t h room small before = record {
-    constant = h.constant;
-    count = omega (arith, length-append s.terms (t ∷ []));
-    coefficients = All-push IsSmall s.terms t h.coefficients small;
-    rising = all_pairs_push IsBefore s.terms t h.rising before
+  constant = h.constant;
+  count = omega (arith, length-append s.terms (t ∷ []));
+  coefficients = All-push IsSmall s.terms t h.coefficients small;
+  rising = all_pairs_push IsBefore s.terms t h.rising before;
 }
 
 pub at_end : (ts : List Term) (t d : Term) → get_or (ts ++ t ∷ []) (length ts) d ≡ t
@@ -58,11 +58,12 @@ at_front ts t d k h = get_or_append_left ts (t ∷ []) d k h
 pub extended_gives : (s : Sum) (t : Term) → IsLinear (extended s t) → (length s.terms < 3) × IsSmall t × All (λ u. IsBefore u t) s.terms
 extended_gives s t h =
     let longer = length-append s.terms (t ∷ []) in
-    let small = h.coefficients (length s.terms) t (omega arith) in
-    (omega (arith, h.count),
-     subst IsSmall (at_end s.terms t t) small,
-     λ k d p. subst (λ u. IsBefore u t) (at_front s.terms t d k p)
-        (subst (λ u. IsBefore (get_or (s.terms ++ t ∷ []) k d) u) (at_end s.terms t d) (h.rising k (length s.terms) d p (omega arith))))
+    let small = h.coefficients (length s.terms) t (omega arith) in (
+      omega (arith, h.count),
+      subst IsSmall (at_end s.terms t t) small,
+      λ k d p. subst (λ u. IsBefore u t) (at_front s.terms t d k p)
+          (subst (λ u. IsBefore (get_or (s.terms ++ t ∷ []) k d) u) (at_end s.terms t d) (h.rising k (length s.terms) d p (omega arith))),
+    )
 
 pub room_below : (s : Sum) (c : ℤ) (terms : List Term) (count : ℕ) → IsStored c terms count → ◌≡◌ {A = Sum} (record { constant = c; terms = take count terms }) s → count ≢ 3 → length s.terms < 3
 room_below s c terms count h e other =

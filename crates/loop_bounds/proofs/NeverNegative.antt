@@ -1,5 +1,5 @@
 -- A sum over two boxes is never negative exactly where its two least values are not together.
-use Rattle.std.proofs.Common.{◌≡◌, ℤ, pos, ◌+ℤ◌, ◌-ℤ◌, ◌≤ℤ◌, Bool, true, false, neg_ℤ, List, [], sym, ap, ◌∙◌, arith, All, IsTrue, FitsSigned, unsigned_abs, ◌<◌, ◌^◌, ℕ, ◌≢◌}
+use Rattle.std.proofs.Common.{◌≡◌, ℤ, pos, ◌+ℤ◌, ◌≤ℤ◌, true, arith, IsTrue}
 use Rattle.std.specs.Prelude.{int_le}
 use Rattle.std.proofs.lemmas.Int.{ints}
 use Rattle.loop_bounds.specs.declared.rewritten.Rewritten.{Rewritten}
@@ -24,12 +24,13 @@ abbrev IsNeverNegative : Box → Box → Rewritten → Type 0
 IsNeverNegative source target r = (before free : Valuation) → LiesIn source before → LiesIn target free → pos 0 ≤ℤ value_of_both before free r
 
 pub never_negative : (r : Rewritten) (source target : Box) (a b z : ℤ) → z ≡ a +ℤ b → IsBound source r.known a → IsReached source r.known a → IsBound target r.unknown b → IsReached target r.unknown b → (IsTrue (int_le (pos 0) z) → IsNeverNegative source target r) × (IsNeverNegative source target r → IsTrue (int_le (pos 0) z))
-never_negative r source target a b z e bound_a reached_a bound_b reached_b =
-    (λ t before free p q.
-        let low = le_from_true z t in
-        let first = bound_a before p in
-        let second = bound_b free q in
-        omega (arith, ints, e, low, first, second),
-     λ all.
-        let least = all reached_a.0 reached_b.0 reached_a.1 reached_b.1 in
-        le_true z (omega (arith, ints, e, least, reached_a.2, reached_b.2)))
+never_negative r source target a b z e bound_a reached_a bound_b reached_b = (
+  λ t before free p q.
+      let low = le_from_true z t in
+      let first = bound_a before p in
+      let second = bound_b free q in
+      omega (arith, ints, e, low, first, second),
+  λ all.
+      let least = all reached_a.0 reached_b.0 reached_a.1 reached_b.1 in
+      le_true z (omega (arith, ints, e, least, reached_a.2, reached_b.2)),
+)

@@ -1,5 +1,5 @@
 -- A rewritten sum after one more multiple of what a step leaves in a variable.
-use Rattle.std.proofs.Common.{Bool, true, false, List, [], ◌∷◌, ◌++◌, take, get_or, subst, All, neg_ℤ, length-append, ◌≢◌, ◌≡◌, ℕ, ◌+◌, ◌*◌, ◌^◌, ◌≤◌, ◌<◌, length, ℤ, pos, ◌+ℤ◌, ◌-ℤ◌, ◌*ℤ◌, sym, ap, ◌∙◌, arith, unsigned_abs}
+use Rattle.std.proofs.Common.{Bool, true, false, List, [], ◌∷◌, ◌++◌, take, get_or, subst, All, neg_ℤ, length-append, ◌≢◌, ◌≡◌, ℕ, ◌+◌, ◌^◌, ◌≤◌, ◌<◌, length, ℤ, pos, ◌+ℤ◌, ◌-ℤ◌, ◌*ℤ◌, sym, ap, ◌∙◌, arith, unsigned_abs}
 use Rattle.std.proofs.lemmas.Int.{ints}
 use Rattle.std.proofs.Math.IntN.{+ℤ_invl, +ℤ_assoc, zero-*ℤ}
 use Rattle.std.proofs.lemmas.List.{take_more, get_or_append_left}
@@ -64,22 +64,22 @@ constant_room old new c m n small low e is used h =
     let same = ap unsigned_abs is in
     let sum = abs_sum old.known.constant m in
     record {
-        known_terms = omega (arith, h.known_terms, terms);
-        unknown_terms = omega (arith, h.unknown_terms);
-        known_weight = omega (arith, h.known_weight, heavy);
-        unknown_weight = omega (arith, h.unknown_weight);
-        constant = omega (arith, h.constant, constant, size, same, sum);
-        unknown_constant = h.unknown_constant
+      known_terms = omega (arith, h.known_terms, terms);
+      unknown_terms = omega (arith, h.unknown_terms);
+      known_weight = omega (arith, h.known_weight, heavy);
+      unknown_weight = omega (arith, h.unknown_weight);
+      constant = omega (arith, h.constant, constant, size, same, sum);
+      unknown_constant = h.unknown_constant;
     }
 
 pub room_wider : (r : Rewritten) (used more : ℕ) → used ≤ more → HasRoom used r → HasRoom more r
 room_wider r used more h room = record {
-    known_terms = omega (arith, room.known_terms);
-    unknown_terms = omega (arith, room.unknown_terms);
-    known_weight = omega (arith, room.known_weight);
-    unknown_weight = omega (arith, room.unknown_weight);
-    constant = omega (arith, room.constant);
-    unknown_constant = room.unknown_constant
+  known_terms = omega (arith, room.known_terms);
+  unknown_terms = omega (arith, room.unknown_terms);
+  known_weight = omega (arith, room.known_weight);
+  unknown_weight = omega (arith, room.unknown_weight);
+  constant = omega (arith, room.constant);
+  unknown_constant = room.unknown_constant;
 }
 
 neg_product : (c y : ℤ) → neg_ℤ c *ℤ y ≡ neg_ℤ (c *ℤ y)
@@ -101,24 +101,24 @@ module _ (old mid new : Rewritten) (effect : Effect) (n : Bool) (ts : List Term)
 
   pub added_more : ((before free : Valuation) → value_of_both before free new ≡ value_of_both before free mid +ℤ c *ℤ changed change before (pos (free t.variable))) → ((used : ℕ) → HasRoom used mid → HasRoom (used + 1) new) → (change ≢ Unknown → new.unknown ≡ mid.unknown) → HasAdded old new effect n (take (k + 1) ts) (k + 1)
   added_more value room known = record {
-      value = λ before free.
-          let step = value before free in
-          let past = so_far.value before free in
-          let push = signed_push n (after effect before free) (take k ts) t in
-          let same = ap (λ (us : List Term). signed n (total (after effect before free) us)) front_more in
-          let product = ap (λ z. z *ℤ changed change before (pos (free t.variable))) c_is ∙ ap (λ (h : Change). signed n t.coefficient *ℤ changed h before (pos (free t.variable))) change_is in
-          step ∙ ap (λ z. z +ℤ c *ℤ changed change before (pos (free t.variable))) past
-          ∙ ap (λ z. value_of_both before free old +ℤ signed n (total (after effect before free) (take k ts)) +ℤ z) product
-          ∙ +ℤ_assoc (value_of_both before free old) (signed n (total (after effect before free) (take k ts))) _
-          ∙ ap (λ z. value_of_both before free old +ℤ z) (sym push ∙ sym same);
-      room = λ used h.
-          let next = room (used + k) (so_far.room used h) in
-          subst (λ m. HasRoom m new) (let e : used + k + 1 ≡ used + (k + 1) = omega arith in e) next;
-      known = λ all.
-          let here : All (λ u. change_of effect u.variable ≢ Unknown) (take k ts ++ t ∷ []) = rw front_more at all in
-          let front : All (λ u. change_of effect u.variable ≢ Unknown) (take k ts) = λ i d p. subst (λ (u : Term). change_of effect u.variable ≢ Unknown) (get_or_append_left (take k ts) (t ∷ []) d i p) (here i d (omega (arith, length-append (take k ts) (t ∷ [])))) in
-          let last : change_of effect t.variable ≢ Unknown = subst (λ (u : Term). change_of effect u.variable ≢ Unknown) (at_end (take k ts) t t) (here (length (take k ts)) t (omega (arith, length-append (take k ts) (t ∷ [])))) in
-          known (λ e. last (sym change_is ∙ e)) ∙ so_far.known front
+    value = λ before free.
+        let step = value before free in
+        let past = so_far.value before free in
+        let push = signed_push n (after effect before free) (take k ts) t in
+        let same = ap (λ (us : List Term). signed n (total (after effect before free) us)) front_more in
+        let product = ap (λ z. z *ℤ changed change before (pos (free t.variable))) c_is ∙ ap (λ (h : Change). signed n t.coefficient *ℤ changed h before (pos (free t.variable))) change_is in
+        step ∙ ap (λ z. z +ℤ c *ℤ changed change before (pos (free t.variable))) past
+        ∙ ap (λ z. value_of_both before free old +ℤ signed n (total (after effect before free) (take k ts)) +ℤ z) product
+        ∙ +ℤ_assoc (value_of_both before free old) (signed n (total (after effect before free) (take k ts))) _
+        ∙ ap (λ z. value_of_both before free old +ℤ z) (sym push ∙ sym same);
+    room = λ used h.
+        let next = room (used + k) (so_far.room used h) in
+        subst (λ m. HasRoom m new) (let e : used + k + 1 ≡ used + (k + 1) = omega arith in e) next;
+    known = λ all.
+        let here : All (λ u. change_of effect u.variable ≢ Unknown) (take k ts ++ t ∷ []) = rw front_more at all in
+        let front : All (λ u. change_of effect u.variable ≢ Unknown) (take k ts) = λ i d p. subst (λ (u : Term). change_of effect u.variable ≢ Unknown) (get_or_append_left (take k ts) (t ∷ []) d i p) (here i d (omega (arith, length-append (take k ts) (t ∷ [])))) in
+        let last : change_of effect t.variable ≢ Unknown = subst (λ (u : Term). change_of effect u.variable ≢ Unknown) (at_end (take k ts) t t) (here (length (take k ts)) t (omega (arith, length-append (take k ts) (t ∷ [])))) in
+        known (λ e. last (sym change_is ∙ e)) ∙ so_far.known front;
   }
 
 -- a room for six terms is a sum whose least value can be computed

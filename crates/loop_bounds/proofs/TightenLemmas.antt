@@ -1,5 +1,5 @@
 -- What is left of a range where a linear is 0.
-use Rattle.std.proofs.Common.{◌≡◌, ℕ, zero, suc, ◌+◌, ◌-◌, ◌*◌, ◌/◌, ◌%◌, ◌<◌, ◌≤◌, ◌^◌, min, max, List, [], ◌∷◌, ◌++◌, length, get_or, take, drop, ℤ, pos, negsuc, neg_ℤ, ◌+ℤ◌, ◌-ℤ◌, ◌*ℤ◌, ◌≤ℤ◌, Option, Some, None, refl, sym, subst, ap, ◌∙◌, arith, All, unsigned_abs, IsSomeAnd, remove, inl, inr, add-one, drop-cons}
+use Rattle.std.proofs.Common.{◌≡◌, ℕ, zero, suc, ◌+◌, ◌*◌, ◌/◌, ◌%◌, ◌<◌, ◌≤◌, ◌^◌, min, max, List, [], ◌∷◌, ◌++◌, length, get_or, take, drop, ℤ, pos, negsuc, neg_ℤ, ◌+ℤ◌, ◌-ℤ◌, ◌*ℤ◌, ◌≤ℤ◌, Option, Some, None, refl, sym, subst, ap, ◌∙◌, arith, All, unsigned_abs, IsSomeAnd, remove, inl, inr, add-one, drop-cons}
 use Rattle.std.proofs.Math.IntN.{pos-*ℤ-pos, negsuc-*ℤ-pos}
 use Rattle.std.proofs.lemmas.Int.{ints}
 use Rattle.std.proofs.lemmas.Nat.{mul-le, le-div}
@@ -40,13 +40,13 @@ greatest_push : (box : Box) (ts : List Term) (t : Term) (r : Interval) (greatest
 greatest_push box ts t r greatest m h e is ordered within =
     let here : m ≡ t.coefficient *ℤ pos (top_of (box t.variable) t.coefficient) = is ∙ ap (λ (q : Interval). t.coefficient *ℤ pos (top_of q t.coefficient)) e in
     let low : unsigned_abs (t.coefficient *ℤ pos (top_of r t.coefficient)) ≤ 65535 * unsigned_abs t.coefficient =
-        multiple_size t.coefficient (top_of r t.coefficient) (top_below t.coefficient r ordered within) in
+    multiple_size t.coefficient (top_of r t.coefficient) (top_below t.coefficient r ordered within) in
     let small : unsigned_abs m ≤ 65535 * unsigned_abs t.coefficient = rw is low in
     let heavier = sum_by-append (λ (u : Term). unsigned_abs u.coefficient) ts (t ∷ []) in
     let sum : unsigned_abs (greatest +ℤ m) ≤ unsigned_abs greatest + unsigned_abs m = abs_sum greatest m in
     record {
-        exact = omega (arith, ints, h.exact, here, greatest_total_push box ts t);
-        size = omega (arith, h.size, heavier)
+      exact = omega (arith, ints, h.exact, here, greatest_total_push box ts t);
+      size = omega (arith, h.size, heavier);
     }
 
 pub greatest_more : (box : Box) (ts : List Term) (k : ℕ) (t : Term) (r : Interval) (greatest m : ℤ) → IsGreatestSoFar box (take k ts) greatest → k < length ts → t ≡ get_or ts k t → r ≡ box t.variable → m ≡ t.coefficient *ℤ pos (top_of r t.coefficient) → r.low ≤ r.high → r.high ≤ 65535 → IsGreatestSoFar box (take (k + 1) ts) (greatest +ℤ m)
@@ -96,9 +96,9 @@ share_is box fact k t r low high least greatest lowest highest result inside at 
     let end = ap (λ (q : Interval). t.coefficient *ℤ pos (end_of q t.coefficient)) e in
     let top = ap (λ (q : Interval). t.coefficient *ℤ pos (top_of q t.coefficient)) e in
     let before : least_total box fact.terms ≡ least_total box (remove fact.terms k) +ℤ t.coefficient *ℤ pos (end_of (box t.variable) t.coefficient) =
-        least_total-remove box fact.terms k t inside ∙ ap (λ (u : Term). least_total box (remove fact.terms k) +ℤ u.coefficient *ℤ pos (end_of (box u.variable) u.coefficient)) (sym at) in
+    least_total-remove box fact.terms k t inside ∙ ap (λ (u : Term). least_total box (remove fact.terms k) +ℤ u.coefficient *ℤ pos (end_of (box u.variable) u.coefficient)) (sym at) in
     let after : greatest_total box fact.terms ≡ greatest_total box (remove fact.terms k) +ℤ t.coefficient *ℤ pos (top_of (box t.variable) t.coefficient) =
-        greatest_total-remove box fact.terms k t inside ∙ ap (λ (u : Term). greatest_total box (remove fact.terms k) +ℤ u.coefficient *ℤ pos (top_of (box u.variable) u.coefficient)) (sym at) in
+    greatest_total-remove box fact.terms k t inside ∙ ap (λ (u : Term). greatest_total box (remove fact.terms k) +ℤ u.coefficient *ℤ pos (top_of (box u.variable) u.coefficient)) (sym at) in
     let l : low ≡ fact.constant +ℤ least_total box (remove fact.terms k) = omega (arith, ints, before, end, is_least, is_lowest, is_low) in
     let h : high ≡ fact.constant +ℤ greatest_total box (remove fact.terms k) = omega (arith, ints, after, top, is_greatest, is_highest, is_high) in
     is ∙ ap (λ z. balancing t.coefficient z high r) l ∙ ap (λ z. balancing t.coefficient (fact.constant +ℤ least_total box (remove fact.terms k)) z r) h
@@ -132,8 +132,8 @@ quotient_up_below (pos z) factor n h k =
     let times = div_ceil_times z factor h in
     let below : z ≤ factor * n = omega (arith, ints) in
     elim (cases_lt n (z / factor + min 1 (z % factor))) [
-        inl over ↦ absurd (omega (arith, times.1, mul-le (suc n) factor (z / factor + min 1 (z % factor)) factor over (omega arith)))
-        | inr fine ↦ fine
+      | inl over ↦ absurd (omega (arith, times.1, mul-le (suc n) factor (z / factor + min 1 (z % factor)) factor over (omega arith)))
+      | inr fine ↦ fine
     ]
 
 in_both : (a b : Interval) (n : ℕ) → Within a n → Within b n → IsSomeAnd (intersection a b) (λ r. Within r n)
@@ -158,12 +158,12 @@ pub share_keep : (box : Box) (fact : Sum) (k : ℕ) (t : Term) (x : Valuation) �
 share_keep box fact k t x linear inside at within none =
     let others = remove fact.terms k in
     let split : total (whole x) fact.terms ≡ total (whole x) others +ℤ t.coefficient *ℤ pos (x t.variable) =
-        total-remove (whole x) fact.terms k t inside ∙ ap (λ (u : Term). total (whole x) others +ℤ u.coefficient *ℤ pos (x u.variable)) (sym at) in
+    total-remove (whole x) fact.terms k t inside ∙ ap (λ (u : Term). total (whole x) others +ℤ u.coefficient *ℤ pos (x u.variable)) (sym at) in
     let above = total_above_least box x within others in
     let below = total_below_greatest box x within others in
     let size : 0 < unsigned_abs t.coefficient = subst (λ (u : Term). 0 < unsigned_abs u.coefficient) (sym at) (let both = linear.coefficients k t inside in both.0) in
     balancing_keep t.coefficient (fact.constant +ℤ least_total box others) (fact.constant +ℤ greatest_total box others) (box t.variable) (x t.variable) size (within t.variable)
-        (omega (arith, ints, split, above, none)) (omega (arith, ints, split, below, none))
+    (omega (arith, ints, split, above, none)) (omega (arith, ints, split, below, none))
 
 -- ---- the terms in their order
 module _ {S : Type 0} (range_of : S → Box) (cut_to : S → Variable → Interval → Option S) (fact : Sum) (items : List Term) (k : ℕ) (t : Term) (s : S) (inside : k < length items) (at : t ≡ get_or items k t) where

@@ -1,5 +1,5 @@
 -- A sum whose value is 0 everywhere has the constant 0 and no coefficient but 0.
-use Rattle.std.proofs.Common.{◌≡◌, ◌≢◌, ℕ, Bool, true, false, cond, eqb, List, [], ◌∷◌, ℤ, pos, ◌+ℤ◌, ◌*ℤ◌, refl, sym, subst, ap, ◌∙◌, arith, All}
+use Rattle.std.proofs.Common.{◌≡◌, cond, eqb, List, [], ◌∷◌, ℤ, pos, ◌*ℤ◌, refl, sym, ap, ◌∙◌, arith, All}
 use Rattle.std.proofs.Math.IntN.{one, *ℤ-zero, *ℤ-one, zero-*ℤ}
 use Rattle.std.proofs.lemmas.Int.{ints}
 use Rattle.std.proofs.lemmas.List.Elements.{All-head, All-tail, All-cons, All-nil}
@@ -40,7 +40,7 @@ coefficient_found t ts h =
     let here : only t.variable t.variable ≡ 1 = choice_same t.variable t.variable 1 0 refl in
     let apart = distinct_head t ts h in
     let rest : total (whole (only t.variable)) ts ≡ total (whole nothing) ts =
-        total_agree _ _ ts (λ k d p. ap pos (choice_other _ _ 1 0 (λ e. apart k d p (sym e)))) in
+    total_agree _ _ ts (λ k d p. ap pos (choice_other _ _ 1 0 (λ e. apart k d p (sym e)))) in
     let first = ap (λ n. t.coefficient *ℤ pos n) here in
     let once : t.coefficient *ℤ pos 1 ≡ t.coefficient = *ℤ-one t.coefficient in
     omega (arith, ints, first, once, rest, total_nothing ts)
@@ -50,8 +50,8 @@ terms_zero [] h zero = All-nil IsZeroTerm
 terms_zero (t ∷ ts) h zero =
     let first : IsZeroTerm t = sym (coefficient_found t ts h) ∙ zero (only t.variable) in
     let rest : (x : Valuation) → total (whole x) ts ≡ pos 0 = λ x.
-        let gone = ap (λ z. z *ℤ pos (x t.variable)) first in
-        omega (arith, ints, gone, zero-*ℤ (pos (x t.variable)), zero x) in
+    let gone = ap (λ z. z *ℤ pos (x t.variable)) first in
+    omega (arith, ints, gone, zero-*ℤ (pos (x t.variable)), zero x) in
     All-cons IsZeroTerm t ts first (terms_zero ts (distinct_tail t ts h) rest)
 
 pub constant_zero : (s : Sum) → ((x : Valuation) → value (whole x) s ≡ pos 0) → s.constant ≡ pos 0

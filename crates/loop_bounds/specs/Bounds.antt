@@ -1,5 +1,5 @@
 -- What the exact decisions on linears mean (docs/CHECKER.md, "Linear bounds, effects and tightening").
-use Rattle.std.specs.Prelude.{◌≡◌, ◌⊎◌, ℕ, ℤ, pos, neg_ℤ, ◌+ℤ◌, ◌-ℤ◌, ◌≤ℤ◌}
+use Rattle.std.specs.Prelude.{◌≡◌, ℕ, pos, neg_ℤ, ◌-ℤ◌, ◌≤ℤ◌}
 use Rattle.loop_bounds.specs.declared.effect.Effect.{Effect}
 use Rattle.loop_bounds.specs.Linear.{Sum, value}
 use Rattle.loop_bounds.specs.Effect.{Valuation, whole, after, IsKnown}

@@ -1,6 +1,6 @@
 -- The three places of a linear are given back by its terms.
-use Rattle.std.specs.Prelude.{◌≡◌, ℕ, ◌+◌, ◌-◌, ◌≤◌, List, length, take, replicate, ℤ}
-use Rattle.std.proofs.Common.{arith, refl, sym, ◌∙◌, ap, length-append}
+use Rattle.std.specs.Prelude.{◌≡◌, ℕ, ◌-◌, ◌≤◌, List, length, take, replicate, ℤ}
+use Rattle.std.proofs.Common.{arith, sym, ◌∙◌, ap, length-append}
 use Rattle.std.proofs.Math.ListN.{length-replicate, length-take}
 use Rattle.loop_bounds.specs.declared.linear.Term.{Term}
 use Rattle.loop_bounds.specs.declared.linear.Linear.TheInside.{Inside}

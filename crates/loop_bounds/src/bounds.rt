@@ -13,7 +13,14 @@ use crate::rewritten::Rewritten;
 /// Whether `from` less the cost, in T-states, less `to` after the step is at least 0, whatever the variables are in the
 /// source ranges, and whatever those that are unknown after the step are in the target ranges. Each variable ranges by
 /// itself, also BC and B, and the arithmetic never wraps.
-pub fn decreases<S: Ranges, T: Ranges>(from: &Linear, to: &Linear, cost: u32, effect: &Effect, source: &S, target: &T) -> bool
+pub fn decreases<S: Ranges, T: Ranges>(
+    from: &Linear,
+    to: &Linear,
+    cost: u32,
+    effect: &Effect,
+    source: &S,
+    target: &T,
+) -> bool
     ensures { IsTrue result ↔ Decreases from.now to.now cost effect.now (S.range_of source.now) (T.range_of target.now) }
 {
     let mut left = Rewritten::new(constant_left(from, cost, to));
@@ -36,7 +43,11 @@ fn constant_between(fact: &Linear, given: &Linear, negated: bool) -> i128
     ensures size { unsigned_abs result < 2 ^ 40 }
 {
     let (constant, of_given) = (wide_constant(fact), wide_constant(given));
-    if negated { constant + of_given } else { constant - of_given }
+    if negated {
+        constant + of_given
+    } else {
+        constant - of_given
+    }
 }
 
 /// The constant of a linear, in 128 bits.
@@ -51,7 +62,9 @@ fn wide_constant(linear: &Linear) -> i128
 fn are_known(terms: &[Term], effect: &Effect) -> bool
     ensures { IsTrue result ↔ All (λ t. change_of effect.now t.variable ≢ Unknown) terms.now }
 {
-    terms.iter().all(|term| effect.change(term.variable) != Change::Unknown)
+    terms
+        .iter()
+        .all(|term| effect.change(term.variable) != Change::Unknown)
 }
 
 /// Whether the linear has no variable that is unknown after the step.

@@ -5,10 +5,10 @@ use crate::variable::Variable;
 use std::marker::Model;
 
 /// The greatest size of a constant.
-pub const GREATEST_CONSTANT: u32 = 1_000_000_000;
+const GREATEST_CONSTANT: u32 = 1_000_000_000;
 
 /// The greatest size of a coefficient.
-pub const GREATEST_COEFFICIENT: u32 = 1_000_000;
+const GREATEST_COEFFICIENT: u32 = 1_000_000;
 
 /// A multiple of a variable.
 #[derive(Clone, Copy, Debug, PartialEq, Eq)]
@@ -16,6 +16,12 @@ pub struct Term {
     pub coefficient: i32,
     pub variable: Variable,
 }
+
+/// What stands in the places for terms that a linear does not use.
+const PADDING: Term = Term {
+    coefficient: 0,
+    variable: Variable::A,
+};
 
 /// A constant and at most three terms, whose variables rise strictly. The constant is up to 1,000,000,000 in size, each
 /// coefficient 1 to 1,000,000.
@@ -61,6 +67,17 @@ fn all_before(terms: &[Term], variable: Variable) -> bool
 impl Linear {
     ghost use Rattle.loop_bounds.specs.Linear.{Sum, IsLinear, extended, padding, padded};
 
+    /// 0.
+    pub fn zero() -> Linear
+        ensures { result ≡ record { constant = pos 0; terms = [] } }
+    {
+        Linear {
+            constant: 0,
+            terms: [PADDING; 3],
+            count: 0,
+        }
+    }
+
     /// A linear without terms, or None where the constant is above 1,000,000,000 in size.
     pub fn of_constant(constant: i32) -> Option<Linear>
         ensures { SomeIff result (unsigned_abs constant ≤ 1000000000) (record { constant = constant; terms = [] }) }
@@ -68,14 +85,9 @@ impl Linear {
         if constant.unsigned_abs() > GREATEST_CONSTANT {
             return None;
         }
-        let padding = Term {
-            coefficient: 0,
-            variable: Variable::A,
-        };
         Some(Linear {
             constant,
-            terms: [padding; 3],
-            count: 0,
+            ..Linear::zero()
         })
     }
 

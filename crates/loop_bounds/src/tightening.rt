@@ -96,7 +96,11 @@ fn share_left<R: Ranges>(fact: &Linear, place: usize, term: &Term, ranges: &R) -
     balancing(
         term.coefficient,
         without(constant, least, least_multiple(term.coefficient, range)),
-        without(constant, greatest, greatest_multiple(term.coefficient, range)),
+        without(
+            constant,
+            greatest,
+            greatest_multiple(term.coefficient, range),
+        ),
         range,
     )
 }

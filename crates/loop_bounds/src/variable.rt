@@ -1,4 +1,4 @@
-ghost use Rattle.std.specs.Prelude.{◌≡◌, ℕ, ◌<◌, ◌↔◌, IsTrue, SomeIff};
+ghost use Rattle.std.specs.Prelude.{◌≡◌, ℕ, ◌<◌, SomeIff};
 
 use std::marker::Model;
 
@@ -102,12 +102,5 @@ impl Variable {
             Variable::Iy => 11,
             Variable::Slot(slot, part) => 12 + 3 * slot.number() + part.place(),
         }
-    }
-
-    /// Whether the two are the same variable.
-    pub fn is(self, other: Variable) -> bool
-        ensures { IsTrue result ↔ (self ≡ other) }
-    {
-        self == other
     }
 }

@@ -1,7 +1,6 @@
-use Rattle.std.proofs.Common.{rules, sym, ◌∙◌, FitsSigned, ap, ℤ}
+use Rattle.std.proofs.Common.{rules, sym, ◌∙◌, FitsSigned}
 use Rattle.std.specs.Int.{w128}
 use Rattle.std.proofs.lemmas.Int.{to_z-of_z}
-use Rattle.loop_bounds.specs.Linear.{Sum}
 use Rattle.loop_bounds.proofs.BoundsLemmas.{fact_value, of_constant}
 use Rattle.loop_bounds.proofs.bounds.vanishes.Goals as goal
 

@@ -1,4 +1,4 @@
-use Rattle.std.proofs.Common.{◌≡◌, ◌≤◌, arith, rules, FitsSigned, ◌*ℤ◌, pos, to_z, of_z}
+use Rattle.std.proofs.Common.{◌≡◌, ◌≤◌, rules, ◌*ℤ◌, pos, to_z, of_z}
 use Rattle.std.specs.Int.{w128}
 use Rattle.loop_bounds.proofs.Boxes.{multiple_size}
 use Rattle.loop_bounds.proofs.form.multiple.Goals as goal

@@ -1,4 +1,4 @@
-use Rattle.std.proofs.Common.{rules, arith}
+use Rattle.std.proofs.Common.{rules}
 use Rattle.loop_bounds.proofs.TightenLemmas.{between_multiples}
 use Rattle.loop_bounds.proofs.tightening.multiples_between.Goals as goal
 

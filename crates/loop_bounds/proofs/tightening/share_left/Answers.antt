@@ -1,4 +1,4 @@
-use Rattle.std.proofs.Common.{◌≡◌, ◌∙◌, ap, rules, FitsSigned, ℤ, ◌+ℤ◌, ◌-ℤ◌}
+use Rattle.std.proofs.Common.{◌∙◌, ap, rules, FitsSigned, ℤ, ◌+ℤ◌, ◌-ℤ◌}
 use Rattle.std.specs.Int.{w32, w128}
 use Rattle.std.proofs.lemmas.Int.{to_z-of_z}
 use Rattle.loop_bounds.specs.Form.{least_total}
@@ -27,9 +27,9 @@ returns g c =
     let highest = simp to_z-of_z at c.greatest_multiple.ensures.value in
     let same = constant ∙ c.constant.ensures.value in
     share_is box fact c.args.place c.args.term.now c.range-range.result c.without.result c.without-2.result c.span-least.result.0 c.span-least.result.1
-        c.least_multiple.result c.greatest_multiple.result c.balancing.result c.requires.place c.requires.term c.range-range.ensures
-        (c.span-least.ensures.least ∙ ap (least_total box) c.terms.ensures.value)
-        (c.span-least.ensures.greatest ∙ ap (greatest_total box) c.terms.ensures.value)
-        lowest highest
-        (low ∙ ap (λ (z : ℤ). z +ℤ c.span-least.result.0 -ℤ c.least_multiple.result) same)
-        (high ∙ ap (λ (z : ℤ). z +ℤ c.span-least.result.1 -ℤ c.greatest_multiple.result) same) is
+    c.least_multiple.result c.greatest_multiple.result c.balancing.result c.requires.place c.requires.term c.range-range.ensures
+    (c.span-least.ensures.least ∙ ap (least_total box) c.terms.ensures.value)
+    (c.span-least.ensures.greatest ∙ ap (greatest_total box) c.terms.ensures.value)
+    lowest highest
+    (low ∙ ap (λ (z : ℤ). z +ℤ c.span-least.result.0 -ℤ c.least_multiple.result) same)
+    (high ∙ ap (λ (z : ℤ). z +ℤ c.span-least.result.1 -ℤ c.greatest_multiple.result) same) is

@@ -33,9 +33,10 @@ loop-term-preserved g c =
     let m' = c.greatest_multiple-greatest in
     let next' = greatest_more _ _ _ c.term-item.result c.range-range.result _ m'.result c.loop-term.invariant.1 c.loop-term-test.true c.term-item.is (search rules) (search rules) m'.ensures.ordered m'.ensures.within in
     let small' = greatest_fits _ _ _ _ next' light in
-    let fits' : FitsSigned w128 m'.result = search rules in
-    (rw (sum_kept c.loop-term.least-bits _ _ refl fits (fits_128 _ (omega arith))) next,
-     rw (sum_kept c.loop-term.greatest-bits _ _ refl fits' (fits_128 _ (omega arith))) next')
+    let fits' : FitsSigned w128 m'.result = search rules in (
+      rw (sum_kept c.loop-term.least-bits _ _ refl fits (fits_128 _ (omega arith))) next,
+      rw (sum_kept c.loop-term.greatest-bits _ _ refl fits' (fits_128 _ (omega arith))) next',
+    )
 
 pub returns-clause-least_size : goal.returns-clause-least_size
 returns-clause-least_size g c = least_end _ c.args.terms.now _ _ c.loop-term.invariant.0 c.requires.few c.requires.small

@@ -1,4 +1,4 @@
-use Rattle.std.proofs.Common.{◌≡◌, ◌∙◌, sym, Some, None}
+use Rattle.std.proofs.Common.{◌≡◌, ◌∙◌, sym, Some}
 use Rattle.intervals.specs.Range.{Interval, Within}
 use Rattle.loop_bounds.specs.Tighten.{share_left}
 use Rattle.loop_bounds.proofs.TightenLemmas.{share_kept, kept_some, kept_none, goes_on}
@@ -28,10 +28,11 @@ loop-place-preserved g c =
     let t = c.term-item.result in
     let s = c.loop-place.state in
     let share : share_left c.args.fact.now (g.S.Ranges.range_of s) c.loop-place.place t ≡ Some c.in-Some.left = sym c.in-Some.ensures in
-    let on = goes_on g.S.Ranges.range_of g.S.Tightenable.cut_to c.args.fact.now c.terms-term-items.result.now c.loop-place.place t s c.loop-place-test.true c.term-item.is c.in-Some.left c.cut.new.self share c.if-not-cut.ensures in
-    (c.loop-place.invariant.0 ∙ on,
-     λ x h z.
-        let held = c.loop-place.invariant.1 x h z in
-        let kept = share_kept (g.S.Ranges.range_of s) c.args.fact.now _ c.loop-place.place t x c.terms-term-items.ensures.value c.terms-term-items.ensures.linear c.loop-place-test.true c.term-item.is (λ v. g.met.S.Tightenable.in_ranges s x v held) z in
-        let inside = kept_some _ c.in-Some.left (λ (q : Interval). Within q (x t.variable)) share kept in
-        kept_some _ c.cut.new.self (λ u. g.S.Tightenable.holds u x) c.if-not-cut.ensures (g.met.S.Tightenable.keeps s x t.variable c.in-Some.left held inside))
+    let on = goes_on g.S.Ranges.range_of g.S.Tightenable.cut_to c.args.fact.now c.terms-term-items.result.now c.loop-place.place t s c.loop-place-test.true c.term-item.is c.in-Some.left c.cut.new.self share c.if-not-cut.ensures in (
+      c.loop-place.invariant.0 ∙ on,
+      λ x h z.
+          let held = c.loop-place.invariant.1 x h z in
+          let kept = share_kept (g.S.Ranges.range_of s) c.args.fact.now _ c.loop-place.place t x c.terms-term-items.ensures.value c.terms-term-items.ensures.linear c.loop-place-test.true c.term-item.is (λ v. g.met.S.Tightenable.in_ranges s x v held) z in
+          let inside = kept_some _ c.in-Some.left (λ (q : Interval). Within q (x t.variable)) share kept in
+          kept_some _ c.cut.new.self (λ u. g.S.Tightenable.holds u x) c.if-not-cut.ensures (g.met.S.Tightenable.keeps s x t.variable c.in-Some.left held inside),
+    )

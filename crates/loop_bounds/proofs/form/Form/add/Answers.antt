@@ -1,9 +1,7 @@
-use Rattle.std.proofs.Common.{◌≡◌, ◌<◌, ◌≤◌, ◌+◌, length, take, get_or, ◌+ℤ◌, ◌*ℤ◌, All, HoldsAt, rules, ap, ◌∙◌, subst, unsigned_abs, FitsSigned}
+use Rattle.std.proofs.Common.{length, ◌+ℤ◌, ◌*ℤ◌, rules, ap, ◌∙◌, FitsSigned}
 use Rattle.std.specs.Int.{w32}
 use Rattle.std.proofs.lemmas.Int.{to_z-of_z}
-use Rattle.loop_bounds.specs.declared.linear.Term.{Term}
 use Rattle.loop_bounds.specs.Linear.{Sum, total}
-use Rattle.loop_bounds.specs.Form.{weight, IsForm}
 use Rattle.loop_bounds.proofs.FormLemmas.{raised_form, raised_total, raised_weight, pushed_form, pushed_total}
 use Rattle.loop_bounds.proofs.form.Form.add.Goals as goal
 

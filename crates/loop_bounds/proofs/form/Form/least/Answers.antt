@@ -1,8 +1,7 @@
-use Rattle.std.proofs.Common.{rules, refl, arith, ap, FitsSigned, ◌+ℤ◌, ◌+◌, take, ◌<◌, ◌^◌, unsigned_abs}
+use Rattle.std.proofs.Common.{rules, refl, arith, ap, FitsSigned, take, ◌<◌, ◌^◌}
 use Rattle.std.specs.Int.{w128}
-use Rattle.loop_bounds.specs.declared.linear.Term.{Term}
 use Rattle.loop_bounds.specs.Linear.{Sum}
-use Rattle.loop_bounds.specs.Form.{IsLeastSoFar, weight}
+use Rattle.loop_bounds.specs.Form.{weight}
 use Rattle.loop_bounds.proofs.Boxes.{least_more, least_fits, whole_bound, whole_reached}
 use Rattle.loop_bounds.proofs.Signed.{fits_128, sum_fits, sum_kept}
 use Rattle.loop_bounds.proofs.form.Form.least.Goals as goal

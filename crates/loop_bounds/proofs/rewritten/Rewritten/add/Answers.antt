@@ -1,4 +1,4 @@
-use Rattle.std.proofs.Common.{◌≡◌, ap, rules, arith, FitsSigned, ℤ, ◌-ℤ◌, ◌*ℤ◌, pos, ◌≤◌}
+use Rattle.std.proofs.Common.{rules, arith, FitsSigned}
 use Rattle.std.specs.Int.{w32, w128}
 use Rattle.std.proofs.lemmas.Int.{ints, to_z-of_z}
 use Rattle.loop_bounds.specs.Effect.{whole}

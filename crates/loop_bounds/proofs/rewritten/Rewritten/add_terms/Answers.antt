@@ -1,7 +1,6 @@
-use Rattle.std.proofs.Common.{◌≡◌, ◌≤◌, ◌+◌, rules, arith, FitsSigned, length}
+use Rattle.std.proofs.Common.{◌+◌, rules, arith, FitsSigned}
 use Rattle.std.specs.Int.{w32}
 use Rattle.std.proofs.lemmas.Int.{to_z-of_z}
-use Rattle.loop_bounds.specs.declared.linear.Term.{Term}
 use Rattle.loop_bounds.proofs.RewrittenLemmas.{room_wider, added_more}
 use Rattle.loop_bounds.proofs.rewritten.Rewritten.add_terms.Goals as goal
 
@@ -16,8 +15,8 @@ loop-term-preserved c =
     let is = simp to_z-of_z at c.negated_if.ensures.value in
     let value = simp to_z-of_z at c.add.ensures.value in
     added_more c.args.self.now c.loop-term.self c.add.new.self c.args.effect.now c.args.negated c.args.terms.now c.loop-term.term-index
-        c.term-item.result c.negated_if.result c.change-change.result c.loop-term.invariant c.loop-term-test.true c.term-item.is is (search rules)
-        value c.add.ensures.room c.add.ensures.known
+    c.term-item.result c.negated_if.result c.change-change.result c.loop-term.invariant c.loop-term-test.true c.term-item.is is (search rules)
+    value c.add.ensures.room c.add.ensures.known
 
 pub returns-clause-room : goal.returns-clause-room
 returns-clause-room c = λ used h.

@@ -1,4 +1,4 @@
-use Rattle.std.proofs.Common.{◌≡◌, ◌<◌, ◌^◌, ◌+ℤ◌, rules, arith, FitsSigned, to_z, of_z, unsigned_abs}
+use Rattle.std.proofs.Common.{◌≡◌, ◌+ℤ◌, rules, arith, FitsSigned, to_z, of_z}
 use Rattle.std.specs.Int.{w128}
 use Rattle.std.proofs.lemmas.Int.{to_z-of_z}
 use Rattle.loop_bounds.proofs.FormLemmas.{abs_sum}
@@ -21,5 +21,5 @@ returns g c =
     let b = c.least-2.result in
     let size = abs_sum a b in
     let sum : to_z w128 (of_z w128 (to_z w128 (of_z w128 a) +ℤ to_z w128 (of_z w128 b))) ≡ a +ℤ b =
-        sum_kept (of_z w128 a) a b (to_z-of_z w128 a first) second (fits_128 (a +ℤ b) (omega (arith, c.least.ensures.size, c.least-2.ensures.size))) in
+    sum_kept (of_z w128 a) a b (to_z-of_z w128 a first) second (fits_128 (a +ℤ b) (omega (arith, c.least.ensures.size, c.least-2.ensures.size))) in
     never_negative c.args.self.now _ _ a b _ sum c.least.ensures.bound c.least.ensures.reached c.least-2.ensures.bound c.least-2.ensures.reached
