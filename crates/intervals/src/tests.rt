@@ -142,7 +142,8 @@ fn pairs(rt: HostRuntime) {
         (two_pages.high, two_pages.low),
         (bytes(0x43, 0x44), ByteRange::full())
     );
-    assert_eq!(rt; loop_count.cut_high(bytes(9, 9)), None);
+    let none = loop_count.cut_high(bytes(9, 9));
+    assert_eq!(rt; none, None);
     let last = loop_count.cut_high(bytes(1, 1)).unwrap_or(Pair::full());
     assert_eq!(rt; last.word, words(0x0100, 0x01ff));
     let kept = Pair::of_origin(RegPair::Bc)

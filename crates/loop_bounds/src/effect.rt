@@ -1,6 +1,6 @@
 ghost use Rattle.std.specs.Prelude.{◌≡◌, ◌≢◌, ◌↔◌, ℕ, IsTrue};
 
-use crate::variable::{Part, SlotNumber, Variable};
+use crate::variable::{Part, Variable};
 
 /// What a step leaves in a variable.
 #[derive(Clone, Copy, Debug, PartialEq, Eq)]
@@ -19,7 +19,8 @@ pub enum Change {
 /// What a step leaves in a slot that it writes.
 #[derive(Clone, Copy, Debug, PartialEq, Eq)]
 pub struct SlotChange {
-    pub number: SlotNumber,
+    /// The number of the slot, 0 to 63.
+    pub number: u8,
     pub word: Change,
     pub high: Change,
     pub low: Change,

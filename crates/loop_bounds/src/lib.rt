@@ -8,6 +8,8 @@ mod form;
 mod linear;
 mod ranges;
 mod rewritten;
+#[cfg(test)]
+mod tests;
 mod tightening;
 mod variable;
 
@@ -16,4 +18,4 @@ pub use effect::{Change, Effect, SlotChange};
 pub use linear::{Linear, Term};
 pub use ranges::{Ranges, Tightenable};
 pub use tightening::tighten;
-pub use variable::{Part, SlotNumber, Variable};
+pub use variable::{Part, Variable};

@@ -1,43 +1,4 @@
-ghost use Rattle.std.specs.Prelude.{◌≡◌, ℕ, ◌<◌, SomeIff};
-
-use std::marker::Model;
-
-/// The number of a stack slot, 0 to 63. Slot 0 was pushed first.
-#[derive(Clone, Copy, Debug, PartialEq, Eq)]
-pub struct SlotNumber {
-    number: u8,
-}
-
-impl Model for SlotNumber {
-    ghost Value = { ℕ };
-
-    ghost view = { λ s. s.number };
-
-    ghost invariant = { λ s. s.number < 64 };
-
-    ghost inverse = { λ n. record { number = n } };
-}
-
-impl SlotNumber {
-    /// The slot of a number from 0 to 63, or None for a greater one.
-    pub fn new(number: u8) -> Option<SlotNumber>
-        ensures { SomeIff result (number < 64) number }
-    {
-        if number < 64 {
-            Some(SlotNumber { number })
-        } else {
-            None
-        }
-    }
-
-    /// The number, 0 to 63.
-    pub fn number(self) -> u8
-        ensures value { result ≡ self }
-        ensures within { self < 64 }
-    {
-        self.number
-    }
-}
+ghost use Rattle.std.specs.Prelude.{◌≡◌, ◌<◌};
 
 /// A slot's word, or one of its bytes.
 #[derive(Clone, Copy, Debug, PartialEq, Eq)]
@@ -62,13 +23,14 @@ pub enum Variable {
     Hl,
     Ix,
     Iy,
-    Slot(SlotNumber, Part),
+    /// The slot of a number from 0 to 63, where slot 0 was pushed first. No shape has more slots.
+    Slot(u8, Part),
 }
 
 impl Part {
     ghost use Rattle.loop_bounds.specs.Variable.{part_place};
 
-    fn place(self) -> u8
+    fn place(self) -> u16
         ensures value { result ≡ part_place self }
         ensures within { result < 3 }
     {
@@ -84,7 +46,7 @@ impl Variable {
     ghost use Rattle.loop_bounds.specs.Variable.{place_of};
 
     /// The place in the order A B C D E H L BC DE HL IX IY s0 s0h s0l s1 s1h .. s63l, 0 to 203.
-    pub fn place(self) -> u8
+    pub fn place(self) -> u16
         ensures { result ≡ place_of self }
     {
         match self {
@@ -100,7 +62,7 @@ impl Variable {
             Variable::Hl => 9,
             Variable::Ix => 10,
             Variable::Iy => 11,
-            Variable::Slot(slot, part) => 12 + 3 * slot.number() + part.place(),
+            Variable::Slot(slot, part) => 12 + 3 * u16::from(slot) + part.place(),
         }
     }
 }
