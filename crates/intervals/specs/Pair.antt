@@ -1,5 +1,5 @@
 -- What is known of a pair of registers (docs/CHECKER.md, "Ranges and their normal form").
-use Rattle.std.specs.Prelude.{◌≡◌, ℕ, ◌+◌, ◌*◌, ◌/◌, ◌%◌, ◌==◌, if◌then◌else◌, Option, Some, None, option_and_then, IfSome}
+use Rattle.std.specs.Prelude.{◌≡◌, ℕ, ◌+◌, ◌*◌, ◌/◌, ◌%◌, ◌==◌, if◌then◌else◌, Option, Some, None, option_and_then, unwrap_or, IfSome}
 use Rattle.intervals.specs.declared.pair.Pair.{Pair}
 use Rattle.intervals.specs.declared.reg_pair.RegPair.{RegPair}
 use Rattle.intervals.specs.Domain.{Entry}
@@ -73,14 +73,18 @@ normal_form p = option_and_then (λ high.
 abbrev pub full_pair : Pair
 full_pair = record { word = full 65536; high = full 256; low = full 256; origin = None }
 
--- a written word makes the bytes full first
-abbrev pub written_word : Interval → Option Pair
-written_word word = normal_form (record full_pair { word = word })
+-- a written word: the bytes are what its ends leave of them
+abbrev pub written_word : Interval → Pair
+written_word word = record {
+  word = word;
+  high = high_bytes word;
+  low = unwrap_or (low_bytes word) (full 256);
+  origin = None;
+}
 
 -- two written bytes make the word
-abbrev pub written_bytes : Interval → Interval → Option Pair
-written_bytes high low =
-    normal_form (record { word = words_of high low; high = high; low = low; origin = None })
+abbrev pub written_bytes : Interval → Interval → Pair
+written_bytes high low = record { word = words_of high low; high = high; low = low; origin = None }
 
 -- a cut of one range keeps the others as they are, and the normal form comes after it
 abbrev pub with_word_cut : Pair → Option Interval → Option Pair

@@ -1,36 +1,11 @@
 ghost use Rattle.std.specs.Prelude.{◌≡◌, ℕ, ◌≤◌, ◌≢◌, ◌↔◌, IsTrue, SomeIff, IsSomeAnd};
 ghost use Rattle.std.proofs.Common.{rules};
-ghost use Rattle.intervals.specs.Range.{Interval, Within, Covers, Meets, single, full, between, hull, intersection, without};
+ghost use Rattle.intervals.specs.Range.{Within, Covers, Meets, single, full, between, hull, intersection, without};
 
 use crate::domain::Domain;
-use std::marker::Model;
+use crate::range::{Bounds, ByteRange};
 
-/// The bytes from one to another, both included. It is never empty.
-#[derive(Clone, Copy, Debug, PartialEq, Eq)]
-pub struct ByteRange {
-    low: u8,
-    high: u8,
-}
-
-impl Model for ByteRange {
-    ghost Value = { Interval };
-
-    ghost view = { λ r. record { low = r.low; high = r.high } };
-
-    ghost invariant = { λ r. r.low ≤ r.high };
-
-    ghost inverse = { λ r. record { low = r.low; high = r.high } };
-}
-
-impl ByteRange {
-    /// The range from low to high, which are known to be in order.
-    pub(crate) fn of_ends(low: u8, high: u8) -> ByteRange
-        requires { low ≤ high }
-        ensures { result ≡ record { low = low; high = high } }
-    {
-        ByteRange { low, high }
-    }
-
+impl Bounds<u8> {
     /// The range from low to high, or None where low is above high.
     pub fn new(low: u8, high: u8) -> Option<ByteRange>
         ensures { result ≡ between low high }
@@ -63,34 +38,23 @@ impl ByteRange {
     }
 
     /// The bytes up to a bound, which is included.
-    pub fn at_most(high: u8) -> ByteRange
-        ensures { result ≡ record { low = 0; high = high } }
+    pub fn at_most(bound: u8) -> ByteRange
+        ensures { result ≡ record { low = 0; high = bound } }
     {
-        ByteRange { low: 0, high }
+        ByteRange {
+            low: 0,
+            high: bound,
+        }
     }
 
     /// The bytes from a bound on, which is included.
-    pub fn at_least(low: u8) -> ByteRange
-        ensures { result ≡ record { low = low; high = 255 } }
+    pub fn at_least(bound: u8) -> ByteRange
+        ensures { result ≡ record { low = bound; high = 255 } }
     {
-        ByteRange::of_ends(low, u8::MAX)
-    }
-
-    /// The least byte.
-    pub fn low(self) -> u8
-        ensures value { result ≡ self.low }
-        ensures ordered { self.low ≤ self.high }
-    {
-        self.low
-    }
-
-    /// The greatest byte.
-    pub fn high(self) -> u8
-        ensures value { result ≡ self.high }
-        ensures ordered { self.low ≤ self.high }
-        ensures within { self.high ≤ 255 }
-    {
-        self.high
+        ByteRange {
+            low: bound,
+            ..ByteRange::full()
+        }
     }
 
     /// The byte, where the range is one byte.
@@ -114,7 +78,7 @@ impl ByteRange {
         self.low <= value && value <= self.high
     }
 
-    /// Whether the ranges share a byte.
+    /// Whether the ranges share a byte, where neither is empty.
     pub fn meets(self, other: ByteRange) -> bool
         ensures { IsTrue result ↔ Meets self other }
     {
@@ -136,14 +100,14 @@ impl ByteRange {
     {
         match (self.low == value, self.high == value) {
             (true, true) => None,
-            (true, false) => ByteRange::new(self.low + 1, self.high),
-            (false, true) => ByteRange::new(self.low, self.high - 1),
-            (false, false) => Some(self),
+            (true, false) => ByteRange::new(self.low.checked_add(1)?, self.high),
+            (false, true) => ByteRange::new(self.low, self.high.checked_sub(1)?),
+            (false, false) => ByteRange::new(self.low, self.high),
         }
     }
 }
 
-impl Domain for ByteRange {
+impl Domain for Bounds<u8> {
     ghost holds = { λ r _ v. Within r v };
 
     ghost Covers = { Covers };

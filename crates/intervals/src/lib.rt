@@ -6,14 +6,14 @@ mod byte_range;
 mod domain;
 mod logic;
 mod pair;
+mod range;
 mod reg_pair;
 mod sums;
 #[cfg(test)]
 mod tests;
 mod word_range;
 
-pub use byte_range::ByteRange;
 pub use domain::Domain;
 pub use pair::Pair;
+pub use range::{Bounds, ByteRange, WordRange};
 pub use reg_pair::RegPair;
-pub use word_range::WordRange;

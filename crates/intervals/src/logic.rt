@@ -2,7 +2,7 @@ ghost use Rattle.std.specs.Prelude.{◌≡◌, ◌-◌, ◌*◌, ◌/◌, ◌%�
 ghost use Rattle.intervals.specs.Range.{single, TakesInto, TakesBothInto};
 ghost use Rattle.intervals.specs.Logic.{ones_from, conjunction, disjunction, exclusive_disjunction, complement, halves, doubles, of_single, rotation_left, rotation_right, with_bit_set, with_bit_reset};
 
-use crate::byte_range::ByteRange;
+use crate::range::{Bounds, ByteRange};
 
 /// The least of 0, 1, 3, 7 .. 255 that is not below the byte.
 fn ones_from(byte: u8) -> u8
@@ -23,7 +23,7 @@ fn ones_from(byte: u8) -> u8
 
 /// Logic, shifts and rotates of bytes (UM0080, "8-Bit Arithmetic Group", "General-Purpose Arithmetic" and "Rotate and
 /// Shift Group"). The instructions that are not here give full.
-impl ByteRange {
+impl Bounds<u8> {
     /// AND s.
     pub fn and(self, other: ByteRange) -> ByteRange
         ensures exact { result ≡ conjunction self other }
@@ -31,7 +31,7 @@ impl ByteRange {
     {
         match (self.value(), other.value()) {
             (Some(a), Some(b)) => ByteRange::single(a & b),
-            _ => ByteRange::at_most(self.high().min(other.high())),
+            _ => ByteRange::at_most(self.high.min(other.high)),
         }
     }
 
@@ -42,10 +42,10 @@ impl ByteRange {
     {
         match (self.value(), other.value()) {
             (Some(a), Some(b)) => ByteRange::single(a | b),
-            _ => ByteRange::of_ends(
-                self.low().max(other.low()),
-                ones_from(self.high().max(other.high())),
-            ),
+            _ => ByteRange {
+                low: self.low.max(other.low),
+                high: ones_from(self.high.max(other.high)),
+            },
         }
     }
 
@@ -56,7 +56,7 @@ impl ByteRange {
     {
         match (self.value(), other.value()) {
             (Some(a), Some(b)) => ByteRange::single(a ^ b),
-            _ => ByteRange::at_most(ones_from(self.high().max(other.high()))),
+            _ => ByteRange::at_most(ones_from(self.high.max(other.high))),
         }
     }
 
@@ -73,7 +73,10 @@ impl ByteRange {
         ensures exact { result ≡ complement self }
         ensures contains { TakesInto (λ x. 255 - x) self result }
     {
-        ByteRange::of_ends(!self.high(), !self.low())
+        ByteRange {
+            low: !self.high,
+            high: !self.low,
+        }
     }
 
     /// SRL r.
@@ -81,7 +84,10 @@ impl ByteRange {
         ensures exact { result ≡ halves self }
         ensures contains { TakesInto (λ x. x / 2) self result }
     {
-        ByteRange::of_ends(self.low() / 2, self.high() / 2)
+        ByteRange {
+            low: self.low / 2,
+            high: self.high / 2,
+        }
     }
 
     /// SLA r.
@@ -89,8 +95,11 @@ impl ByteRange {
         ensures exact { result ≡ doubles self }
         ensures contains { TakesInto (λ x. 2 * x % 256) self result }
     {
-        if self.high() <= 127 {
-            ByteRange::of_ends(2 * self.low(), 2 * self.high())
+        if self.low.max(self.high) <= 127 {
+            ByteRange {
+                low: 2 * self.low,
+                high: 2 * self.high,
+            }
         } else {
             ByteRange::full()
         }

@@ -1,11 +1,10 @@
-ghost use Rattle.std.specs.Prelude.{◌≡◌, ℕ, ◌+◌, ◌*◌, ◌/◌, ◌%◌, ◌≢◌, ◌↔◌, IsTrue, Some, IsSomeAnd};
+ghost use Rattle.std.specs.Prelude.{◌≡◌, ℕ, ◌+◌, ◌*◌, ◌/◌, ◌%◌, ◌≤◌, ◌≢◌, ◌↔◌, IsTrue, Some, IsSomeAnd};
 ghost use Rattle.intervals.specs.Domain.{Entry};
 ghost use Rattle.intervals.specs.Range.{Within, intersection, without};
 
-use crate::byte_range::ByteRange;
 use crate::domain::Domain;
+use crate::range::{Bounds, ByteRange, WordRange};
 use crate::reg_pair::RegPair;
-use crate::word_range::WordRange;
 
 /// What is known of a pair of registers or of a word on the stack: the range of the word, those of its high and its
 /// low byte, and whether it is what some pair was when the activation was entered. A pair that a certificate gives
@@ -18,32 +17,38 @@ pub struct Pair {
     pub origin: Option<RegPair>,
 }
 
-impl WordRange {
+impl Bounds<u16> {
     ghost use Rattle.intervals.specs.Pair.{words_of, high_bytes, low_bytes};
 
     /// The words that the ends of two ranges of bytes make.
     pub fn of_bytes(high: ByteRange, low: ByteRange) -> WordRange
         ensures { result ≡ words_of high low }
     {
-        WordRange::of_ends(
-            u16::from(high.low()) * 256 + u16::from(low.low()),
-            u16::from(high.high()) * 256 + u16::from(low.high()),
-        )
+        WordRange {
+            low: u16::from(high.low) * 256 + u16::from(low.low),
+            high: u16::from(high.high) * 256 + u16::from(low.high),
+        }
     }
 
     /// The range of the high bytes of its words.
     pub fn high_bytes(self) -> ByteRange
         ensures { result ≡ high_bytes self }
     {
-        ByteRange::of_ends((self.low() / 256) as u8, (self.high() / 256) as u8)
+        ByteRange {
+            low: (self.low / 256) as u8,
+            high: (self.high / 256) as u8,
+        }
     }
 
     /// The range of the low bytes of its words, where they all have one high byte.
     pub fn low_bytes(self) -> Option<ByteRange>
         ensures { result ≡ low_bytes self }
     {
-        if self.low() / 256 == self.high() / 256 {
-            Some(ByteRange::of_ends((self.low() % 256) as u8, (self.high() % 256) as u8))
+        if self.low / 256 == self.high / 256 {
+            Some(ByteRange {
+                low: (self.low % 256) as u8,
+                high: (self.high % 256) as u8,
+            })
         } else {
             None
         }
@@ -110,9 +115,10 @@ impl Pair {
         })
     }
 
-    /// A pair that a word was written into. It has no origin.
+    /// A pair that a word was written into, which makes its bytes full first. It has no origin, and is in normal form.
     pub fn of_word(word: WordRange) -> Pair
-        ensures exact { Some result ≡ written_word word }
+        ensures exact { result ≡ written_word word }
+        ensures normal { word.low ≤ word.high → normal_form (record full_pair { word = word }) ≡ Some result }
         ensures contains { (entry : Entry) (v : ℕ) → Within word v → Holds result entry v }
     {
         Pair {
@@ -123,9 +129,10 @@ impl Pair {
         }
     }
 
-    /// A pair that two bytes were written into. It has no origin.
+    /// A pair that two bytes were written into, which make its word. It has no origin, and is in normal form.
     pub fn of_bytes(high: ByteRange, low: ByteRange) -> Pair
-        ensures exact { Some result ≡ written_bytes high low }
+        ensures exact { result ≡ written_bytes high low }
+        ensures normal { high.low ≤ high.high → low.low ≤ low.high → normal_form result ≡ Some result }
         ensures contains { (entry : Entry) (x y : ℕ) → Within high x → Within low y
             → Holds result entry (x * 256 + y) }
     {
@@ -139,7 +146,7 @@ impl Pair {
 
     /// The pair after its high byte was written. It has no origin.
     pub fn with_high(self, high: ByteRange) -> Pair
-        ensures exact { Some result ≡ written_bytes high self.low }
+        ensures exact { result ≡ written_bytes high self.low }
         ensures contains { (entry : Entry) (v x : ℕ) → Holds self entry v → Within high x
             → Holds result entry (x * 256 + v % 256) }
     {
@@ -148,7 +155,7 @@ impl Pair {
 
     /// The pair after its low byte was written. It has no origin.
     pub fn with_low(self, low: ByteRange) -> Pair
-        ensures exact { Some result ≡ written_bytes self.high low }
+        ensures exact { result ≡ written_bytes self.high low }
         ensures contains { (entry : Entry) (v y : ℕ) → Holds self entry v → Within low y
             → Holds result entry (v / 256 * 256 + y) }
     {

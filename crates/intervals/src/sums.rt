@@ -2,16 +2,17 @@ ghost use Rattle.std.specs.Prelude.{◌≡◌, ℕ, ◌+◌, ◌-◌, ◌%◌, �
 ghost use Rattle.intervals.specs.Range.{Within, single, TakesInto, TakesBothInto};
 ghost use Rattle.intervals.specs.Sums.{window, sum, sum_with_carry, difference, difference_with_carry, increment, decrement, negation, displacement_of, displacement};
 
-use crate::byte_range::ByteRange;
-use crate::word_range::WordRange;
+use crate::range::{Bounds, ByteRange, WordRange};
 
 /// The residues modulo 256 of the results from low to high, if they lie in one window.
 fn bytes_in_window(low: u16, high: u16) -> ByteRange
-    requires { low ≤ high }
     ensures { result ≡ window 256 low high }
 {
     if low / 256 == high / 256 {
-        ByteRange::of_ends((low % 256) as u8, (high % 256) as u8)
+        ByteRange {
+            low: (low % 256) as u8,
+            high: (high % 256) as u8,
+        }
     } else {
         ByteRange::full()
     }
@@ -19,11 +20,13 @@ fn bytes_in_window(low: u16, high: u16) -> ByteRange
 
 /// The residues modulo 65,536 of the results from low to high, if they lie in one window.
 fn words_in_window(low: u32, high: u32) -> WordRange
-    requires { low ≤ high }
     ensures { result ≡ window 65536 low high }
 {
     if low / 65_536 == high / 65_536 {
-        WordRange::of_ends((low % 65_536) as u16, (high % 65_536) as u16)
+        WordRange {
+            low: (low % 65_536) as u16,
+            high: (high % 65_536) as u16,
+        }
     } else {
         WordRange::full()
     }
@@ -31,14 +34,13 @@ fn words_in_window(low: u32, high: u32) -> WordRange
 
 /// Sums and differences of bytes by the window rule (UM0080, "8-Bit Arithmetic Group"). A difference is raised by 256
 /// on the way, which changes no residue.
-impl ByteRange {
+impl Bounds<u8> {
     fn ends(self) -> (u16, u16)
         ensures low { result.0 ≡ self.low }
         ensures high { result.1 ≡ self.high }
-        ensures ordered { self.low ≤ self.high }
-        ensures within { self.high ≤ 255 }
+        ensures within { (self.low ≤ 255) × (self.high ≤ 255) }
     {
-        (u16::from(self.low()), u16::from(self.high()))
+        (u16::from(self.low), u16::from(self.high))
     }
 
     /// ADD A,s.
@@ -117,14 +119,13 @@ impl ByteRange {
 
 /// Sums and differences of words by the window rule (UM0080, "16-Bit Arithmetic Group"). A difference is raised by
 /// 65,536 on the way, which changes no residue.
-impl WordRange {
+impl Bounds<u16> {
     fn ends(self) -> (u32, u32)
         ensures low { result.0 ≡ self.low }
         ensures high { result.1 ≡ self.high }
-        ensures ordered { self.low ≤ self.high }
-        ensures within { self.high ≤ 65535 }
+        ensures within { (self.low ≤ 65535) × (self.high ≤ 65535) }
     {
-        (u32::from(self.low()), u32::from(self.high()))
+        (u32::from(self.low), u32::from(self.high))
     }
 
     /// ADD HL,ss, ADD IX,pp and ADD IY,rr.

@@ -1,36 +1,11 @@
 ghost use Rattle.std.specs.Prelude.{◌≡◌, ℕ, ◌≤◌, ◌≢◌, ◌↔◌, IsTrue, SomeIff, IsSomeAnd};
 ghost use Rattle.std.proofs.Common.{rules};
-ghost use Rattle.intervals.specs.Range.{Interval, Within, Covers, Meets, single, full, between, hull, intersection, without};
+ghost use Rattle.intervals.specs.Range.{Within, Covers, Meets, single, full, between, hull, intersection, without};
 
 use crate::domain::Domain;
-use std::marker::Model;
+use crate::range::{Bounds, WordRange};
 
-/// The words from one to another, both included. It is never empty.
-#[derive(Clone, Copy, Debug, PartialEq, Eq)]
-pub struct WordRange {
-    low: u16,
-    high: u16,
-}
-
-impl Model for WordRange {
-    ghost Value = { Interval };
-
-    ghost view = { λ r. record { low = r.low; high = r.high } };
-
-    ghost invariant = { λ r. r.low ≤ r.high };
-
-    ghost inverse = { λ r. record { low = r.low; high = r.high } };
-}
-
-impl WordRange {
-    /// The range from low to high, which are known to be in order.
-    pub(crate) fn of_ends(low: u16, high: u16) -> WordRange
-        requires { low ≤ high }
-        ensures { result ≡ record { low = low; high = high } }
-    {
-        WordRange { low, high }
-    }
-
+impl Bounds<u16> {
     /// The range from low to high, or None where low is above high.
     pub fn new(low: u16, high: u16) -> Option<WordRange>
         ensures { result ≡ between low high }
@@ -63,34 +38,23 @@ impl WordRange {
     }
 
     /// The words up to a bound, which is included.
-    pub fn at_most(high: u16) -> WordRange
-        ensures { result ≡ record { low = 0; high = high } }
+    pub fn at_most(bound: u16) -> WordRange
+        ensures { result ≡ record { low = 0; high = bound } }
     {
-        WordRange { low: 0, high }
+        WordRange {
+            low: 0,
+            high: bound,
+        }
     }
 
     /// The words from a bound on, which is included.
-    pub fn at_least(low: u16) -> WordRange
-        ensures { result ≡ record { low = low; high = 65535 } }
+    pub fn at_least(bound: u16) -> WordRange
+        ensures { result ≡ record { low = bound; high = 65535 } }
     {
-        WordRange::of_ends(low, u16::MAX)
-    }
-
-    /// The least word.
-    pub fn low(self) -> u16
-        ensures value { result ≡ self.low }
-        ensures ordered { self.low ≤ self.high }
-    {
-        self.low
-    }
-
-    /// The greatest word.
-    pub fn high(self) -> u16
-        ensures value { result ≡ self.high }
-        ensures ordered { self.low ≤ self.high }
-        ensures within { self.high ≤ 65535 }
-    {
-        self.high
+        WordRange {
+            low: bound,
+            ..WordRange::full()
+        }
     }
 
     /// The word, where the range is one word.
@@ -114,7 +78,7 @@ impl WordRange {
         self.low <= value && value <= self.high
     }
 
-    /// Whether the ranges share a word.
+    /// Whether the ranges share a word, where neither is empty.
     pub fn meets(self, other: WordRange) -> bool
         ensures { IsTrue result ↔ Meets self other }
     {
@@ -136,14 +100,14 @@ impl WordRange {
     {
         match (self.low == value, self.high == value) {
             (true, true) => None,
-            (true, false) => WordRange::new(self.low + 1, self.high),
-            (false, true) => WordRange::new(self.low, self.high - 1),
-            (false, false) => Some(self),
+            (true, false) => WordRange::new(self.low.checked_add(1)?, self.high),
+            (false, true) => WordRange::new(self.low, self.high.checked_sub(1)?),
+            (false, false) => WordRange::new(self.low, self.high),
         }
     }
 }
 
-impl Domain for WordRange {
+impl Domain for Bounds<u16> {
     ghost holds = { λ r _ v. Within r v };
 
     ghost Covers = { Covers };
