@@ -14,10 +14,10 @@ use Rattle.loop_bounds.specs.declared.linear.Term.{Term}
 use Rattle.loop_bounds.specs.declared.variable.Variable.{Variable}
 use Rattle.loop_bounds.specs.Linear.{Sum, total, value, IsLinear}
 use Rattle.loop_bounds.specs.Effect.{Valuation, whole}
-use Rattle.loop_bounds.specs.Ranges.{Box}
+use Rattle.loop_bounds.specs.Ranges.{Box, IsBetween}
 use Rattle.loop_bounds.specs.Form.{weight, least_total, end_of, IsLeastSoFar}
 use Rattle.loop_bounds.proofs.FormLemmas.{abs_sum}
-use Rattle.loop_bounds.proofs.Boxes.{multiple_size, multiple_bound}
+use Rattle.loop_bounds.proofs.Boxes.{multiple_bound}
 use Rattle.loop_bounds.specs.Tighten.{quotient_up, multiples_between, balancing, top_of, greatest_total, share_left, tightened_from, IsGreatestSoFar}
 
 pub between_multiples : (from to : ℤ) (factor : ℕ) (r : Interval) (low high : ℕ) (result : Option Interval) → pos 0 ≤ℤ to → low ≡ max r.low (quotient_up from factor) → high ≡ min r.high (unsigned_abs to / factor) → result ≡ between low high → result ≡ multiples_between from to factor r
@@ -29,19 +29,12 @@ greatest_total_push : (box : Box) (ts : List Term) (t : Term) → greatest_total
 greatest_total_push box [] t = omega (arith, ints)
 greatest_total_push box (u ∷ ts) t = omega (arith, ints, greatest_total_push box ts t)
 
-top_below : (c : ℤ) (r : Interval) → r.low ≤ r.high → r.high ≤ 65535 → top_of r c ≤ 65535
-top_below (pos n) r h k = k
-top_below (negsuc n) r h k = omega arith
-
 pub greatest_none : (box : Box) → IsGreatestSoFar box [] (pos 0)
 greatest_none box = record { exact = refl; size = omega arith }
 
-greatest_push : (box : Box) (ts : List Term) (t : Term) (r : Interval) (greatest m : ℤ) → IsGreatestSoFar box ts greatest → r ≡ box t.variable → m ≡ t.coefficient *ℤ pos (top_of r t.coefficient) → r.low ≤ r.high → r.high ≤ 65535 → IsGreatestSoFar box (ts ++ t ∷ []) (greatest +ℤ m)
-greatest_push box ts t r greatest m h e is ordered within =
+greatest_push : (box : Box) (ts : List Term) (t : Term) (r : Interval) (greatest m : ℤ) → IsGreatestSoFar box ts greatest → r ≡ box t.variable → m ≡ t.coefficient *ℤ pos (top_of r t.coefficient) → unsigned_abs m ≤ 65535 * unsigned_abs t.coefficient → IsGreatestSoFar box (ts ++ t ∷ []) (greatest +ℤ m)
+greatest_push box ts t r greatest m h e is small =
     let here : m ≡ t.coefficient *ℤ pos (top_of (box t.variable) t.coefficient) = is ∙ ap (λ (q : Interval). t.coefficient *ℤ pos (top_of q t.coefficient)) e in
-    let low : unsigned_abs (t.coefficient *ℤ pos (top_of r t.coefficient)) ≤ 65535 * unsigned_abs t.coefficient =
-    multiple_size t.coefficient (top_of r t.coefficient) (top_below t.coefficient r ordered within) in
-    let small : unsigned_abs m ≤ 65535 * unsigned_abs t.coefficient = rw is low in
     let heavier = sum_by-append (λ (u : Term). unsigned_abs u.coefficient) ts (t ∷ []) in
     let sum : unsigned_abs (greatest +ℤ m) ≤ unsigned_abs greatest + unsigned_abs m = abs_sum greatest m in
     record {
@@ -49,10 +42,10 @@ greatest_push box ts t r greatest m h e is ordered within =
       size = omega (arith, h.size, heavier);
     }
 
-pub greatest_more : (box : Box) (ts : List Term) (k : ℕ) (t : Term) (r : Interval) (greatest m : ℤ) → IsGreatestSoFar box (take k ts) greatest → k < length ts → t ≡ get_or ts k t → r ≡ box t.variable → m ≡ t.coefficient *ℤ pos (top_of r t.coefficient) → r.low ≤ r.high → r.high ≤ 65535 → IsGreatestSoFar box (take (k + 1) ts) (greatest +ℤ m)
-greatest_more box ts k t r greatest m h inside at e is ordered within =
+pub greatest_more : (box : Box) (ts : List Term) (k : ℕ) (t : Term) (r : Interval) (greatest m : ℤ) → IsGreatestSoFar box (take k ts) greatest → k < length ts → t ≡ get_or ts k t → r ≡ box t.variable → m ≡ t.coefficient *ℤ pos (top_of r t.coefficient) → unsigned_abs m ≤ 65535 * unsigned_abs t.coefficient → IsGreatestSoFar box (take (k + 1) ts) (greatest +ℤ m)
+greatest_more box ts k t r greatest m h inside at e is small =
     let more : take (k + 1) ts ≡ take k ts ++ t ∷ [] = take_more ts k t inside ∙ ap (λ (u : Term). take k ts ++ u ∷ []) (sym at) in
-    rw more (greatest_push box (take k ts) t r greatest m h e is ordered within)
+    rw more (greatest_push box (take k ts) t r greatest m h e is small)
 
 pub greatest_fits : (box : Box) (ts : List Term) (k : ℕ) (greatest : ℤ) → IsGreatestSoFar box (take k ts) greatest → weight ts < 2 ^ 31 → unsigned_abs greatest < 2 ^ 61
 greatest_fits box ts k greatest h light =
@@ -110,21 +103,24 @@ total-remove x [] k d h = absurd (omega arith)
 total-remove x (t ∷ ts) zero d h = omega (arith, ints)
 total-remove x (t ∷ ts) (suc k) d h = omega (arith, ints, total-remove x ts k d (omega arith))
 
-multiple_below_top : (c : ℤ) (r : Interval) (x : ℕ) → Within r x → (c *ℤ pos x) ≤ℤ (c *ℤ pos (top_of r c))
+multiple_below_top : (c : ℤ) (r : Interval) (x : ℕ) → IsBetween r x → (c *ℤ pos x) ≤ℤ (c *ℤ pos (top_of r c))
 multiple_below_top (pos n) r x h =
-    rw (pos-*ℤ-pos n r.high, pos-*ℤ-pos n x) (omega (arith, ints, mul-le n x n r.high (omega arith) h.1))
+    rw (pos-*ℤ-pos n (max r.low r.high), pos-*ℤ-pos n x) (omega (arith, ints, mul-le n x n (max r.low r.high) (omega arith) h.1))
 multiple_below_top (negsuc n) r x h =
-    rw (negsuc-*ℤ-pos n r.low, negsuc-*ℤ-pos n x) (omega (arith, ints, mul-le (suc n) r.low (suc n) x (omega arith) h.0))
+    rw (negsuc-*ℤ-pos n (min r.low r.high), negsuc-*ℤ-pos n x) (omega (arith, ints, mul-le (suc n) (min r.low r.high) (suc n) x (omega arith) h.0))
+
+between_within : (r : Interval) (n : ℕ) → Within r n → IsBetween r n
+between_within r n h = omega arith
 
 total_above_least : (box : Box) (x : Valuation) → ((v : Variable) → Within (box v) (x v)) → (ts : List Term) → least_total box ts ≤ℤ total (whole x) ts
 total_above_least box x h [] = omega (arith, ints)
 total_above_least box x h (t ∷ ts) =
-    omega (arith, ints, multiple_bound t.coefficient (box t.variable) (x t.variable) (h t.variable), total_above_least box x h ts)
+    omega (arith, ints, multiple_bound t.coefficient (box t.variable) (x t.variable) (between_within (box t.variable) (x t.variable) (h t.variable)), total_above_least box x h ts)
 
 total_below_greatest : (box : Box) (x : Valuation) → ((v : Variable) → Within (box v) (x v)) → (ts : List Term) → total (whole x) ts ≤ℤ greatest_total box ts
 total_below_greatest box x h [] = omega (arith, ints)
 total_below_greatest box x h (t ∷ ts) =
-    omega (arith, ints, multiple_below_top t.coefficient (box t.variable) (x t.variable) (h t.variable), total_below_greatest box x h ts)
+    omega (arith, ints, multiple_below_top t.coefficient (box t.variable) (x t.variable) (between_within (box t.variable) (x t.variable) (h t.variable)), total_below_greatest box x h ts)
 
 quotient_up_below : (z : ℤ) (factor n : ℕ) → 0 < factor → z ≤ℤ pos (factor * n) → quotient_up z factor ≤ n
 quotient_up_below (negsuc z) factor n h k = omega arith

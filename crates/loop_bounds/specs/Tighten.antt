@@ -1,6 +1,6 @@
 -- A linear that is 0 cuts each of its variables to what the others leave (docs/CHECKER.md, "Linear bounds, effects and
 -- tightening").
-use Rattle.std.specs.Prelude.{◌≡◌, ℕ, suc, ◌+◌, ◌*◌, ◌/◌, ◌≤◌, unsigned_abs, List, [], ◌∷◌, remove, ℤ, pos, negsuc, neg_ℤ, ◌+ℤ◌, ◌*ℤ◌, Option, Some, None, option_and_then}
+use Rattle.std.specs.Prelude.{◌≡◌, ℕ, suc, ◌+◌, ◌*◌, ◌/◌, ◌≤◌, min, max, unsigned_abs, List, [], ◌∷◌, remove, ℤ, pos, negsuc, neg_ℤ, ◌+ℤ◌, ◌*ℤ◌, Option, Some, None, option_and_then}
 use Rattle.std.specs.Int.{div_ceil}
 use Rattle.intervals.specs.Range.{Interval, intersection}
 use Rattle.loop_bounds.specs.declared.linear.Term.{Term}
@@ -11,8 +11,8 @@ use Rattle.loop_bounds.specs.Form.{least_total, weight}
 
 -- the end of a range at which a multiple is greatest
 abbrev pub top_of : Interval → ℤ → ℕ
-top_of r (pos n) = r.high
-top_of r (negsuc n) = r.low
+top_of r (pos n) = max r.low r.high
+top_of r (negsuc n) = min r.low r.high
 
 -- what the terms come to, each at the end where it is greatest
 abbrev pub greatest_total : Box → List Term → ℤ

@@ -55,10 +55,8 @@ pub fn multiple(coefficient: i32, value: u16) -> i128
 pub fn least_multiple(coefficient: i32, range: WordRange) -> i128
     ensures value { result ≡ coefficient *ℤ pos (end_of range coefficient) }
     ensures size { unsigned_abs result ≤ 65535 * unsigned_abs coefficient }
-    ensures ordered { range.low ≤ range.high }
-    ensures within { range.high ≤ 65535 }
 {
-    let (low, high) = (range.low(), range.high());
+    let (low, high) = (range.low.min(range.high), range.low.max(range.high));
     multiple(coefficient, if coefficient >= 0 { low } else { high })
 }
 

@@ -214,7 +214,7 @@ fn tightened(fact: &Linear, low: u16, high: u16) -> Option<(u16, u16)> {
         range: words(low, high),
     };
     if tighten(fact, &mut state) {
-        Some((state.range.low(), state.range.high()))
+        Some((state.range.low, state.range.high))
     } else {
         None
     }

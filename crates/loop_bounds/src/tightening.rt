@@ -2,7 +2,7 @@ ghost use Rattle.std.specs.Prelude.{◌≡◌, ℕ, ◌+◌, ◌*◌, ◌<◌, �
 ghost use Rattle.intervals.specs.Range.{Interval};
 ghost use Rattle.loop_bounds.specs.Linear.{IsLinear, value};
 ghost use Rattle.loop_bounds.specs.Effect.{Valuation, whole};
-ghost use Rattle.loop_bounds.specs.Form.{least_total, weight, IsNonEmpty};
+ghost use Rattle.loop_bounds.specs.Form.{least_total, weight};
 ghost use Rattle.loop_bounds.specs.Tighten.{greatest_total, top_of, quotient_up, multiples_between, balancing, share_left, tightened};
 
 use crate::form::{least_multiple, multiple};
@@ -32,8 +32,8 @@ fn multiples_between(from: i128, to: i128, factor: u32, range: WordRange) -> Opt
     if to < 0 {
         return None;
     }
-    let low = u128::from(range.low()).max(quotient_up(from, factor));
-    let high = u128::from(range.high()).min(to.unsigned_abs() / u128::from(factor));
+    let low = u128::from(range.low).max(quotient_up(from, factor));
+    let high = u128::from(range.high).min(to.unsigned_abs() / u128::from(factor));
     if low > high {
         return None;
     }
@@ -77,10 +77,8 @@ fn span<R: Ranges>(terms: &[Term], ranges: &R) -> (i128, i128)
 fn greatest_multiple(coefficient: i32, range: WordRange) -> i128
     ensures value { result ≡ coefficient *ℤ pos (top_of range coefficient) }
     ensures size { unsigned_abs result ≤ 65535 * unsigned_abs coefficient }
-    ensures ordered { range.low ≤ range.high }
-    ensures within { range.high ≤ 65535 }
 {
-    let (low, high) = (range.low(), range.high());
+    let (low, high) = (range.low.min(range.high), range.low.max(range.high));
     multiple(coefficient, if coefficient >= 0 { high } else { low })
 }
 

@@ -1,4 +1,4 @@
-use Rattle.std.proofs.Common.{◌≤◌, rules, ap}
+use Rattle.std.proofs.Common.{◌≤◌, rules}
 use Rattle.intervals.specs.Range.{Interval}
 use Rattle.intervals.proofs.Bytes.{or_within}
 use Rattle.intervals.proofs.logic.Bounds+u8.or.Goals as goal
