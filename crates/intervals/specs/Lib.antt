@@ -1,0 +1,7 @@
+pub mod Domain
+pub mod Range
+pub mod RegPair
+pub mod Sums
+pub mod Logic
+pub mod Pair
+pub mod PairLaws

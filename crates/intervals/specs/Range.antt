@@ -1,0 +1,52 @@
+-- Ranges of bytes and of words (docs/CHECKER.md, "Ranges and their normal form").
+use Rattle.std.specs.Prelude.{ℕ, ◌+◌, ◌-◌, ◌≤◌, min, max, ◌==◌, nat_le, if◌then◌else◌, Option, Some, None}
+use Rattle.intervals.specs.declared.range.Bounds.{Bounds}
+
+-- the whole numbers from low to high, both included: what a `ByteRange` and a `WordRange` are
+abbrev pub Interval : Type 0
+Interval = Bounds ℕ
+
+-- the value lies in the range
+abbrev pub Within : Interval → ℕ → Type 0
+Within r v = (r.low ≤ v) × (v ≤ r.high)
+
+-- the range of one value
+abbrev pub single : ℕ → Interval
+single v = record { low = v; high = v }
+
+-- all values of a size: 256 for bytes, 65,536 for words
+abbrev pub full : ℕ → Interval
+full size = record { low = 0; high = size - 1 }
+
+-- the range from low to high, if it holds any value
+abbrev pub between : ℕ → ℕ → Option Interval
+between low high = if nat_le low high then Some (record { low = low; high = high }) else None
+
+-- each value of the second range lies in the first
+abbrev pub Covers : Interval → Interval → Type 0
+Covers a b = (a.low ≤ b.low) × (b.high ≤ a.high)
+
+-- the least range that covers both
+abbrev pub hull : Interval → Interval → Interval
+hull a b = record { low = min a.low b.low; high = max a.high b.high }
+
+-- the ranges share a value
+abbrev pub Meets : Interval → Interval → Type 0
+Meets a b = (a.low ≤ b.high) × (b.low ≤ a.high)
+
+-- the values that lie in both ranges, if there are any
+abbrev pub intersection : Interval → Interval → Option Interval
+intersection a b = between (max a.low b.low) (min a.high b.high)
+
+-- the range with one value cut from its ends, if any value is left: a value between the ends stays
+abbrev pub without : Interval → ℕ → Option Interval
+without r v =
+    between (if r.low == v then r.low + 1 else r.low) (if r.high == v then r.high - 1 else r.high)
+
+-- the result holds what the operation makes of each value of the range
+abbrev pub TakesInto : (ℕ → ℕ) → Interval → Interval → Type 0
+TakesInto f a result = (x : ℕ) → Within a x → Within result (f x)
+
+-- the result holds what the operation makes of each two values of the ranges
+abbrev pub TakesBothInto : (ℕ → ℕ → ℕ) → Interval → Interval → Interval → Type 0
+TakesBothInto f a b result = (x y : ℕ) → Within a x → Within b y → Within result (f x y)

@@ -1,0 +1,30 @@
+ghost use Rattle.std.specs.Prelude.{◌≡◌, ℕ, ◌↔◌, IsTrue};
+ghost use Rattle.intervals.specs.Domain.{Entry};
+
+/// What is known of a value of a running program. Its meaning is the set of values for which it holds, given what
+/// each pair was when the activation was entered; ranges alone don't depend on the entry.
+pub trait Domain: Sized {
+    ghost holds: { Self → Entry → ℕ → Type 0 };
+
+    ghost Covers: { Self → Self → Type 0 };
+
+    ghost joined: { Self → Self → Self };
+
+    /// Whether this knowledge is implied by the other: it then holds wherever the other does.
+    fn covers(&self, other: &Self) -> bool
+        ensures { IsTrue result ↔ Covers self.now other.now };
+
+    /// Knowledge that covers both.
+    fn join(&self, other: &Self) -> Self
+        ensures { result ≡ joined self.now other.now };
+
+    ghost reflexive: { (a : Self) → Covers a a };
+
+    ghost transitive: { (a b c : Self) → Covers a b → Covers b c → Covers a c };
+
+    ghost widens: { (a b : Self) (entry : Entry) (v : ℕ) → Covers a b → holds b entry v → holds a entry v };
+
+    ghost joins_first: { (a b : Self) → Covers (joined a b) a };
+
+    ghost joins_second: { (a b : Self) → Covers (joined a b) b };
+}

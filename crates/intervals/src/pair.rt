@@ -1,0 +1,267 @@
+ghost use Rattle.std.specs.Prelude.{◌≡◌, ℕ, ◌+◌, ◌*◌, ◌/◌, ◌%◌, ◌≤◌, ◌≢◌, ◌↔◌, IsTrue, Some, IsSomeAnd};
+ghost use Rattle.intervals.specs.Domain.{Entry};
+ghost use Rattle.intervals.specs.Range.{Within, intersection, without};
+
+use crate::domain::Domain;
+use crate::range::{Bounds, ByteRange, WordRange};
+use crate::reg_pair::RegPair;
+
+/// What is known of a pair of registers or of a word on the stack: the range of the word, those of its high and its
+/// low byte, and whether it is what some pair was when the activation was entered. A pair that a certificate gives
+/// needs no normal form, and may hold of no value.
+#[derive(Clone, Copy, Debug, PartialEq, Eq)]
+pub struct Pair {
+    pub word: WordRange,
+    pub high: ByteRange,
+    pub low: ByteRange,
+    pub origin: Option<RegPair>,
+}
+
+impl Bounds<u16> {
+    ghost use Rattle.intervals.specs.Pair.{words_of, high_bytes, low_bytes};
+
+    /// The words that the ends of two ranges of bytes make.
+    pub fn of_bytes(high: ByteRange, low: ByteRange) -> WordRange
+        ensures { result ≡ words_of high low }
+    {
+        WordRange {
+            low: u16::from(high.low) * 256 + u16::from(low.low),
+            high: u16::from(high.high) * 256 + u16::from(low.high),
+        }
+    }
+
+    /// The range of the high bytes of its words.
+    pub fn high_bytes(self) -> ByteRange
+        ensures { result ≡ high_bytes self }
+    {
+        ByteRange {
+            low: (self.low / 256) as u8,
+            high: (self.high / 256) as u8,
+        }
+    }
+
+    /// The range of the low bytes of its words, where they all have one high byte.
+    pub fn low_bytes(self) -> Option<ByteRange>
+        ensures { result ≡ low_bytes self }
+    {
+        if self.low / 256 == self.high / 256 {
+            Some(ByteRange {
+                low: (self.low % 256) as u8,
+                high: (self.high % 256) as u8,
+            })
+        } else {
+            None
+        }
+    }
+}
+
+impl Pair {
+    ghost use Rattle.intervals.specs.Pair.{Holds, MeetsPair, full_pair, normal_form, written_word, written_bytes, with_word_cut, with_high_cut, with_low_cut};
+
+    /// A pair of which nothing is known.
+    pub fn full() -> Pair
+        ensures { result ≡ full_pair }
+    {
+        Pair {
+            word: WordRange::full(),
+            high: ByteRange::full(),
+            low: ByteRange::full(),
+            origin: None,
+        }
+    }
+
+    /// A pair of which only its origin is known.
+    pub fn of_origin(origin: RegPair) -> Pair
+        ensures { result ≡ record full_pair { origin = Some origin } }
+    {
+        Pair {
+            origin: Some(origin),
+            ..Pair::full()
+        }
+    }
+
+    /// Whether the three ranges are full; the origin doesn't matter.
+    pub fn is_full(self) -> bool
+        ensures { IsTrue result ↔ (record self { origin = full_pair.origin } ≡ full_pair) }
+    {
+        self.word.is_full() && self.high.is_full() && self.low.is_full()
+    }
+
+    /// Whether, range by range, the pairs share a value. Origins don't matter.
+    pub fn meets(self, other: Pair) -> bool
+        ensures { IsTrue result ↔ MeetsPair self other }
+    {
+        self.word.meets(other.word) && self.high.meets(other.high) && self.low.meets(other.low)
+    }
+
+    /// The normal form, made of three cuts, or None where one of them leaves nothing. It may not be its own normal
+    /// form.
+    pub fn normal_form(self) -> Option<Pair>
+        ensures exact { result ≡ normal_form self }
+        ensures keeps { (entry : Entry) (v : ℕ) → Holds self entry v
+            → IsSomeAnd result (λ p. Holds p entry v) }
+    {
+        let high = self.high.intersection(self.word.high_bytes())?;
+        let low = match self.word.low_bytes() {
+            Some(bytes) => self.low.intersection(bytes)?,
+            None => self.low,
+        };
+        let word = self.word.intersection(WordRange::of_bytes(high, low))?;
+        Some(Pair {
+            word,
+            high,
+            low,
+            origin: self.origin,
+        })
+    }
+
+    /// A pair that a word was written into, which makes its bytes full first. It has no origin, and is in normal form.
+    pub fn of_word(word: WordRange) -> Pair
+        ensures exact { result ≡ written_word word }
+        ensures normal { word.low ≤ word.high → normal_form (record full_pair { word = word }) ≡ Some result }
+        ensures contains { (entry : Entry) (v : ℕ) → Within word v → Holds result entry v }
+    {
+        Pair {
+            word,
+            high: word.high_bytes(),
+            low: word.low_bytes().unwrap_or(ByteRange::full()),
+            origin: None,
+        }
+    }
+
+    /// A pair that two bytes were written into, which make its word. It has no origin, and is in normal form.
+    pub fn of_bytes(high: ByteRange, low: ByteRange) -> Pair
+        ensures exact { result ≡ written_bytes high low }
+        ensures normal { high.low ≤ high.high → low.low ≤ low.high → normal_form result ≡ Some result }
+        ensures contains { (entry : Entry) (x y : ℕ) → Within high x → Within low y
+            → Holds result entry (x * 256 + y) }
+    {
+        Pair {
+            word: WordRange::of_bytes(high, low),
+            high,
+            low,
+            origin: None,
+        }
+    }
+
+    /// The pair after its high byte was written. It has no origin.
+    pub fn with_high(self, high: ByteRange) -> Pair
+        ensures exact { result ≡ written_bytes high self.low }
+        ensures contains { (entry : Entry) (v x : ℕ) → Holds self entry v → Within high x
+            → Holds result entry (x * 256 + v % 256) }
+    {
+        Pair::of_bytes(high, self.low)
+    }
+
+    /// The pair after its low byte was written. It has no origin.
+    pub fn with_low(self, low: ByteRange) -> Pair
+        ensures exact { result ≡ written_bytes self.high low }
+        ensures contains { (entry : Entry) (v y : ℕ) → Holds self entry v → Within low y
+            → Holds result entry (v / 256 * 256 + y) }
+    {
+        Pair::of_bytes(self.high, low)
+    }
+
+    /// The pair with its word cut to a range, in normal form, or None where nothing is left.
+    pub fn cut_word(self, to: WordRange) -> Option<Pair>
+        ensures exact { result ≡ with_word_cut self (intersection self.word to) }
+        ensures keeps { (entry : Entry) (v : ℕ) → Holds self entry v → Within to v
+            → IsSomeAnd result (λ p. Holds p entry v) }
+    {
+        let word = self.word.intersection(to)?;
+        Pair { word, ..self }.normal_form()
+    }
+
+    /// The pair with its high byte cut to a range, in normal form, or None where nothing is left.
+    pub fn cut_high(self, to: ByteRange) -> Option<Pair>
+        ensures exact { result ≡ with_high_cut self (intersection self.high to) }
+        ensures keeps { (entry : Entry) (v : ℕ) → Holds self entry v → Within to (v / 256)
+            → IsSomeAnd result (λ p. Holds p entry v) }
+    {
+        let high = self.high.intersection(to)?;
+        Pair { high, ..self }.normal_form()
+    }
+
+    /// The pair with its low byte cut to a range, in normal form, or None where nothing is left.
+    pub fn cut_low(self, to: ByteRange) -> Option<Pair>
+        ensures exact { result ≡ with_low_cut self (intersection self.low to) }
+        ensures keeps { (entry : Entry) (v : ℕ) → Holds self entry v → Within to (v % 256)
+            → IsSomeAnd result (λ p. Holds p entry v) }
+    {
+        let low = self.low.intersection(to)?;
+        Pair { low, ..self }.normal_form()
+    }
+
+    /// The pair with one value cut from the ends of its word, in normal form, or None where nothing is left.
+    pub fn without_word(self, value: u16) -> Option<Pair>
+        ensures exact { result ≡ with_word_cut self (without self.word value) }
+        ensures keeps { (entry : Entry) (v : ℕ) → Holds self entry v → v ≢ value
+            → IsSomeAnd result (λ p. Holds p entry v) }
+    {
+        let word = self.word.without(value)?;
+        Pair { word, ..self }.normal_form()
+    }
+
+    /// The pair with one value cut from the ends of its high byte, in normal form, or None where nothing is left.
+    pub fn without_high(self, value: u8) -> Option<Pair>
+        ensures exact { result ≡ with_high_cut self (without self.high value) }
+        ensures keeps { (entry : Entry) (v : ℕ) → Holds self entry v → v / 256 ≢ value
+            → IsSomeAnd result (λ p. Holds p entry v) }
+    {
+        let high = self.high.without(value)?;
+        Pair { high, ..self }.normal_form()
+    }
+
+    /// The pair with one value cut from the ends of its low byte, in normal form, or None where nothing is left.
+    pub fn without_low(self, value: u8) -> Option<Pair>
+        ensures exact { result ≡ with_low_cut self (without self.low value) }
+        ensures keeps { (entry : Entry) (v : ℕ) → Holds self entry v → v % 256 ≢ value
+            → IsSomeAnd result (λ p. Holds p entry v) }
+    {
+        let low = self.low.without(value)?;
+        Pair { low, ..self }.normal_form()
+    }
+}
+
+impl Domain for Pair {
+    ghost use Rattle.intervals.specs.Pair.{Holds, CoversPair, hull_of_pairs};
+    ghost use Rattle.intervals.specs.PairLaws.{covers_itself, covers_along, holds_wider, hull_covers_first, hull_covers_second};
+
+    ghost holds = { Holds };
+
+    ghost Covers = { CoversPair };
+
+    ghost joined = { hull_of_pairs };
+
+    ghost reflexive = { covers_itself };
+
+    ghost transitive = { covers_along };
+
+    ghost widens = { holds_wider };
+
+    ghost joins_first = { hull_covers_first };
+
+    ghost joins_second = { hull_covers_second };
+
+    /// Range by range, and an origin of this pair has to be that of the other.
+    fn covers(&self, other: &Self) -> bool {
+        self.word.covers(&other.word)
+            && self.high.covers(&other.high)
+            && self.low.covers(&other.low)
+            && (self.origin.is_none() || self.origin == other.origin)
+    }
+
+    /// The hull of each range, which is not put in normal form again, and the origin that both have.
+    fn join(&self, other: &Self) -> Self {
+        Pair {
+            word: self.word.join(&other.word),
+            high: self.high.join(&other.high),
+            low: self.low.join(&other.low),
+            origin: if self.origin == other.origin {
+                self.origin
+            } else {
+                None
+            },
+        }
+    }
+}

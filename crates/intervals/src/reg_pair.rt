@@ -1,0 +1,28 @@
+ghost use Rattle.std.specs.Prelude.{◌≡◌, ◌<◌};
+
+/// A pair of registers, of the main or the alternate set (UM0080, "CPU Registers").
+#[derive(Clone, Copy, Debug, PartialEq, Eq)]
+pub enum RegPair {
+    Af,
+    Bc,
+    De,
+    Hl,
+    Ix,
+    Iy,
+    AlternateAf,
+    AlternateBc,
+    AlternateDe,
+    AlternateHl,
+}
+
+impl RegPair {
+    ghost use Rattle.intervals.specs.RegPair.{place_of};
+
+    /// The place of the pair in the order AF BC DE HL IX IY AF' BC' DE' HL', 0 to 9.
+    pub fn place(self) -> usize
+        ensures value { result ≡ place_of self }
+        ensures within { result < 10 }
+    {
+        self as usize
+    }
+}

@@ -1,0 +1,191 @@
+ghost use Rattle.std.specs.Prelude.{◌≡◌, ℕ, ◌+◌, ◌-◌, ◌%◌, ◌≤◌};
+ghost use Rattle.intervals.specs.Range.{Within, single, TakesInto, TakesBothInto};
+ghost use Rattle.intervals.specs.Sums.{window, sum, sum_with_carry, difference, difference_with_carry, increment, decrement, negation, displacement_of, displacement};
+
+use crate::range::{Bounds, ByteRange, WordRange};
+
+/// The residues modulo 256 of the results from low to high, if they lie in one window.
+fn bytes_in_window(low: u16, high: u16) -> ByteRange
+    ensures { result ≡ window 256 low high }
+{
+    if low / 256 == high / 256 {
+        ByteRange {
+            low: (low % 256) as u8,
+            high: (high % 256) as u8,
+        }
+    } else {
+        ByteRange::full()
+    }
+}
+
+/// The residues modulo 65,536 of the results from low to high, if they lie in one window.
+fn words_in_window(low: u32, high: u32) -> WordRange
+    ensures { result ≡ window 65536 low high }
+{
+    if low / 65_536 == high / 65_536 {
+        WordRange {
+            low: (low % 65_536) as u16,
+            high: (high % 65_536) as u16,
+        }
+    } else {
+        WordRange::full()
+    }
+}
+
+/// Sums and differences of bytes by the window rule (UM0080, "8-Bit Arithmetic Group"). A difference is raised by 256
+/// on the way, which changes no residue.
+impl Bounds<u8> {
+    fn ends(self) -> (u16, u16)
+        ensures low { result.0 ≡ self.low }
+        ensures high { result.1 ≡ self.high }
+        ensures within { (self.low ≤ 255) × (self.high ≤ 255) }
+    {
+        (u16::from(self.low), u16::from(self.high))
+    }
+
+    /// ADD A,s.
+    pub fn sum(self, other: ByteRange) -> ByteRange
+        ensures exact { result ≡ sum 256 self other }
+        ensures contains { TakesBothInto (λ x y. (x + y) % 256) self other result }
+    {
+        let ((low, high), (other_low, other_high)) = (self.ends(), other.ends());
+        bytes_in_window(low + other_low, high + other_high)
+    }
+
+    /// ADC A,s with any carry.
+    pub fn sum_with_carry(self, other: ByteRange) -> ByteRange
+        ensures exact { result ≡ sum_with_carry 256 self other }
+        ensures contains { (carry : ℕ) → carry ≤ 1
+            → TakesBothInto (λ x y. (x + y + carry) % 256) self other result }
+    {
+        let ((low, high), (other_low, other_high)) = (self.ends(), other.ends());
+        bytes_in_window(low + other_low, high + other_high + 1)
+    }
+
+    /// SUB s, and the comparison of CP s.
+    pub fn difference(self, other: ByteRange) -> ByteRange
+        ensures exact { result ≡ difference 256 self other }
+        ensures contains { TakesBothInto (λ x y. (256 + x - y) % 256) self other result }
+    {
+        let ((low, high), (other_low, other_high)) = (self.ends(), other.ends());
+        bytes_in_window(256 + low - other_high, 256 + high - other_low)
+    }
+
+    /// SBC A,s with any carry.
+    pub fn difference_with_carry(self, other: ByteRange) -> ByteRange
+        ensures exact { result ≡ difference_with_carry 256 self other }
+        ensures contains { (carry : ℕ) → carry ≤ 1
+            → TakesBothInto (λ x y. (256 + x - y - carry) % 256) self other result }
+    {
+        let ((low, high), (other_low, other_high)) = (self.ends(), other.ends());
+        bytes_in_window(256 + low - other_high - 1, 256 + high - other_low)
+    }
+
+    /// SUB A: the one operand is both, and the difference is 0.
+    pub fn difference_from_itself(self) -> ByteRange
+        ensures exact { result ≡ single 0 }
+        ensures contains { TakesInto (λ x. (256 + x - x) % 256) self result }
+    {
+        ByteRange::single(0)
+    }
+
+    /// INC r.
+    pub fn increment(self) -> ByteRange
+        ensures exact { result ≡ increment 256 self }
+        ensures contains { TakesInto (λ x. (x + 1) % 256) self result }
+    {
+        let (low, high) = self.ends();
+        bytes_in_window(low + 1, high + 1)
+    }
+
+    /// DEC r.
+    pub fn decrement(self) -> ByteRange
+        ensures exact { result ≡ decrement 256 self }
+        ensures contains { TakesInto (λ x. (256 + x - 1) % 256) self result }
+    {
+        let (low, high) = self.ends();
+        bytes_in_window(256 + low - 1, 256 + high - 1)
+    }
+
+    /// NEG.
+    pub fn negation(self) -> ByteRange
+        ensures exact { result ≡ negation self }
+        ensures contains { TakesInto (λ x. (256 - x) % 256) self result }
+    {
+        let (low, high) = self.ends();
+        bytes_in_window(256 - high, 256 - low)
+    }
+}
+
+/// Sums and differences of words by the window rule (UM0080, "16-Bit Arithmetic Group"). A difference is raised by
+/// 65,536 on the way, which changes no residue.
+impl Bounds<u16> {
+    fn ends(self) -> (u32, u32)
+        ensures low { result.0 ≡ self.low }
+        ensures high { result.1 ≡ self.high }
+        ensures within { (self.low ≤ 65535) × (self.high ≤ 65535) }
+    {
+        (u32::from(self.low), u32::from(self.high))
+    }
+
+    /// ADD HL,ss, ADD IX,pp and ADD IY,rr.
+    pub fn sum(self, other: WordRange) -> WordRange
+        ensures exact { result ≡ sum 65536 self other }
+        ensures contains { TakesBothInto (λ x y. (x + y) % 65536) self other result }
+    {
+        let ((low, high), (other_low, other_high)) = (self.ends(), other.ends());
+        words_in_window(low + other_low, high + other_high)
+    }
+
+    /// ADC HL,ss with any carry.
+    pub fn sum_with_carry(self, other: WordRange) -> WordRange
+        ensures exact { result ≡ sum_with_carry 65536 self other }
+        ensures contains { (carry : ℕ) → carry ≤ 1
+            → TakesBothInto (λ x y. (x + y + carry) % 65536) self other result }
+    {
+        let ((low, high), (other_low, other_high)) = (self.ends(), other.ends());
+        words_in_window(low + other_low, high + other_high + 1)
+    }
+
+    /// SBC HL,ss with any carry.
+    pub fn difference_with_carry(self, other: WordRange) -> WordRange
+        ensures exact { result ≡ difference_with_carry 65536 self other }
+        ensures contains { (carry : ℕ) → carry ≤ 1
+            → TakesBothInto (λ x y. (65536 + x - y - carry) % 65536) self other result }
+    {
+        let ((low, high), (other_low, other_high)) = (self.ends(), other.ends());
+        words_in_window(65_536 + low - other_high - 1, 65_536 + high - other_low)
+    }
+
+    /// INC ss, INC IX and INC IY, and HL and DE where a block instruction counts up.
+    pub fn increment(self) -> WordRange
+        ensures exact { result ≡ increment 65536 self }
+        ensures contains { TakesInto (λ x. (x + 1) % 65536) self result }
+    {
+        let (low, high) = self.ends();
+        words_in_window(low + 1, high + 1)
+    }
+
+    /// DEC ss, DEC IX and DEC IY, BC of a block instruction, and HL and DE where it counts down.
+    pub fn decrement(self) -> WordRange
+        ensures exact { result ≡ decrement 65536 self }
+        ensures contains { TakesInto (λ x. (65536 + x - 1) % 65536) self result }
+    {
+        let (low, high) = self.ends();
+        words_in_window(65_536 + low - 1, 65_536 + high - 1)
+    }
+
+    /// The address of (IX+d) or (IY+d). The displacement is the byte of the code, which stands for -128 to 127.
+    pub fn displacement(self, pattern: u8) -> WordRange
+        ensures exact { result ≡ displacement self pattern }
+        ensures contains { TakesInto (λ x. (x + displacement_of pattern) % 65536) self result }
+    {
+        let (low, high) = self.ends();
+        let raised = if pattern < 128 {
+            65_536 + u32::from(pattern)
+        } else {
+            65_536 + u32::from(pattern) - 256
+        };
+        words_in_window(low + raised, high + raised)
+    }
+}

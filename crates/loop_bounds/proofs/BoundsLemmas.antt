@@ -1,0 +1,86 @@
+-- What is left of one linear after another was taken from it.
+use Rattle.std.proofs.Common.{◌≡◌, ◌≢◌, ℕ, ◌≤◌, Bool, true, false, not, List, [], get_or, ℤ, pos, ◌+ℤ◌, ◌-ℤ◌, ◌≤ℤ◌, sym, subst, ap, ◌∙◌, arith, All, IsTrue, unsigned_abs}
+use Rattle.std.proofs.lemmas.Int.{ints}
+use Rattle.loop_bounds.specs.declared.effect.Effect.{Effect}
+use Rattle.loop_bounds.specs.declared.effect.Change.{Change}
+use Rattle.loop_bounds.specs.declared.effect.Change.TheVariants.{Old, Unknown}
+use Rattle.loop_bounds.specs.declared.linear.Term.{Term}
+use Rattle.loop_bounds.specs.declared.rewritten.Rewritten.{Rewritten}
+use Rattle.loop_bounds.specs.declared.variable.Variable.{Variable}
+use Rattle.loop_bounds.specs.Linear.{Sum, IsLinear, total, value}
+use Rattle.loop_bounds.specs.Effect.{Valuation, whole, changed, after, change_of}
+use Rattle.loop_bounds.specs.Ranges.{Box, LiesIn}
+use Rattle.loop_bounds.specs.Bounds.{Decreases}
+use Rattle.loop_bounds.specs.Signed.{signed}
+use Rattle.loop_bounds.specs.Rewritten.{value_of_both, WasAdded}
+use Rattle.loop_bounds.proofs.Boxes.{total_agree}
+
+abbrev pub IsUnchanged : Effect → Type 0
+IsUnchanged u = (v : Variable) → change_of u v ≡ Old v
+
+after_unchanged : (u : Effect) → IsUnchanged u → (before free : Valuation) (v : Variable) → after u before free v ≡ whole before v
+after_unchanged u h before free v = ap (λ (c : Change). changed c before (pos (free v))) (h v)
+
+total_unchanged : (u : Effect) → IsUnchanged u → (before free : Valuation) (ts : List Term) → total (after u before free) ts ≡ total (whole before) ts
+total_unchanged u h before free ts =
+    total_agree (after u before free) (whole before) ts (λ k d p. after_unchanged u h before free (get_or ts k d).variable)
+
+pub all_known : (u : Effect) → IsUnchanged u → (ts : List Term) → All (λ t. change_of u t.variable ≢ Unknown) ts
+all_known u h ts k d p e = let same = h (get_or ts k d).variable in cc
+
+pub small_terms : (s : Sum) → IsLinear s → All (λ t. unsigned_abs t.coefficient ≤ 1000000) s.terms
+small_terms s h k d p = let both = h.coefficients k d p in both.1
+
+start_value : (start : Rewritten) (c : ℤ) → start.known ≡ record { constant = c; terms = [] } → start.unknown ≡ record { constant = pos 0; terms = [] } → (before free : Valuation) → value_of_both before free start ≡ c
+start_value start c k u before free =
+    let first = ap (value (whole before)) k in
+    let second = ap (value (whole free)) u in
+    omega (arith, ints, first, second)
+
+module _ (u effect : Effect) (same : IsUnchanged u) (start mid last : Rewritten) (c : ℤ) (known : start.known ≡ record { constant = c; terms = [] }) (unknown : start.unknown ≡ record { constant = pos 0; terms = [] }) where
+  pub decrease_value : (from to : Sum) (cost : ℕ) → c ≡ from.constant -ℤ pos cost -ℤ to.constant → WasAdded start mid u false from → WasAdded mid last effect true to → (before free : Valuation) → value_of_both before free last ≡ value (whole before) from -ℤ pos cost -ℤ value (after effect before free) to
+  decrease_value from to cost is first second before free =
+      let none = start_value start c known unknown before free in
+      let one = first before free in
+      let two = second before free in
+      let plain = total_unchanged u same before free from.terms in
+      omega (arith, ints, none, one, two, plain, is)
+
+  pub difference_value : (fact given : Sum) (n : Bool) → c ≡ fact.constant +ℤ signed (not n) given.constant → WasAdded start mid effect false fact → WasAdded mid last u (not n) given → last.unknown ≡ mid.unknown → mid.unknown ≡ start.unknown → (before free : Valuation) → value (whole before) last.known ≡ value (after effect before free) fact -ℤ signed n (value (whole before) given)
+  difference_value fact given true is first second kept kept' before free =
+      let none = start_value start c known unknown before free in
+      let one = first before free in
+      let two = second before free in
+      let plain = total_unchanged u same before free given.terms in
+      let rest = ap (value (whole free)) (kept ∙ kept' ∙ unknown) in
+      omega (arith, ints, none, one, two, plain, is, rest)
+  difference_value fact given false is first second kept kept' before free =
+      let none = start_value start c known unknown before free in
+      let one = first before free in
+      let two = second before free in
+      let plain = total_unchanged u same before free given.terms in
+      let rest = ap (value (whole free)) (kept ∙ kept' ∙ unknown) in
+      omega (arith, ints, none, one, two, plain, is, rest)
+
+pub fact_value : (effect : Effect) (start last : Rewritten) (fact : Sum) → start.known ≡ record { constant = fact.constant; terms = [] } → start.unknown ≡ record { constant = pos 0; terms = [] } → WasAdded start last effect false fact → last.unknown ≡ start.unknown → (before free : Valuation) → value (whole before) last.known ≡ value (after effect before free) fact
+fact_value effect start last fact known unknown first kept before free =
+    let none = start_value start fact.constant known unknown before free in
+    let one = first before free in
+    let rest = ap (value (whole free)) (kept ∙ unknown) in
+    omega (arith, ints, none, one, rest)
+
+-- what decides a comparison of two values decides the values themselves
+pub decided_by_value : (P : Bool) (source target : Box) (from to : Sum) (cost : ℕ) (effect : Effect) (last : Rewritten) → ((before free : Valuation) → value_of_both before free last ≡ value (whole before) from -ℤ pos cost -ℤ value (after effect before free) to) → (IsTrue P → (before free : Valuation) → LiesIn source before → LiesIn target free → pos 0 ≤ℤ value_of_both before free last) × (((before free : Valuation) → LiesIn source before → LiesIn target free → pos 0 ≤ℤ value_of_both before free last) → IsTrue P) → (IsTrue P → Decreases from to cost effect source target) × (Decreases from to cost effect source target → IsTrue P)
+decided_by_value P source target from to cost effect last e h = (
+  λ t before free p q. subst (λ z. pos 0 ≤ℤ z) (e before free) (h.0 t before free p q),
+  λ d. h.1 (λ before free p q. subst (λ z. pos 0 ≤ℤ z) (sym (e before free)) (d before free p q)),
+)
+
+pub of_constant : {c d : ℤ} → c ≡ d → (let s : Sum = record { constant = c; terms = [] } in s) ≡ record { constant = d; terms = [] }
+of_constant e = ap (λ (z : ℤ). let s : Sum = record { constant = z; terms = [] } in s) e
+
+pub same_from_difference : (d a b : ℤ) → d ≡ a -ℤ b → d ≡ pos 0 → a ≡ b
+same_from_difference d a b e z = omega (arith, ints)
+
+pub difference_from_same : (a b : ℤ) → a ≡ b → a -ℤ b ≡ pos 0
+difference_from_same a b e = omega (arith, ints)

@@ -1,0 +1,10 @@
+pub mod LinearLemmas
+pub mod VariableLemmas
+pub mod FormLemmas
+pub mod Boxes
+pub mod Signed
+pub mod Zeros
+pub mod RewrittenLemmas
+pub mod NeverNegative
+pub mod BoundsLemmas
+pub mod TightenLemmas

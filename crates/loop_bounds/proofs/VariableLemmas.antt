@@ -1,0 +1,71 @@
+-- Two variables at one place are one.
+use Rattle.std.proofs.Common.{◌≡◌, ◌≢◌, ℕ, ◌+◌, ◌-◌, ◌*◌, ◌/◌, ◌%◌, ◌==◌, cond, eqb, refl, sym, ap, ◌∙◌, arith}
+use Rattle.std.proofs.lemmas.Bool.Decides.{nat_tests}
+use Rattle.loop_bounds.specs.declared.variable.Variable.{Variable}
+use Rattle.loop_bounds.specs.declared.variable.Variable.TheVariants.{A, B, C, D, E, H, L, Bc, De, Hl, Ix, Iy, Slot}
+use Rattle.loop_bounds.specs.declared.variable.Part.{Part}
+use Rattle.loop_bounds.specs.declared.variable.Part.TheVariants.{Word, High, Low}
+use Rattle.loop_bounds.specs.Variable.{place_of, part_place}
+
+part_at : ℕ → Part
+part_at n = cond (n == 0) Word (cond (n == 1) High Low)
+
+slot_at : ℕ → Variable
+slot_at n = Slot (n / 3) (part_at (n % 3))
+
+variable_at : ℕ → Variable
+variable_at n = cond (n == 0) A (cond (n == 1) B (cond (n == 2) C (cond (n == 3) D (cond (n == 4) E (cond (n == 5) H
+    (cond (n == 6) L (cond (n == 7) Bc (cond (n == 8) De (cond (n == 9) Hl (cond (n == 10) Ix (cond (n == 11) Iy
+    (slot_at (n - 12)))))))))))))
+
+beyond : (n : ℕ) → variable_at (12 + n) ≡ slot_at n
+unfolding variable_at
+beyond n = grind (arith, nat_tests)
+
+slot_again : (n : ℕ) (p : Part) → slot_at (3 * n + part_place p) ≡ Slot n p
+unfolding slot_at part_at
+slot_again n Word =
+    let q : (3 * n + 0) / 3 ≡ n = omega arith in
+    let r : (3 * n + 0) % 3 ≡ 0 = omega arith in
+    rw (q, r) refl
+slot_again n High =
+    let q : (3 * n + 1) / 3 ≡ n = omega arith in
+    let r : (3 * n + 1) % 3 ≡ 1 = omega arith in
+    rw (q, r) refl
+slot_again n Low =
+    let q : (3 * n + 2) / 3 ≡ n = omega arith in
+    let r : (3 * n + 2) % 3 ≡ 2 = omega arith in
+    rw (q, r) refl
+
+variable_at-place : (v : Variable) → variable_at (place_of v) ≡ v
+unfolding variable_at
+variable_at-place A = refl
+variable_at-place B = refl
+variable_at-place C = refl
+variable_at-place D = refl
+variable_at-place E = refl
+variable_at-place H = refl
+variable_at-place L = refl
+variable_at-place Bc = refl
+variable_at-place De = refl
+variable_at-place Hl = refl
+variable_at-place Ix = refl
+variable_at-place Iy = refl
+variable_at-place (Slot n p) =
+    let e : 12 + 3 * n + part_place p ≡ 12 + (3 * n + part_place p) = omega arith in
+    ap variable_at e ∙ beyond (3 * n + part_place p) ∙ slot_again n p
+
+-- two variables at one place are one
+pub same_from_place : (v w : Variable) → place_of v ≡ place_of w → v ≡ w
+same_from_place v w e = sym (variable_at-place v) ∙ ap variable_at e ∙ variable_at-place w
+
+-- a choice by whether two variables are one
+pub choice_same : {X : Type 0} (v w : Variable) (a b : X) → v ≡ w → cond (eqb (place_of v) (place_of w)) a b ≡ a
+choice_same v w a b e =
+    let same : place_of v ≡ place_of w = ap place_of e in
+    grind (arith, nat_tests)
+
+pub choice_other : {X : Type 0} (v w : Variable) (a b : X) → v ≢ w → cond (eqb (place_of v) (place_of w)) a b ≡ b
+choice_other v w a b ne =
+    let other : place_of v ≢ place_of w = λ e. ne (same_from_place v w e) in
+    grind (arith, nat_tests)

@@ -1,0 +1,25 @@
+use Rattle.std.proofs.Common.{get_or, ◌+◌, rules, arith, FitsSigned}
+use Rattle.std.specs.Int.{w32}
+use Rattle.std.proofs.lemmas.Int.{to_z-of_z}
+use Rattle.std.proofs.lemmas.List.{get_or_default}
+use Rattle.loop_bounds.specs.Linear.{padding}
+use Rattle.loop_bounds.proofs.RewrittenLemmas.{room_wider, added_more}
+use Rattle.loop_bounds.proofs.rewritten.Rewritten.add_terms.Goals as goal
+
+pub add-requires-clause-room : goal.add-requires-clause-room
+add-requires-clause-room c =
+    room_wider c.loop-term.self (3 + c.loop-term.term-index) 5 (omega arith) (c.loop-term.invariant.room 3 c.requires.room)
+
+pub loop-term-preserved : goal.loop-term-preserved
+loop-term-preserved c =
+    let fits : FitsSigned w32 (get_or c.args.terms.now c.loop-term.term-index padding).coefficient = search rules in
+    let small : FitsSigned w32 c.negated_if.result = search rules in
+    let is = simp to_z-of_z at c.negated_if.ensures.value in
+    let value = simp to_z-of_z at c.add.ensures.value in
+    added_more c.args.self.now c.loop-term.self c.add.new.self c.args.effect.now c.args.negated c.args.terms.now c.loop-term.term-index
+    (get_or c.args.terms.now c.loop-term.term-index padding) c.negated_if.result c.change-change.result c.loop-term.invariant c.loop-term-test.true (get_or_default c.args.terms.now c.loop-term.term-index padding (get_or c.args.terms.now c.loop-term.term-index padding) c.loop-term-test.true) is (search rules)
+    value c.add.ensures.room c.add.ensures.known
+
+pub returns-clause-room : goal.returns-clause-room
+returns-clause-room c = λ used h.
+    room_wider c.loop-term.self (used + c.loop-term.term-index) (used + 3) (omega arith) (c.loop-term.invariant.room used h)

@@ -1,0 +1,9 @@
+use Rattle.std.proofs.Common.{take, pos}
+use Rattle.loop_bounds.specs.Form.{IsLeastSoFar}
+use Rattle.loop_bounds.specs.Tighten.{IsGreatestSoFar}
+use Rattle.loop_bounds.proofs.tightening.span.Given as goal
+
+abbrev pub invariant-loop-term : goal.invariant-loop-term
+invariant-loop-term g l =
+    let box = g.R.Ranges.range_of l.ranges in
+    IsLeastSoFar box (pos 0) (take l.term-index l.terms) l.least × IsGreatestSoFar box (take l.term-index l.terms) l.greatest

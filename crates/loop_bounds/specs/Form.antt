@@ -1,0 +1,34 @@
+-- Sums of terms with distinct variables, as the decisions keep them.
+use Rattle.std.specs.Prelude.{◌≡◌, ◌≢◌, ℕ, ◌+◌, ◌*◌, ◌≤◌, List, [], ◌∷◌, length, take, ℤ, pos, negsuc, ◌+ℤ◌, ◌*ℤ◌, unsigned_abs, sum_by, min, max, AllPairs}
+use Rattle.intervals.specs.Range.{Interval}
+use Rattle.loop_bounds.specs.declared.linear.Term.{Term}
+use Rattle.loop_bounds.specs.Ranges.{Box}
+
+-- no variable comes twice
+abbrev pub AreDistinct : List Term → Type 0
+AreDistinct ts = AllPairs (λ t u. t.variable ≢ u.variable) ts
+
+-- what the coefficients come to in size
+abbrev pub weight : List Term → ℕ
+weight ts = sum_by (λ t. unsigned_abs t.coefficient) ts
+
+-- the end of a range at which a multiple is least
+abbrev pub end_of : Interval → ℤ → ℕ
+end_of r (pos n) = min r.low r.high
+end_of r (negsuc n) = max r.low r.high
+
+-- what the terms come to, each at the end where it is least
+abbrev pub least_total : Box → List Term → ℤ
+least_total box [] = pos 0
+least_total box (t ∷ ts) = t.coefficient *ℤ pos (end_of (box t.variable) t.coefficient) +ℤ least_total box ts
+
+-- the first of six places hold the terms
+pub record IsForm (terms : List Term) (count : ℕ) : Type 0 where
+  pub places : length terms ≡ 6
+  pub within : count ≤ 6
+  pub distinct : AreDistinct (take count terms)
+
+-- what the least value of a sum is over a box, as far as its terms were seen
+pub record IsLeastSoFar (box : Box) (constant : ℤ) (seen : List Term) (least : ℤ) : Type 0 where
+  pub exact : least ≡ constant +ℤ least_total box seen
+  pub size : unsigned_abs least ≤ unsigned_abs constant + 65535 * weight seen

@@ -1,0 +1,10 @@
+pub mod Variable
+pub mod Linear
+pub mod LinearLaws
+pub mod Effect
+pub mod Ranges
+pub mod Bounds
+pub mod Form
+pub mod Signed
+pub mod Rewritten
+pub mod Tighten

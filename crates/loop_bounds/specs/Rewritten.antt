@@ -1,0 +1,34 @@
+-- A sum over the variables before a step and those that are unknown after it.
+use Rattle.std.specs.Prelude.{◌≡◌, ◌≢◌, ℕ, ◌+◌, ◌*◌, ◌^◌, ◌≤◌, Bool, List, length, All, ℤ, pos, ◌+ℤ◌, unsigned_abs}
+use Rattle.loop_bounds.specs.declared.rewritten.Rewritten.{Rewritten}
+use Rattle.loop_bounds.specs.declared.effect.Effect.{Effect}
+use Rattle.loop_bounds.specs.declared.effect.Change.TheVariants.{Unknown}
+use Rattle.loop_bounds.specs.declared.linear.Term.{Term}
+use Rattle.loop_bounds.specs.Linear.{Sum, total, value}
+use Rattle.loop_bounds.specs.Effect.{Valuation, whole, after, change_of}
+use Rattle.loop_bounds.specs.Form.{weight}
+use Rattle.loop_bounds.specs.Signed.{signed}
+
+-- what it comes to at the values before the step and those of the unknown variables
+abbrev pub value_of_both : Valuation → Valuation → Rewritten → ℤ
+value_of_both before free r = value (whole before) r.known +ℤ value (whole free) r.unknown
+
+-- it holds at most so many terms, with coefficients up to 1,000,000 in size, and what the constants of as many came to
+pub record HasRoom (used : ℕ) (r : Rewritten) : Type 0 where
+  pub known_terms : length r.known.terms ≤ used
+  pub unknown_terms : length r.unknown.terms ≤ used
+  pub known_weight : weight r.known.terms ≤ 1000000 * used
+  pub unknown_weight : weight r.unknown.terms ≤ 1000000 * used
+  pub constant : unsigned_abs r.known.constant ≤ 2 ^ 40 * (used + 1)
+  pub unknown_constant : r.unknown.constant ≡ pos 0
+
+-- the terms of a sum were added, or their negations, each rewritten by the effect
+abbrev pub WasAdded : Rewritten → Rewritten → Effect → Bool → Sum → Type 0
+WasAdded old new effect negated s =
+    (before free : Valuation) → value_of_both before free new ≡ value_of_both before free old +ℤ signed negated (total (after effect before free) s.terms)
+
+-- the terms were added, or their negations, each rewritten by the effect
+pub record HasAdded (old new : Rewritten) (effect : Effect) (negated : Bool) (terms : List Term) (count : ℕ) : Type 0 where
+  pub value : (before free : Valuation) → value_of_both before free new ≡ value_of_both before free old +ℤ signed negated (total (after effect before free) terms)
+  pub room : (used : ℕ) → HasRoom used old → HasRoom (used + count) new
+  pub known : All (λ t. change_of effect t.variable ≢ Unknown) terms → new.unknown ≡ old.unknown

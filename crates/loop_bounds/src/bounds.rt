@@ -1,0 +1,109 @@
+ghost use Rattle.std.specs.Prelude.{◌≡◌, ◌↔◌, ◌⊎◌, ◌≢◌, ◌<◌, ◌≤◌, ◌^◌, All, IsTrue, not, pos, ◌+ℤ◌, ◌-ℤ◌, unsigned_abs};
+ghost use Rattle.loop_bounds.specs.declared.effect.Change.TheVariants.{Unknown};
+ghost use Rattle.loop_bounds.specs.Linear.{value};
+ghost use Rattle.loop_bounds.specs.Effect.{Valuation, whole, after, IsKnown, change_of};
+ghost use Rattle.loop_bounds.specs.Signed.{signed};
+ghost use Rattle.loop_bounds.specs.Bounds.{Decreases, Vanishes, Becomes, BecomesNegation};
+
+use crate::effect::{Change, Effect};
+use crate::linear::{Linear, Term};
+use crate::ranges::Ranges;
+use crate::rewritten::Rewritten;
+
+/// Whether `from` less the cost, in T-states, less `to` after the step is at least 0, whatever the variables are in the
+/// source ranges, and whatever those that are unknown after the step are in the target ranges. Each variable ranges by
+/// itself, also BC and B, and the arithmetic never wraps.
+pub fn decreases<S: Ranges, T: Ranges>(
+    from: &Linear,
+    to: &Linear,
+    cost: u32,
+    effect: &Effect,
+    source: &S,
+    target: &T,
+) -> bool
+    ensures { IsTrue result ↔ Decreases from.now to.now cost effect.now (S.range_of source.now) (T.range_of target.now) }
+{
+    let mut left = Rewritten::new(constant_left(from, cost, to));
+    left.add_linear(from, &Effect::unchanged(), false);
+    left.add_linear(to, effect, true);
+    left.is_never_negative(source, target)
+}
+
+/// The constant of `from` less the cost less the constant of `to`.
+fn constant_left(from: &Linear, cost: u32, to: &Linear) -> i128
+    ensures value { result ≡ from.now.constant -ℤ pos cost -ℤ to.now.constant }
+    ensures size { unsigned_abs result < 2 ^ 40 }
+{
+    wide_constant(from) - i128::from(cost) - wide_constant(to)
+}
+
+/// The constant of the fact less that of the given one, or their sum where it is negated.
+fn constant_between(fact: &Linear, given: &Linear, negated: bool) -> i128
+    ensures value { result ≡ fact.now.constant +ℤ signed (not negated) given.now.constant }
+    ensures size { unsigned_abs result < 2 ^ 40 }
+{
+    let (constant, of_given) = (wide_constant(fact), wide_constant(given));
+    if negated {
+        constant + of_given
+    } else {
+        constant - of_given
+    }
+}
+
+/// The constant of a linear, in 128 bits.
+fn wide_constant(linear: &Linear) -> i128
+    ensures value { result ≡ linear.now.constant }
+    ensures size { unsigned_abs result ≤ 1000000000 }
+{
+    i128::from(linear.constant())
+}
+
+/// Whether no term has a variable that is unknown after the step.
+fn are_known(terms: &[Term], effect: &Effect) -> bool
+    ensures { IsTrue result ↔ All (λ t. change_of effect.now t.variable ≢ Unknown) terms.now }
+{
+    terms
+        .iter()
+        .all(|term| effect.change(term.variable) != Change::Unknown)
+}
+
+/// Whether the linear has no variable that is unknown after the step.
+fn is_known(linear: &Linear, effect: &Effect) -> bool
+    ensures { IsTrue result ↔ IsKnown effect.now linear.now }
+{
+    are_known(linear.terms(), effect)
+}
+
+/// Whether the fact, rewritten by the effect, has no unknown and is the constant 0.
+pub fn vanishes(fact: &Linear, effect: &Effect) -> bool
+    ensures { IsTrue result ↔ Vanishes fact.now effect.now }
+{
+    if !is_known(fact, effect) {
+        return false;
+    }
+    let mut left = Rewritten::new(wide_constant(fact));
+    left.add_linear(fact, effect, false);
+    left.known.is_zero()
+}
+
+/// Whether the fact, rewritten by the effect, has no unknown and is the given one, or its negation where that is asked.
+fn is_rewritten_to(fact: &Linear, effect: &Effect, given: &Linear, negated: bool) -> bool
+    ensures { IsTrue result ↔ (IsKnown effect.now fact.now × ((before free : Valuation)
+        → value (after effect.now before free) fact.now ≡ signed negated (value (whole before) given.now))) }
+{
+    if !is_known(fact, effect) {
+        return false;
+    }
+    let mut left = Rewritten::new(constant_between(fact, given, negated));
+    left.add_linear(fact, effect, false);
+    left.add_linear(given, &Effect::unchanged(), !negated);
+    left.known.is_zero()
+}
+
+/// Whether the fact, rewritten by the effect, has no unknown and is the given one or its negation.
+pub fn becomes(fact: &Linear, effect: &Effect, given: &Linear) -> bool
+    ensures { IsTrue result
+        ↔ (Becomes fact.now effect.now given.now ⊎ BecomesNegation fact.now effect.now given.now) }
+{
+    is_rewritten_to(fact, effect, given, false) || is_rewritten_to(fact, effect, given, true)
+}

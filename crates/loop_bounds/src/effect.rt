@@ -1,0 +1,110 @@
+ghost use Rattle.std.specs.Prelude.{◌≡◌, ◌≢◌, ◌↔◌, ℕ, IsTrue};
+
+use crate::variable::{Part, Variable};
+
+/// What a step leaves in a variable.
+#[derive(Clone, Copy, Debug, PartialEq, Eq)]
+pub enum Change {
+    /// What a variable, this one or another, held before the step.
+    Old(Variable),
+    /// One more than a variable held, which can't wrap.
+    Raised(Variable),
+    /// One less than a variable held, which can't wrap.
+    Lowered(Variable),
+    /// This number.
+    Constant(u16),
+    Unknown,
+}
+
+/// What a step leaves in a slot that it writes.
+#[derive(Clone, Copy, Debug, PartialEq, Eq)]
+pub struct SlotChange {
+    /// The number of the slot, 0 to 63.
+    pub number: u8,
+    pub word: Change,
+    pub high: Change,
+    pub low: Change,
+}
+
+/// What a step leaves in each variable. It writes at most one slot.
+#[derive(Clone, Copy, Debug, PartialEq, Eq)]
+pub struct Effect {
+    pub a: Change,
+    pub b: Change,
+    pub c: Change,
+    pub d: Change,
+    pub e: Change,
+    pub h: Change,
+    pub l: Change,
+    pub bc: Change,
+    pub de: Change,
+    pub hl: Change,
+    pub ix: Change,
+    pub iy: Change,
+    pub slot: Option<SlotChange>,
+}
+
+impl Effect {
+    ghost use Rattle.loop_bounds.specs.declared.effect.Change.TheVariants.{Old};
+    ghost use Rattle.loop_bounds.specs.declared.variable.Variable.{Variable};
+    ghost use Rattle.loop_bounds.specs.Effect.{change_of};
+
+    /// Each variable keeps what it holds.
+    pub fn unchanged() -> Effect
+        ensures { (v : Variable) → change_of result v ≡ Old v }
+    {
+        Effect {
+            a: Change::Old(Variable::A),
+            b: Change::Old(Variable::B),
+            c: Change::Old(Variable::C),
+            d: Change::Old(Variable::D),
+            e: Change::Old(Variable::E),
+            h: Change::Old(Variable::H),
+            l: Change::Old(Variable::L),
+            bc: Change::Old(Variable::Bc),
+            de: Change::Old(Variable::De),
+            hl: Change::Old(Variable::Hl),
+            ix: Change::Old(Variable::Ix),
+            iy: Change::Old(Variable::Iy),
+            slot: None,
+        }
+    }
+
+    /// What the step leaves in one variable.
+    pub fn change(&self, variable: Variable) -> Change
+        ensures { result ≡ change_of self.now variable }
+    {
+        match variable {
+            Variable::A => self.a,
+            Variable::B => self.b,
+            Variable::C => self.c,
+            Variable::D => self.d,
+            Variable::E => self.e,
+            Variable::H => self.h,
+            Variable::L => self.l,
+            Variable::Bc => self.bc,
+            Variable::De => self.de,
+            Variable::Hl => self.hl,
+            Variable::Ix => self.ix,
+            Variable::Iy => self.iy,
+            Variable::Slot(number, part) => match self.slot {
+                Some(slot) if slot.number == number => slot.part(part),
+                _ => Change::Old(variable),
+            },
+        }
+    }
+}
+
+impl SlotChange {
+    ghost use Rattle.loop_bounds.specs.Effect.{part_change};
+
+    fn part(self, part: Part) -> Change
+        ensures { result ≡ part_change self part }
+    {
+        match part {
+            Part::Word => self.word,
+            Part::High => self.high,
+            Part::Low => self.low,
+        }
+    }
+}

@@ -1,0 +1,140 @@
+ghost use Rattle.std.specs.Prelude.{◌≡◌, ◌↔◌, IsTrue, ℕ, ◌≤◌, ◌<◌, List, [], ◌∷◌, ◌++◌, length, take, drop, replicate, ℤ, pos, neg_ℤ, unsigned_abs, SomeIff, All, slice_set};
+ghost use Rattle.loop_bounds.specs.Variable.{place_of};
+
+use crate::variable::Variable;
+use std::marker::Model;
+
+/// The greatest size of a constant.
+const GREATEST_CONSTANT: u32 = 1_000_000_000;
+
+/// The greatest size of a coefficient.
+const GREATEST_COEFFICIENT: u32 = 1_000_000;
+
+/// A multiple of a variable.
+#[derive(Clone, Copy, Debug, PartialEq, Eq)]
+pub struct Term {
+    pub coefficient: i32,
+    pub variable: Variable,
+}
+
+/// What stands in the places for terms that a linear does not use.
+const PADDING: Term = Term {
+    coefficient: 0,
+    variable: Variable::A,
+};
+
+/// A constant and at most three terms, whose variables rise strictly. The constant is up to 1,000,000,000 in size, each
+/// coefficient 1 to 1,000,000.
+#[derive(Clone, Copy, Debug, PartialEq, Eq)]
+pub struct Linear {
+    constant: i32,
+    terms: [Term; 3],
+    count: usize,
+}
+
+impl Model for Linear {
+    ghost use Rattle.std.specs.Prelude.{length, take};
+    ghost use Rattle.loop_bounds.specs.Linear.{Sum, IsStored, padded};
+
+    ghost Value = { Sum };
+
+    ghost use Rattle.loop_bounds.specs.LinearLaws.{padded_again};
+
+    ghost view = { λ l. record { constant = l.constant; terms = take l.count l.terms } };
+
+    ghost invariant = { λ l. IsStored l.constant l.terms l.count };
+
+    ghost inverse = { λ s. record { constant = s.constant; terms = padded s.terms; count = length s.terms } };
+
+    ghost inverse_ok = { λ l h. padded_again l.constant l.terms l.count h };
+}
+
+/// Whether a number is 1 to 1,000,000 in size.
+fn is_coefficient(coefficient: i32) -> bool
+    ensures { IsTrue result ↔ ((0 < unsigned_abs coefficient) × (unsigned_abs coefficient ≤ 1000000)) }
+{
+    (1..=GREATEST_COEFFICIENT).contains(&coefficient.unsigned_abs())
+}
+
+/// Whether each of the terms has a variable that comes before this one.
+fn all_before(terms: &[Term], variable: Variable) -> bool
+    ensures { IsTrue result ↔ All (λ t. place_of t.variable < place_of variable) terms.now }
+{
+    let place = variable.place();
+    terms.iter().all(|term| term.variable.place() < place)
+}
+
+impl Linear {
+    ghost use Rattle.loop_bounds.specs.Linear.{Sum, IsLinear, extended, padding, padded};
+
+    /// 0.
+    pub fn zero() -> Linear
+        ensures { result ≡ record { constant = pos 0; terms = [] } }
+    {
+        Linear {
+            constant: 0,
+            terms: [PADDING; 3],
+            count: 0,
+        }
+    }
+
+    /// A linear without terms, or None where the constant is above 1,000,000,000 in size.
+    pub fn of_constant(constant: i32) -> Option<Linear>
+        ensures { SomeIff result (unsigned_abs constant ≤ 1000000000) (record { constant = constant; terms = [] }) }
+    {
+        if constant.unsigned_abs() > GREATEST_CONSTANT {
+            return None;
+        }
+        Some(Linear {
+            constant,
+            ..Linear::zero()
+        })
+    }
+
+    /// Whether a term can be added at the end: there is room, its coefficient is 1 to 1,000,000 in size, and its variable
+    /// comes after those that are there.
+    fn takes(&self, term: &Term) -> bool
+        ensures { IsTrue result ↔ IsLinear (extended self.now term.now) }
+    {
+        if self.count == 3 {
+            return false;
+        }
+        if !is_coefficient(term.coefficient) {
+            return false;
+        }
+        all_before(self.terms(), term.variable)
+    }
+
+    /// The linear with one more term at its end, or None where there are three terms already, the coefficient is 0 or
+    /// above 1,000,000 in size, or the variable does not come after those that are there.
+    pub fn with_term(self, term: Term) -> Option<Linear>
+        ensures { SomeIff result (IsLinear (extended self term)) (extended self term) }
+    {
+        if !self.takes(&term) {
+            return None;
+        }
+        let mut terms = self.terms;
+        terms[self.count] = term;
+        Some(Linear {
+            constant: self.constant,
+            terms,
+            count: self.count + 1,
+        })
+    }
+
+    /// The constant, up to 1,000,000,000 in size.
+    pub fn constant(&self) -> i32
+        ensures value { result ≡ self.now.constant }
+        ensures linear { IsLinear self.now }
+    {
+        self.constant
+    }
+
+    /// The terms, at most three, in the rising order of their variables.
+    pub fn terms(&self) -> &[Term]
+        ensures value { result.now ≡ self.now.terms }
+        ensures linear { IsLinear self.now }
+    {
+        &self.terms[..self.count]
+    }
+}

@@ -1,0 +1,31 @@
+ghost use Rattle.std.specs.Prelude.{◌≡◌, ℕ, Option, Some, None, IsSomeAnd, MatchBool};
+ghost use Rattle.intervals.specs.Range.{Interval, Within};
+ghost use Rattle.loop_bounds.specs.declared.variable.Variable.{Variable};
+
+use crate::variable::Variable;
+use intervals::WordRange;
+
+/// A range for each variable. A variable that is a byte has a range below 256; one that isn't there, as a slot beyond
+/// the shape, may have any.
+pub trait Ranges {
+    ghost range_of: { Self → Variable → Interval };
+
+    fn range(&self, variable: Variable) -> WordRange
+        ensures { result ≡ range_of self.now variable };
+}
+
+/// Ranges of a state of which one variable can be cut at a time. A cut may change the ranges of other variables too, as
+/// one of B changes that of BC.
+pub trait Tightenable: Ranges {
+    ghost holds: { Self → (Variable → ℕ) → Type 0 };
+
+    ghost cut_to: { Self → Variable → Interval → Option Self };
+
+    /// Cuts a variable to a range, and tells whether anything is left.
+    fn cut(&mut self, variable: Variable, to: WordRange) -> bool
+        ensures { MatchBool result (cut_to self.old variable to ≡ Some self.new) (cut_to self.old variable to ≡ None) };
+
+    ghost in_ranges: { (s : Self) (x : Variable → ℕ) (v : Variable) → holds s x → Within (Self.range_of s v) (x v) };
+
+    ghost keeps: { (s : Self) (x : Variable → ℕ) (v : Variable) (to : Interval) → holds s x → Within to (x v) → IsSomeAnd (cut_to s v to) (λ t. holds t x) };
+}

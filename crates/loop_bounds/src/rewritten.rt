@@ -1,0 +1,120 @@
+ghost use Rattle.std.specs.Prelude.{◌≡◌, ◌≢◌, ◌↔◌, IsTrue, ◌≤ℤ◌, ℕ, ◌+◌, ◌<◌, ◌≤◌, ◌^◌, [], length, All, ℤ, pos, ◌+ℤ◌, ◌*ℤ◌, unsigned_abs};
+ghost use Rattle.loop_bounds.specs.declared.effect.Change.TheVariants.{Unknown};
+ghost use Rattle.loop_bounds.specs.Linear.{total};
+ghost use Rattle.loop_bounds.specs.Effect.{Valuation, change_of, changed, after, IsKnown};
+ghost use Rattle.loop_bounds.specs.Ranges.{LiesIn};
+ghost use Rattle.loop_bounds.specs.Signed.{signed};
+
+use crate::effect::{Change, Effect};
+use crate::form::{Form, multiple};
+use crate::linear::{Linear, Term};
+use crate::ranges::Ranges;
+
+/// A sum that was rewritten by an effect: what it has of variables before the step, and what it has of variables that are
+/// unknown after it.
+#[derive(Drop)]
+pub struct Rewritten {
+    pub known: Form,
+    pub unknown: Form,
+}
+
+/// The coefficient, or its negation.
+fn negated_if(negated: bool, coefficient: i32) -> i32
+    requires { unsigned_abs coefficient ≤ 1000000 }
+    ensures value { result ≡ signed negated coefficient }
+    ensures size { unsigned_abs result ≤ 1000000 }
+{
+    if negated { -coefficient } else { coefficient }
+}
+
+impl Rewritten {
+    ghost use Rattle.loop_bounds.specs.Rewritten.{value_of_both, HasRoom, WasAdded};
+
+    /// A constant.
+    pub fn new(constant: i128) -> Rewritten
+        requires { unsigned_abs constant < 2 ^ 40 }
+        ensures known { result.known ≡ record { constant = constant; terms = [] } }
+        ensures unknown { result.unknown ≡ record { constant = pos 0; terms = [] } }
+        ensures room { HasRoom 0 result }
+    {
+        Rewritten {
+            known: Form::new(constant),
+            unknown: Form::new(0),
+        }
+    }
+
+    /// Adds a multiple of what the step leaves in a variable.
+    fn add(&mut self, term: Term, change: Change)
+        requires room { HasRoom 5 self.old }
+        requires small { unsigned_abs term.coefficient ≤ 1000000 }
+        ensures value { (before free : Valuation) → value_of_both before free self.new
+            ≡ value_of_both before free self.old +ℤ term.coefficient *ℤ changed change before (pos (free term.variable)) }
+        ensures room { (used : ℕ) → HasRoom used self.old → HasRoom (used + 1) self.new }
+        ensures known { change ≢ Unknown → self.new.unknown ≡ self.old.unknown }
+    {
+        let coefficient = term.coefficient;
+        match change {
+            Change::Old(variable) => self.known.add(Term {
+                coefficient,
+                variable,
+            }),
+            Change::Raised(variable) => {
+                self.known.add(Term {
+                    coefficient,
+                    variable,
+                });
+                self.known.raise(i128::from(coefficient));
+            }
+            Change::Lowered(variable) => {
+                self.known.add(Term {
+                    coefficient,
+                    variable,
+                });
+                self.known.raise(-i128::from(coefficient));
+            }
+            Change::Constant(value) => self.known.raise(multiple(coefficient, value)),
+            Change::Unknown => self.unknown.add(term),
+        }
+    }
+
+    /// Adds some terms, or their negations, each rewritten by the effect.
+    fn add_terms(&mut self, terms: &[Term], effect: &Effect, negated: bool)
+        requires few { length terms.now ≤ 3 }
+        requires small { All (λ t. unsigned_abs t.coefficient ≤ 1000000) terms.now }
+        requires room { HasRoom 3 self.old }
+        ensures value { (before free : Valuation) → value_of_both before free self.new
+            ≡ value_of_both before free self.old +ℤ signed negated (total (after effect.now before free) terms.now) }
+        ensures room { (used : ℕ) → HasRoom used self.old → HasRoom (used + 3) self.new }
+        ensures known { All (λ t. change_of effect.now t.variable ≢ Unknown) terms.now
+            → self.new.unknown ≡ self.old.unknown }
+    {
+        for term in terms {
+            let change = effect.change(term.variable);
+            let changed = Term {
+                coefficient: negated_if(negated, term.coefficient),
+                variable: term.variable,
+            };
+            self.add(changed, change);
+        }
+    }
+
+    /// Adds the terms of a linear, or their negations, each rewritten by the effect.
+    pub fn add_linear(&mut self, linear: &Linear, effect: &Effect, negated: bool)
+        requires { HasRoom 3 self.old }
+        ensures value { WasAdded self.old self.new effect.now negated linear.now }
+        ensures room { (used : ℕ) → HasRoom used self.old → HasRoom (used + 3) self.new }
+        ensures known { IsKnown effect.now linear.now → self.new.unknown ≡ self.old.unknown }
+    {
+        self.add_terms(linear.terms(), effect, negated);
+    }
+
+    /// Whether the value is at least 0 wherever the variables before the step are in the source ranges, and the unknown ones
+    /// in the target ranges.
+    pub fn is_never_negative<S: Ranges, T: Ranges>(&self, source: &S, target: &T) -> bool
+        requires { HasRoom 6 self.now }
+        ensures { IsTrue result ↔ ((before free : Valuation) → LiesIn (S.range_of source.now) before
+            → LiesIn (T.range_of target.now) free → pos 0 ≤ℤ value_of_both before free self.now) }
+    {
+        self.known.least(source) + self.unknown.least(target) >= 0
+    }
+}
