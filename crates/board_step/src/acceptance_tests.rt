@@ -104,7 +104,14 @@ fn an_nmi_is_accepted_after_the_blank(rt: HostRuntime) -> Result<(), Fail> {
     steps(&rt, &mut board, rom.as_slice(), &starts, &[false; 4])?;
     assert_eq!(rt; board.phase(), 4);
     let event = steps(&rt, &mut board, rom.as_slice(), &starts, &[false])?;
-    assert_eq!(rt; event, Event { kind: Kind::Accept, at: 0x0008, t: 11 });
+    assert_eq!(rt;
+        event,
+        Event {
+            kind: Kind::Accept,
+            at: 0x0008,
+            t: 11
+        }
+    );
     assert_eq!(rt; board.regs().sp, 0x43FE);
     assert_eq!(rt; work_byte(&board, 0x3FE), 0x08);
     assert_eq!(rt; work_byte(&board, 0x3FF), 0x00);
@@ -126,7 +133,10 @@ fn an_acceptance_outside_the_region_traps(rt: HostRuntime) -> Result<(), Fail> {
         starts: &starts,
         region: REGION,
     };
-    assert_eq!(rt; board.step_checked(&rom, &profile, &env(false)), Err(Trap::StackOutside));
+    assert_eq!(rt;
+        board.step_checked(&rom, &profile, &env(false)),
+        Err(Trap::StackOutside)
+    );
     assert_eq!(rt; board.regs(), regs);
     assert_eq!(rt; board.phase(), phase);
     assert_eq!(rt; board.kind(), Kind::Accept);
@@ -148,7 +158,13 @@ fn the_enable_is_cleared_in_the_very_event(rt: HostRuntime) -> Result<(), Fail> 
     for (latch, kind) in [(true, Kind::Accept), (false, Kind::Instr)] {
         // 10 + 7 + 13 + 4 = 34 T-states go by before the store of 13.
         let mut board = board(&rt, 50_688 - 34 - 13);
-        steps(&rt, &mut board, &bytes, &starts, &[false, false, false, false, latch])?;
+        steps(
+            &rt,
+            &mut board,
+            &bytes,
+            &starts,
+            &[false, false, false, false, latch],
+        )?;
         assert_eq!(rt; board.phase(), 0);
         assert_eq!(rt; board.kind(), kind);
     }
@@ -189,9 +205,23 @@ fn a_halted_machine_accepts(rt: HostRuntime) -> Result<(), Fail> {
     steps(&rt, &mut board, rom.as_slice(), &starts, &[false; 4])?;
     assert_eq!(rt; board.kind(), Kind::Idle);
     let event = steps(&rt, &mut board, rom.as_slice(), &starts, &[false; 2])?;
-    assert_eq!(rt; event, Event { kind: Kind::Idle, at: 0x0009, t: 4 });
+    assert_eq!(rt;
+        event,
+        Event {
+            kind: Kind::Idle,
+            at: 0x0009,
+            t: 4
+        }
+    );
     let event = steps(&rt, &mut board, rom.as_slice(), &starts, &[false])?;
-    assert_eq!(rt; event, Event { kind: Kind::Accept, at: 0x0009, t: 11 });
+    assert_eq!(rt;
+        event,
+        Event {
+            kind: Kind::Accept,
+            at: 0x0009,
+            t: 11
+        }
+    );
     assert_eq!(rt; work_byte(&board, 0x3FE), 0x09);
     let event = steps(&rt, &mut board, rom.as_slice(), &starts, &[false])?;
     assert_eq!(rt; event.kind, Kind::Instr);
@@ -215,7 +245,14 @@ fn an_acceptance_begins_at_phase_22_at_most(rt: HostRuntime) -> Result<(), Fail>
     assert_eq!(rt; board.phase(), 22);
     assert_eq!(rt; board.kind(), Kind::Accept);
     let event = steps(&rt, &mut board, rom.as_slice(), &starts, &[false])?;
-    assert_eq!(rt; event, Event { kind: Kind::Accept, at: 0x000A, t: 11 });
+    assert_eq!(rt;
+        event,
+        Event {
+            kind: Kind::Accept,
+            at: 0x000A,
+            t: 11
+        }
+    );
     assert_eq!(rt; board.phase(), 33);
     Ok(())
 }

@@ -5,7 +5,7 @@ use Rattle.address_map.specs.declared.map.WriteClass.{WriteClass}
 use Rattle.address_map.specs.declared.map.WriteClass.TheVariants as classes
 use Rattle.address_map.specs.declared.region.Region.{Region}
 use Rattle.board_step.specs.Context.{Context}
-use Rattle.board_step.specs.Effect.{effect_of, drafted, moved, past}
+use Rattle.board_step.specs.Effect.{drafted, moved, past}
 use Rattle.board_step.specs.Memory.{stored, stored_in, stored_all, stacked_all}
 use Rattle.board_step.specs.State.{State}
 use Rattle.board_step.specs.Step.{committed, done, ticked, enable_met, sets_line, blanks}

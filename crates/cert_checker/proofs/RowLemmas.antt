@@ -88,8 +88,8 @@ store_in rom_len rows nn at Set true e leads waits =
 pub never_enables : (rom : List ℕ) (cert : Contents) (row : Row) (s : Stands rom cert row) → may_enable (length rom) s.instr ≡ false
 never_enables rom cert row s =
     by_known (λ instr. (at : ℕ) → is_covered_after cert.rows at (mode_after (length rom) instr row.mode) ≡ true → (may_enable (length rom) instr && is_unset row.mode) ≡ false → may_enable (length rom) instr ≡ false)
-      (λ at p q. refl) (λ n at p q. refl) (λ nn at p q. store_in (length rom) cert.rows nn at row.mode (may_enable (length rom) (StoreA (Direct nn))) refl p q) (λ nn at p q. refl) (λ nn at p q. refl) (λ d at p q. refl)
-      s.instr s.known _ s.leads s.waits
+    (λ at p q. refl) (λ n at p q. refl) (λ nn at p q. store_in (length rom) cert.rows nn at row.mode (may_enable (length rom) (StoreA (Direct nn))) refl p q) (λ nn at p q. refl) (λ nn at p q. refl) (λ d at p q. refl)
+    s.instr s.known _ s.leads s.waits
 
 both_first : (a b : Bool) → (a && b) ≡ true → a ≡ true
 both_first true b e = refl

@@ -90,7 +90,10 @@ fn judge<'r, W: Sink>(
     let certificate = match read(alloc, text) {
         Ok(certificate) => certificate,
         Err(CertFault::Line(line)) => {
-            return Err(written_status(write_bad_line(b"bad certificate", line as u64, out), REFUSED));
+            return Err(written_status(
+                write_bad_line(b"bad certificate", line as u64, out),
+                REFUSED,
+            ));
         }
         Err(CertFault::Limit) => {
             return Err(written_status(put(out, b"bad certificate limit\n"), REFUSED));
@@ -99,23 +102,24 @@ fn judge<'r, W: Sink>(
     };
     match check(rom, certificate) {
         Ok(accepted) => Ok(accepted),
-        Err(CheckFault::Refused(refused)) => Err(written_status(write_refused(&refused, out), REFUSED)),
+        Err(CheckFault::Refused(refused)) => Err(written_status(
+            write_refused(&refused, out),
+            REFUSED,
+        )),
         Err(CheckFault::NoMemory) => Err(MEMORY),
     }
 }
 
-fn play_on<C: Source, W: Sink>(
-    accepted: &Accepted,
-    input: &mut C,
-    steps: u32,
-    out: &mut W,
-) -> u8
+fn play_on<C: Source, W: Sink>(accepted: &Accepted, input: &mut C, steps: u32, out: &mut W) -> u8
     ensures device { result ≡ 3 → HasGrown (C.failure_count input.old) (C.failure_count input.new) ⊎ HasGrown (W.failure_count out.old) (W.failure_count out.new) }
     ensures known { result ≤ 4 }
 {
     match play(accepted, steps, input, out) {
         Ok(_) => ACCEPTED,
-        Err(PlayFault::Line(line)) => written_status(write_bad_line(b"bad input", line, out), REFUSED),
+        Err(PlayFault::Line(line)) => written_status(
+            write_bad_line(b"bad input", line, out),
+            REFUSED,
+        ),
         Err(PlayFault::Read | PlayFault::Write) => DEVICE,
     }
 }

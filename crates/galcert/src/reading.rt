@@ -25,11 +25,7 @@ impl From<AllocError> for Stop {
 }
 
 /// Reads a source to its end, or up to `most` bytes if there are more.
-pub fn read_up_to<R: Source>(
-    alloc: Global,
-    source: &mut R,
-    most: usize,
-) -> Result<Vec<u8>, Stop>
+pub fn read_up_to<R: Source>(alloc: Global, source: &mut R, most: usize) -> Result<Vec<u8>, Stop>
     ensures given { IfOk result (λ bytes. Gives (R.rest source.old) bytes.items (R.rest source.new)) }
     ensures within { IfOk result (λ bytes. vec_len bytes ≤ most) }
     ensures whole { IfOk result (λ bytes. vec_len bytes < most → IfSome (R.rest source.old) (λ all. bytes.items ≡ all)) }

@@ -5,6 +5,7 @@ use std::alloc::{AllocError, Global};
 use std::test::Fail;
 
 const JUMP: &[u8] = &[0x31, 0x00, 0x44, 0xC3, 0x03, 0x00];
+
 const STORE: &[u8] = &[0x31, 0x00, 0x44, 0x3E, 0x05, 0x32, 0x00, 0x40, 0x18, 0xFE];
 
 /// A certificate with rows of these addresses and modes, and the region from `low` to `top`.
@@ -15,7 +16,9 @@ fn certificate(
     top: u16,
     rows: &[(u16, char)],
 ) -> Result<String, AllocError> {
-    let mut text = format!(in alloc; "galcert 1\nrom {len}\nstack {low:04X} {top:04X}\nbudget -\nproc main 0000 0 0 -\n")?;
+    let mut text = format!(in alloc;
+        "galcert 1\nrom {len}\nstack {low:04X} {top:04X}\nbudget -\nproc main 0000 0 0 -\n"
+    )?;
     for (address, mode) in rows {
         let line = format!(in alloc; "row 0 {address:04X} {mode} * * * * * * * * * * - - - -\n")?;
         text.push_str(line.as_str())?;
@@ -37,7 +40,13 @@ fn verified(alloc: Global, rom: &[u8], cert: &str) -> Result<(Vec<u8>, u8), Fail
 }
 
 /// What `run` writes, with its status after it.
-fn played(alloc: Global, rom: &[u8], cert: &str, input: &str, steps: u32) -> Result<(Vec<u8>, u8), Fail> {
+fn played(
+    alloc: Global,
+    rom: &[u8],
+    cert: &str,
+    input: &str,
+    steps: u32,
+) -> Result<(Vec<u8>, u8), Fail> {
     let mut out = Taken::new(alloc);
     let status = run_on(
         alloc,
@@ -56,25 +65,43 @@ fn six_bytes_are_accepted_and_run(rt: HostRuntime) -> Result<(), Fail> {
     let cert = certificate(alloc, 6, 0x4380, 0x4400, &[(0, 'u'), (3, 's')])?;
     let (table, status) = verified(alloc, JUMP, cert.as_str())?;
     assert_eq!(rt; status, 0);
-    assert_eq!(rt; table.as_slice(), b"accepted\nmain 0000 depth     0 time      -\nstack 0 of 128\nnmi none\n".as_slice());
+    assert_eq!(rt;
+        table.as_slice(),
+        b"accepted\nmain 0000 depth     0 time      -\nstack 0 of 128\nnmi none\n".as_slice()
+    );
     let input = "reset 0 00\n3 00 00 00 00 00 00 0\n";
     let (text, status) = played(alloc, JUMP, cert.as_str(), input, 3)?;
     assert_eq!(rt; status, 0);
-    assert_eq!(rt; text.as_slice(), b"done 3 30 0003 4400\nregs 0000 0000 0000 0000 0000 0000\nsum 0 0 0\n".as_slice());
+    assert_eq!(rt;
+        text.as_slice(),
+        b"done 3 30 0003 4400\nregs 0000 0000 0000 0000 0000 0000\nsum 0 0 0\n".as_slice()
+    );
     let (text, status) = played(alloc, JUMP, cert.as_str(), input, 0)?;
     assert_eq!(rt; status, 0);
-    assert_eq!(rt; text.as_slice(), b"done 0 0 0000 0000\nregs 0000 0000 0000 0000 0000 0000\nsum 0 0 0\n".as_slice());
+    assert_eq!(rt;
+        text.as_slice(),
+        b"done 0 0 0000 0000\nregs 0000 0000 0000 0000 0000 0000\nsum 0 0 0\n".as_slice()
+    );
     Ok(())
 }
 
 #[test]
 fn a_store_reaches_work_ram(rt: HostRuntime) -> Result<(), Fail> {
     let alloc = rt.alloc();
-    let cert = certificate(alloc, 10, 0x4380, 0x4400, &[(0, 'u'), (3, 's'), (5, 's'), (8, 's')])?;
+    let cert = certificate(
+        alloc,
+        10,
+        0x4380,
+        0x4400,
+        &[(0, 'u'), (3, 's'), (5, 's'), (8, 's')],
+    )?;
     let input = "reset 0 00\n5 00 00 00 00 00 00 0\n";
     let (text, status) = played(alloc, STORE, cert.as_str(), input, 5)?;
     assert_eq!(rt; status, 0);
-    assert_eq!(rt; text.as_slice(), b"done 5 54 0008 4400\nregs 0500 0000 0000 0000 0000 0000\nsum 5 0 0\n".as_slice());
+    assert_eq!(rt;
+        text.as_slice(),
+        b"done 5 54 0008 4400\nregs 0500 0000 0000 0000 0000 0000\nsum 5 0 0\n".as_slice()
+    );
     Ok(())
 }
 
@@ -83,15 +110,69 @@ fn a_store_reaches_work_ram(rt: HostRuntime) -> Result<(), Fail> {
 fn refusals_are_told(rt: HostRuntime) -> Result<(), Fail> {
     let alloc = rt.alloc();
     let cases: [(&[u8], u16, u16, &[(u16, char)], &str); 9] = [
-        (&[0x31, 0, 0x44, 0x32, 0, 0, 0x18, 0xFE], 0x4380, 0x4400, &[(0, 'u'), (3, 's'), (6, 's')], "refused 0003 6 WriteRom\n"),
-        (&[0x31, 0, 0x44, 0x32, 0, 0x48, 0x18, 0xFE], 0x4380, 0x4400, &[(0, 'u'), (3, 's'), (6, 's')], "refused 0003 7 WriteUnmapped\n"),
-        (&[0x31, 0, 0x44, 0x32, 9, 0x70, 0x18, 0xFE], 0x4380, 0x4400, &[(0, 'u'), (3, 's'), (6, 's')], "refused 0003 12 NotCovered\n"),
-        (JUMP, 0x4380, 0x4400, &[(0, 'u')], "refused 0000 12 NotCovered\n"),
-        (JUMP, 0x4400, 0x4400, &[(0, 'u'), (3, 's')], "refused 0000 2 Region\n"),
-        (&[0x31, 0, 0x42], 0x4380, 0x4400, &[(0, 'u'), (3, 's')], "refused 0000 20 SpWrite\n"),
-        (&[0x3E, 1, 0x32, 1, 0x70, 0x31, 0, 0x44, 0x18, 0xFE], 0x4380, 0x4400, &[(0, 'u'), (2, 'u'), (5, 'u'), (8, 's')], "refused 0002 15 NmiBeforeStack\n"),
-        (JUMP, 0x4380, 0x4400, &[(0, 's'), (3, 's')], "refused 0000 3 Entry\n"),
-        (&[0xC3, 0], 0x4380, 0x4400, &[(0, 'u')], "refused 0000 4 Decode Truncated\n"),
+        (
+            &[0x31, 0, 0x44, 0x32, 0, 0, 0x18, 0xFE],
+            0x4380,
+            0x4400,
+            &[(0, 'u'), (3, 's'), (6, 's')],
+            "refused 0003 6 WriteRom\n",
+        ),
+        (
+            &[0x31, 0, 0x44, 0x32, 0, 0x48, 0x18, 0xFE],
+            0x4380,
+            0x4400,
+            &[(0, 'u'), (3, 's'), (6, 's')],
+            "refused 0003 7 WriteUnmapped\n",
+        ),
+        (
+            &[0x31, 0, 0x44, 0x32, 9, 0x70, 0x18, 0xFE],
+            0x4380,
+            0x4400,
+            &[(0, 'u'), (3, 's'), (6, 's')],
+            "refused 0003 12 NotCovered\n",
+        ),
+        (
+            JUMP,
+            0x4380,
+            0x4400,
+            &[(0, 'u')],
+            "refused 0000 12 NotCovered\n",
+        ),
+        (
+            JUMP,
+            0x4400,
+            0x4400,
+            &[(0, 'u'), (3, 's')],
+            "refused 0000 2 Region\n",
+        ),
+        (
+            &[0x31, 0, 0x42],
+            0x4380,
+            0x4400,
+            &[(0, 'u'), (3, 's')],
+            "refused 0000 20 SpWrite\n",
+        ),
+        (
+            &[0x3E, 1, 0x32, 1, 0x70, 0x31, 0, 0x44, 0x18, 0xFE],
+            0x4380,
+            0x4400,
+            &[(0, 'u'), (2, 'u'), (5, 'u'), (8, 's')],
+            "refused 0002 15 NmiBeforeStack\n",
+        ),
+        (
+            JUMP,
+            0x4380,
+            0x4400,
+            &[(0, 's'), (3, 's')],
+            "refused 0000 3 Entry\n",
+        ),
+        (
+            &[0xC3, 0],
+            0x4380,
+            0x4400,
+            &[(0, 'u')],
+            "refused 0000 4 Decode Truncated\n",
+        ),
     ];
     for (rom, low, top, rows, want) in cases {
         let cert = certificate(alloc, rom.len(), low, top, rows)?;
@@ -137,8 +218,14 @@ fn bad_lines_are_told(rt: HostRuntime) -> Result<(), Fail> {
         ("reset 0 00\n0 00 00 00 00 00 00 0\n", "bad input line 2\n"),
         ("reset 0 00\n1 00 00 00 00 00 00 2\n", "bad input line 2\n"),
         ("reset 0 00\n1 00 00 00 00 00 0a 0\n", "bad input line 2\n"),
-        ("reset 0 00\n4294967295 00 00 00 00 00 00 0 \n", "bad input line 2\n"),
-        ("reset 0 00\n1 00 00 00 00 00 00 0\n1  00 00 00 00 00 00 0\n", "bad input line 3\n"),
+        (
+            "reset 0 00\n4294967295 00 00 00 00 00 00 0 \n",
+            "bad input line 2\n",
+        ),
+        (
+            "reset 0 00\n1 00 00 00 00 00 00 0\n1  00 00 00 00 00 00 0\n",
+            "bad input line 3\n",
+        ),
     ] {
         let (text, status) = played(alloc, JUMP, whole.as_str(), input, 2)?;
         assert_eq!(rt; status, 1, "{want}");
@@ -155,20 +242,37 @@ fn device_failures_are_told(rt: HostRuntime) -> Result<(), Fail> {
     let table = b"accepted\nmain 0000 depth     0 time      -\nstack 0 of 128\nnmi none\n";
     for calls in 0..table.len() {
         let mut out = Taken::failing(alloc, 1, calls as u64);
-        let status = verify_on(alloc, &mut Bytes::whole(JUMP), &mut Bytes::whole(cert.as_str().as_bytes()), &mut out);
+        let status = verify_on(
+            alloc,
+            &mut Bytes::whole(JUMP),
+            &mut Bytes::whole(cert.as_str().as_bytes()),
+            &mut out,
+        );
         assert_eq!(rt; status, 3);
         assert_eq!(rt; out.bytes.as_slice(), &table[..calls]);
     }
     for calls in 0..4 {
         let mut out = Taken::new(alloc);
-        let status = verify_on(alloc, &mut Bytes::failing(JUMP, 2, calls), &mut Bytes::whole(cert.as_str().as_bytes()), &mut out);
+        let status = verify_on(
+            alloc,
+            &mut Bytes::failing(JUMP, 2, calls),
+            &mut Bytes::whole(cert.as_str().as_bytes()),
+            &mut out,
+        );
         assert_eq!(rt; status, if calls < 4 { 3 } else { 0 });
         assert!(rt; out.bytes.is_empty());
     }
     let input = b"reset 0 00\n3 00 00 00 00 00 00 0\n";
     for calls in 0..input.len() {
         let mut out = Taken::new(alloc);
-        let status = run_on(alloc, &mut Bytes::whole(JUMP), &mut Bytes::whole(cert.as_str().as_bytes()), &mut Bytes::failing(input, 1, calls as u64), 3, &mut out);
+        let status = run_on(
+            alloc,
+            &mut Bytes::whole(JUMP),
+            &mut Bytes::whole(cert.as_str().as_bytes()),
+            &mut Bytes::failing(input, 1, calls as u64),
+            3,
+            &mut out,
+        );
         assert_eq!(rt; status, 3);
         assert!(rt; out.bytes.is_empty());
     }
@@ -184,7 +288,14 @@ fn nothing_is_read_past_what_is_needed(rt: HostRuntime) -> Result<(), Fail> {
     let mut input = Bytes::failing(b"", 1, 0);
     let mut out = Taken::new(alloc);
     let cert = certificate(alloc, 6, 0x4380, 0x4400, &[(0, 'u'), (3, 's')])?;
-    let status = run_on(alloc, &mut rom, &mut Bytes::whole(cert.as_str().as_bytes()), &mut input, 1, &mut out);
+    let status = run_on(
+        alloc,
+        &mut rom,
+        &mut Bytes::whole(cert.as_str().as_bytes()),
+        &mut input,
+        1,
+        &mut out,
+    );
     assert_eq!(rt; status, 1);
     assert_eq!(rt; rom.left(), 20_000 - 16_385);
     assert_eq!(rt; out.bytes.as_slice(), b"refused 0000 1 Rom\n".as_slice());

@@ -24,9 +24,7 @@ pub fn command_line<'a>(alloc: Global) -> Result<Command<'a>, AllocError> {
 }
 
 fn file<'a>(alloc: Global, name: &'static str) -> Arg<'a> {
-    Arg::new(alloc, name)
-        .required(true)
-        .action(ArgAction::Set)
+    Arg::new(alloc, name).required(true).action(ArgAction::Set)
 }
 
 /// The word of an argument, which the command line requires; the empty text if there were none.
@@ -46,9 +44,7 @@ pub fn steps_of(text: &str) -> Option<u32> {
         if !byte.is_ascii_digit() {
             return None;
         }
-        steps = steps
-            .checked_mul(10)?
-            .checked_add(u32::from(*byte - b'0'))?;
+        steps = steps.checked_mul(10)?.checked_add(u32::from(*byte - b'0'))?;
     }
     Some(steps)
 }

@@ -1,1 +1,0 @@
-use Rattle.std.specs.Prelude.{ℕ}

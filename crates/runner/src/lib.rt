@@ -11,5 +11,5 @@ mod playing;
 
 pub use fault::PlayFault;
 pub use machine::{Machine, Summary};
-pub use playing::play;
 pub use output::{put, put_decimal, put_hex4};
+pub use playing::play;

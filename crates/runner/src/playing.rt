@@ -2,7 +2,6 @@ ghost use Rattle.std.specs.Prelude.{◌≡◌, ◌≢◌, ◌<◌, ℕ, IfOk, On
 ghost use Rattle.certificate.specs.Device.{HasGrown};
 ghost use Rattle.t_states.specs.declared.frame.TheConstants.{FRAME};
 
-
 use crate::fault::PlayFault;
 use crate::input::{Line, Pending, env_of, reset_of};
 use crate::machine::{Machine, Summary};

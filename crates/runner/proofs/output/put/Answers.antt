@@ -1,4 +1,4 @@
-use Rattle.std.proofs.Common.{◌≡◌, ◌<◌, ◌++◌, take, drop, sym, ap, ◌∙◌, List, ℕ, append_assoc, arith}
+use Rattle.std.proofs.Common.{◌≡◌, ◌<◌, ◌++◌, take, sym, ap, ◌∙◌, List, ℕ, append_assoc, arith}
 use Rattle.std.proofs.lemmas.List.{take-append-drop}
 use Rattle.certificate.proofs.DeviceLemmas.{takes_both}
 use Rattle.runner.proofs.output.put.Goals as goal
@@ -8,7 +8,7 @@ loop-rest-preserved g c =
     let inv = c.loop-rest.invariant in
     let some : 0 < c.in-Ok.count = omega arith in
     let whole : take c.in-Ok.count c.loop-rest.rest.now ++ c.split_at.result.1.now ≡ c.loop-rest.rest.now =
-      ap (λ (xs : List ℕ). take c.in-Ok.count c.loop-rest.rest.now ++ xs) c.split_at.ensures.back ∙ take-append-drop c.in-Ok.count c.loop-rest.rest.now in
+    ap (λ (xs : List ℕ). take c.in-Ok.count c.loop-rest.rest.now ++ xs) c.split_at.ensures.back ∙ take-append-drop c.in-Ok.count c.loop-rest.rest.now in
     record {
       kept = c.in-Ok.ensures.kept some ∙ inv.kept;
       done = inv.done ++ take c.in-Ok.count c.loop-rest.rest.now;
