@@ -1,9 +1,7 @@
-/* The loop of step/src/main.rt on Debian's libz80ex (package libz80ex-dev), in picoseconds an event. */
+/* The loop of crates/step_bench on Debian's libz80ex (package libz80ex-dev): as many events as the argument says. */
 #include <stdio.h>
-#include <time.h>
+#include <stdlib.h>
 #include <z80ex/z80ex.h>
-
-#define EVENTS 20000000u
 
 static Z80EX_BYTE memory[65536] = {
     0x31, 0x00, 0x44, 0xDD, 0x21, 0x00, 0x40, 0x06, 0x00, 0xDD, 0x7E, 0x05, 0xC6, 0x03, 0xDD, 0x77,
@@ -35,20 +33,15 @@ static Z80EX_BYTE read_vector(Z80EX_CONTEXT *cpu, void *data) {
     return 0xFF;
 }
 
-int main(void) {
+int main(int count, char **words) {
     Z80EX_CONTEXT *cpu = z80ex_create(read_byte, 0, write_byte, 0, read_port, 0, write_port, 0, read_vector, 0);
-    for (int round = 0; round < 3; round++) {
-        struct timespec start, end;
-        clock_gettime(CLOCK_MONOTONIC, &start);
-        for (unsigned event = 0; event < EVENTS; event++) {
-            do {
-                z80ex_step(cpu);
-            } while (z80ex_last_op_type(cpu) != 0);
-        }
-        clock_gettime(CLOCK_MONOTONIC, &end);
-        double time = (end.tv_sec - start.tv_sec) * 1e9 + (end.tv_nsec - start.tv_nsec);
-        printf("libz80ex %.0f picoseconds an event, A %u\n", time * 1000 / EVENTS, z80ex_get_reg(cpu, regAF) >> 8);
+    long events = count > 1 ? atol(words[1]) : 0;
+    for (long event = 0; event < events; event++) {
+        do {
+            z80ex_step(cpu);
+        } while (z80ex_last_op_type(cpu) != 0);
     }
+    printf("A %u, B %u\n", z80ex_get_reg(cpu, regAF) >> 8, z80ex_get_reg(cpu, regBC) >> 8);
     z80ex_destroy(cpu);
     return 0;
 }

@@ -4,6 +4,7 @@ pub mod Decoded
 pub mod Effect
 pub mod Env
 pub mod Kind
+pub mod Known
 pub mod Memory
 pub mod Moves
 pub mod Operands

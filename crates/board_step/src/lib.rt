@@ -12,6 +12,7 @@ mod env;
 mod event;
 mod fetching;
 mod flow_moves;
+mod known;
 mod load_moves;
 mod moves;
 mod operands;
@@ -24,14 +25,17 @@ mod trap;
 
 pub use access::{StackAccess, Write};
 pub use board::{Board, Reset};
-pub use context::Context;
-pub use draft::{Draft, displace};
+pub use draft::displace;
 pub use env::{Env, Inputs};
 pub use event::{Event, Kind};
 pub use fetching::fetch;
+pub use known::{Costs, Known};
 pub use moves::{Move, Moves, Test};
 pub use profile::{Profile, Trap};
-pub use ranges::{object_ram_is_in_range, ram_is_in_range, regs_are_in_range, set_is_in_range};
+pub use ranges::{
+    object_ram_is_in_range, ram_is_in_range, regs_are_in_range, set_is_in_range,
+    steps_stay_in_range,
+};
 pub use registers::{ByteRegister, WordRegister};
 pub use table::{moves_for, moves_of_acceptance};
 

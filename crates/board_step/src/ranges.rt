@@ -1,5 +1,9 @@
-ghost use Rattle.std.specs.Prelude.{ℕ, ◌<◌, slice_index};
-ghost use Rattle.board_step.specs.State.{IsRam, IsRegisterSet, IsRegs};
+ghost use Rattle.std.specs.Prelude.{ℕ, List};
+ghost use Rattle.board_step.specs.State.{AreBytes, State, IsState, IsRam, IsRegisterSet, IsRegs};
+ghost use Rattle.board_step.specs.Env.{IsEnv};
+ghost use Rattle.board_step.specs.Step.{Step};
+ghost use Rattle.board_step.specs.declared.env.Env.{Env};
+ghost use Rattle.board_step.specs.declared.event.Event.{Event};
 
 use z80_alu::{RegisterSet, Regs};
 
@@ -17,7 +21,7 @@ pub fn regs_are_in_range(regs: Regs)
 }
 
 fn bytes_are_in_range(bytes: &[u8])
-    ensures { (i : ℕ) → slice_index bytes.now i < 256 }
+    ensures { AreBytes bytes.now }
 {}
 
 /// A law: work or video RAM is 1,024 bytes.
@@ -33,3 +37,8 @@ pub fn object_ram_is_in_range(ram: &[u8; 0x100])
 {
     bytes_are_in_range(ram);
 }
+
+/// A law: where the ROM holds bytes, a step leads from a state in range to one in range.
+pub fn steps_stay_in_range()
+    ensures { (rom : List ℕ) (old new : State) (env : Env) (event : Event) → AreBytes rom → IsState old → IsEnv env → Step rom old env event new → IsState new }
+{}

@@ -1,9 +1,10 @@
 // Steps whose answers come from the manual by hand. Those of another program are in crates/step_vectors.
-ghost use Rattle.std.specs.Prelude.{◌<◌};
+ghost use Rattle.std.specs.Prelude.{◌≡◌, ◌<◌, length};
 ghost use Rattle.t_states.specs.declared.frame.TheConstants.{FRAME};
 
 use crate::*;
-use address_map::{RamKind, Region, Rom, Starts};
+use address_map::{Map, RamKind, Region, Rom, Starts};
+use t_states::cost;
 use z80_alu::{RegisterSet, Regs};
 
 // Each number of it is another, where a step can tell: an open read gives AA first and then BB, and R is 5C.
@@ -500,4 +501,43 @@ fn the_second_byte_of_a_word_enables(rt: HostRuntime) {
     assert_eq!(rt; time, Ok(26));
     assert!(rt; board.enable());
     assert_eq!(rt; board.kind(), Kind::Instr);
+}
+
+// The next event by what is known of it, where that can be found out.
+fn step_by_known(board: &mut Board, rom: &Rom, map: &Map, env: &Env) -> Option<Event>
+    requires { map.now ≡ length rom.now }
+{
+    match board.kind() {
+        Kind::Accept | Kind::Idle => Some(board.step_known(rom, map, None, env)),
+        Kind::Instr => {
+            let (instr, len) = fetch(rom, board.regs().pc).ok()?;
+            let costs = Costs {
+                taken: cost(&instr, true),
+                not_taken: cost(&instr, false),
+            };
+            let known = Known { instr, len, costs };
+            Some(board.step_known(rom, map, Some(known), env))
+        }
+    }
+}
+
+#[test]
+fn known_steps_are_the_checked_ones(rt: HostRuntime) {
+    let bytes = enabling();
+    if let Some(rom) = Rom::of(&bytes) {
+        let map = Map::galaxian(rom.len());
+        let mut board = filled(0, 50_650);
+        let env = Env {
+            latch: true,
+            ..environment()
+        };
+        let mut time: u32 = 0;
+        for _ in 0..7 {
+            let t = step_by_known(&mut board, &rom, &map, &env).map_or(0, |event| event.t);
+            time = time.wrapping_add(u32::from(t));
+        }
+        assert_eq!(rt; time, 72);
+        assert_eq!(rt; board.regs().pc, 0x000C);
+        assert_eq!(rt; sum(board.ram(RamKind::Work)), 12);
+    }
 }

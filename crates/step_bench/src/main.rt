@@ -1,9 +1,9 @@
-// Times the checked step over a mixed loop, in nanoseconds an event (bench/run.sh).
+// Does as many events of a mixed loop as its argument says, by the checked step, so that bench/run.sh can time it.
 #![tactic(auto)]
 
 use address_map::{Region, Rom, Starts};
 use board_step::{Board, Env, Inputs, Profile, Reset};
-use std::time::Instant;
+use std::{env, io};
 use z80_alu::Regs;
 
 /// LD SP,4400; LD IX,4000; LD B,0; then LD A,(IX+5); ADD A,3; LD (IX+5),A; LD HL,4010; ADD A,(HL);
@@ -13,9 +13,6 @@ const PROGRAM: [u8; 0x23] = [
     0x05, 0x21, 0x10, 0x40, 0x86, 0x77, 0x4F, 0xCD, 0x20, 0x00, 0x10, 0xED, 0x18, 0xE9, 0x00, 0x00,
     0x3C, 0x80, 0xC9,
 ];
-
-/// How many events a round has.
-const EVENTS: u32 = 20_000_000;
 
 fn quiet() -> Env {
     let none = Inputs {
@@ -32,26 +29,20 @@ fn quiet() -> Env {
     }
 }
 
-fn round(rt: &HostRuntime, board: &mut Board, rom: &Rom, profile: &Profile) {
-    let env = quiet();
-    let Ok(start) = Instant::now(rt) else {
-        return;
+/// How many events the first argument asks for: 0 where there is none.
+fn events(rt: &HostRuntime) -> u64 {
+    let Ok(words) = env::args(rt) else {
+        return 0;
     };
-    let mut traps: u32 = 0;
-    for _ in 0..EVENTS {
-        if board.step_checked(rom, profile, &env).is_err() {
-            traps = traps.wrapping_add(1);
-        }
+    for word in words.skip(1) {
+        return word.as_str().parse().unwrap_or(0);
     }
-    let Ok(time) = start.elapsed(rt) else {
-        return;
-    };
-    let _ = println!(rt; "step_checked {} picoseconds an event, {traps} traps, A {}", time.as_nanos() / u128::from(EVENTS / 1000), board.regs().main.a);
+    0
 }
 
-fn main(rt: HostRuntime) {
+fn main(rt: HostRuntime) -> io::Result<()> {
     let Some(rom) = Rom::of(&PROGRAM) else {
-        return;
+        return Ok(());
     };
     let mut starts = Starts::new();
     for at in 0..0x23 {
@@ -71,7 +62,16 @@ fn main(rt: HostRuntime) {
         regs: Regs::default(),
         phase: 0,
     });
-    for _ in 0..3 {
-        round(&rt, &mut board, &rom, &profile);
+    let env = quiet();
+    let mut traps: u64 = 0;
+    for _ in 0..events(&rt) {
+        if board.step_checked(&rom, &profile, &env).is_err() {
+            traps = traps.wrapping_add(1);
+        }
     }
+    println!(rt;
+        "{traps} traps, A {}, B {}",
+        board.regs().main.a,
+        board.regs().main.b
+    )
 }
