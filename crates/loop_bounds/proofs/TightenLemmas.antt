@@ -10,15 +10,16 @@ use Rattle.intervals.specs.Range.{Interval, Within, between, intersection}
 use Rattle.std.proofs.lemmas.List.{take_more}
 use Rattle.std.proofs.lemmas.List.Elements.{All-head, All-tail}
 use Rattle.std.proofs.lemmas.List.Sums.{sum_by-append, sum_by-take-le}
+use Rattle.loop_bounds.proofs.SoFar.{IsLeastSoFar, IsGreatestSoFar}
 use Rattle.loop_bounds.specs.declared.linear.Term.{Term}
 use Rattle.loop_bounds.specs.declared.variable.Variable.{Variable}
 use Rattle.loop_bounds.specs.Linear.{Sum, total, value, IsLinear}
 use Rattle.loop_bounds.specs.Effect.{Valuation, whole}
 use Rattle.loop_bounds.specs.Ranges.{Box, IsBetween}
-use Rattle.loop_bounds.specs.Form.{weight, least_total, end_of, IsLeastSoFar}
+use Rattle.loop_bounds.specs.Form.{weight, least_total, end_of}
 use Rattle.loop_bounds.proofs.FormLemmas.{abs_sum}
 use Rattle.loop_bounds.proofs.Boxes.{multiple_bound}
-use Rattle.loop_bounds.specs.Tighten.{quotient_up, multiples_between, balancing, top_of, greatest_total, share_left, tightened_from, IsGreatestSoFar}
+use Rattle.loop_bounds.specs.Tighten.{quotient_up, multiples_between, balancing, top_of, greatest_total, share_left, tightened_from}
 
 pub between_multiples : (from to : ℤ) (factor : ℕ) (r : Interval) (low high : ℕ) (result : Option Interval) → pos 0 ≤ℤ to → low ≡ max r.low (quotient_up from factor) → high ≡ min r.high (unsigned_abs to / factor) → result ≡ between low high → result ≡ multiples_between from to factor r
 between_multiples from (pos n) factor r low high result h e f is =
