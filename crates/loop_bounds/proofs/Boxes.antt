@@ -5,6 +5,7 @@ use Rattle.std.proofs.lemmas.Int.{ints, unsigned_abs-mul}
 use Rattle.std.proofs.lemmas.Nat.{mul-le}
 use Rattle.std.proofs.lemmas.List.{take_more}
 use Rattle.std.proofs.lemmas.List.Sums.{sum_by-append, sum_by-take-le}
+use Rattle.loop_bounds.proofs.SoFar.{IsLeastSoFar}
 use Rattle.loop_bounds.proofs.FormLemmas.{abs_sum}
 use Rattle.std.proofs.lemmas.List.Elements.{All-head, All-tail}
 use Rattle.intervals.specs.Range.{Interval}
@@ -15,7 +16,7 @@ use Rattle.loop_bounds.specs.Linear.{Sum, total, value}
 use Rattle.loop_bounds.specs.Effect.{Valuation, whole}
 use Rattle.loop_bounds.specs.Ranges.{Box, IsBetween, LiesIn}
 use Rattle.loop_bounds.proofs.VariableLemmas.{same_from_place, choice_same, choice_other}
-use Rattle.loop_bounds.specs.Form.{AreDistinct, weight, end_of, least_total, IsLeastSoFar}
+use Rattle.loop_bounds.specs.Form.{AreDistinct, weight, end_of, least_total}
 
 -- a multiple is least at its end
 pub multiple_bound : (c : ℤ) (r : Interval) (x : ℕ) → IsBetween r x → (c *ℤ pos (end_of r c)) ≤ℤ (c *ℤ pos x)

@@ -8,3 +8,4 @@ pub mod RewrittenLemmas
 pub mod NeverNegative
 pub mod BoundsLemmas
 pub mod TightenLemmas
+pub mod SoFar

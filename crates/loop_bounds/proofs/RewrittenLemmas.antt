@@ -3,6 +3,7 @@ use Rattle.std.proofs.Common.{Bool, true, false, List, [], ◌∷◌, ◌++◌, 
 use Rattle.std.proofs.lemmas.Int.{ints}
 use Rattle.std.proofs.Math.IntN.{+ℤ_invl, +ℤ_assoc, zero-*ℤ}
 use Rattle.std.proofs.lemmas.List.{take_more, get_or_append_left}
+use Rattle.loop_bounds.proofs.SoFar.{HasAdded}
 use Rattle.loop_bounds.specs.declared.variable.Variable.{Variable}
 use Rattle.loop_bounds.specs.declared.linear.Term.{Term}
 use Rattle.loop_bounds.specs.declared.effect.Effect.{Effect}
@@ -14,7 +15,7 @@ use Rattle.loop_bounds.specs.declared.rewritten.Rewritten.{Rewritten}
 use Rattle.loop_bounds.specs.Linear.{Sum, total, value}
 use Rattle.loop_bounds.specs.Effect.{Valuation, whole, after, changed, change_of}
 use Rattle.loop_bounds.specs.Form.{weight}
-use Rattle.loop_bounds.specs.Rewritten.{HasRoom, HasAdded, value_of_both}
+use Rattle.loop_bounds.specs.Rewritten.{HasRoom, value_of_both}
 use Rattle.loop_bounds.proofs.FormLemmas.{raised_product, lowered_product, abs_sum, total_push, product_of_sum}
 use Rattle.loop_bounds.proofs.Boxes.{multiple_size}
 

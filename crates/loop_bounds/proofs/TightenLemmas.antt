@@ -1,5 +1,5 @@
 -- What is left of a range where a linear is 0.
-use Rattle.std.proofs.Common.{◌≡◌, ℕ, zero, suc, ◌+◌, ◌*◌, ◌/◌, ◌%◌, ◌<◌, ◌≤◌, ◌^◌, min, max, List, [], ◌∷◌, ◌++◌, length, get_or, take, drop, ℤ, pos, negsuc, neg_ℤ, ◌+ℤ◌, ◌-ℤ◌, ◌*ℤ◌, ◌≤ℤ◌, Option, Some, None, refl, sym, subst, ap, ◌∙◌, arith, All, unsigned_abs, IsSomeAnd, remove, inl, inr, add-one, drop-cons}
+use Rattle.std.proofs.Common.{◌≡◌, ℕ, zero, suc, ◌+◌, ◌*◌, ◌/◌, ◌%◌, ◌<◌, ◌≤◌, ◌^◌, min, max, List, [], ◌∷◌, ◌++◌, length, get_or, take, drop, ℤ, pos, negsuc, neg_ℤ, ◌+ℤ◌, ◌-ℤ◌, ◌*ℤ◌, ◌≤ℤ◌, Option, Some, None, refl, sym, subst, ap, ◌∙◌, arith, All, unsigned_abs, IsSomeAnd, remove, inl, inr, add-one, drop-cons, length-drop}
 use Rattle.std.proofs.Math.IntN.{pos-*ℤ-pos, negsuc-*ℤ-pos}
 use Rattle.std.proofs.lemmas.Int.{ints}
 use Rattle.std.proofs.lemmas.Nat.{mul-le, le-div}
@@ -10,15 +10,17 @@ use Rattle.intervals.specs.Range.{Interval, Within, between, intersection}
 use Rattle.std.proofs.lemmas.List.{take_more}
 use Rattle.std.proofs.lemmas.List.Elements.{All-head, All-tail}
 use Rattle.std.proofs.lemmas.List.Sums.{sum_by-append, sum_by-take-le}
+use Rattle.intervals.proofs.PairChanges.{kept_through}
+use Rattle.loop_bounds.proofs.SoFar.{IsLeastSoFar, IsGreatestSoFar}
 use Rattle.loop_bounds.specs.declared.linear.Term.{Term}
 use Rattle.loop_bounds.specs.declared.variable.Variable.{Variable}
 use Rattle.loop_bounds.specs.Linear.{Sum, total, value, IsLinear}
 use Rattle.loop_bounds.specs.Effect.{Valuation, whole}
 use Rattle.loop_bounds.specs.Ranges.{Box, IsBetween}
-use Rattle.loop_bounds.specs.Form.{weight, least_total, end_of, IsLeastSoFar}
+use Rattle.loop_bounds.specs.Form.{weight, least_total, end_of}
 use Rattle.loop_bounds.proofs.FormLemmas.{abs_sum}
 use Rattle.loop_bounds.proofs.Boxes.{multiple_bound}
-use Rattle.loop_bounds.specs.Tighten.{quotient_up, multiples_between, balancing, top_of, greatest_total, share_left, tightened_from, IsGreatestSoFar}
+use Rattle.loop_bounds.specs.Tighten.{quotient_up, multiples_between, balancing, top_of, greatest_total, share_left, tightened_from, tightened}
 
 pub between_multiples : (from to : ℤ) (factor : ℕ) (r : Interval) (low high : ℕ) (result : Option Interval) → pos 0 ≤ℤ to → low ≡ max r.low (quotient_up from factor) → high ≡ min r.high (unsigned_abs to / factor) → result ≡ between low high → result ≡ multiples_between from to factor r
 between_multiples from (pos n) factor r low high result h e f is =
@@ -180,3 +182,22 @@ kept_some o x P e h = rw e at h
 
 pub kept_none : {X : Type 0} (o : Option X) (P : X → Type 0) → o ≡ None → IsSomeAnd o P → ⊥
 kept_none o P e h = rw e at h
+
+-- ---- the whole fact, said of the definition for the proofs of the crates above
+module _ {S : Type 0} (range_of : S → Box) (cut_to : S → Variable → Interval → Option S) (holds : S → Valuation → Type 0) (in_ranges : (s : S) (x : Valuation) (v : Variable) → holds s x → Within (range_of s v) (x v)) (keeps : (s : S) (x : Valuation) (v : Variable) (to : Interval) → holds s x → Within to (x v) → IsSomeAnd (cut_to s v to) (λ t. holds t x)) (fact : Sum) (linear : IsLinear fact) (x : Valuation) (none : value (whole x) fact ≡ pos 0) where
+  tightened_from_keeps : (ts : List Term) (k : ℕ) (s : S) → drop k fact.terms ≡ ts → holds s x → IsSomeAnd (tightened_from range_of cut_to fact k ts s) (λ t. holds t x)
+  tightened_from_keeps [] k s e h = h
+  tightened_from_keeps (t ∷ ts) k s e h =
+      let long : length (drop k fact.terms) ≡ suc (length ts) = ap length e in
+      let inside : k < length fact.terms = omega (arith, long, length-drop k fact.terms) in
+      let parts : drop k fact.terms ≡ get_or fact.terms k t ∷ drop (suc k) fact.terms = drop-cons fact.terms k t inside in
+      let both : get_or fact.terms k t ∷ drop (suc k) fact.terms ≡ t ∷ ts = sym parts ∙ e in
+      let at : t ≡ get_or fact.terms k t = cc in
+      let rest : drop (k + 1) fact.terms ≡ ts = let there : drop (suc k) fact.terms ≡ ts = cc in rw add-one there in
+      let share = share_keep (range_of s) fact k t x linear inside at (λ v. in_ranges s x v h) none in
+      kept_through (share_left fact (range_of s) k t) (λ (q : Interval). Within q (x t.variable)) _ (λ u. holds u x) share
+      (λ left in_left. kept_through (cut_to s t.variable left) (λ u. holds u x) _ (λ u. holds u x) (keeps s x t.variable left h in_left)
+      (λ next held. tightened_from_keeps ts (k + 1) next rest held))
+
+  pub tightened_keeps : (s : S) → holds s x → IsSomeAnd (tightened range_of cut_to fact s) (λ t. holds t x)
+  tightened_keeps s h = tightened_from_keeps fact.terms 0 s refl h

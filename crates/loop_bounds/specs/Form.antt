@@ -1,5 +1,5 @@
 -- Sums of terms with distinct variables, as the decisions keep them.
-use Rattle.std.specs.Prelude.{◌≡◌, ◌≢◌, ℕ, ◌+◌, ◌*◌, ◌≤◌, List, [], ◌∷◌, length, take, ℤ, pos, negsuc, ◌+ℤ◌, ◌*ℤ◌, unsigned_abs, sum_by, min, max, AllPairs}
+use Rattle.std.specs.Prelude.{◌≡◌, ◌≢◌, ℕ, ◌≤◌, List, [], ◌∷◌, length, take, ℤ, pos, negsuc, ◌+ℤ◌, ◌*ℤ◌, unsigned_abs, sum_by, min, max, AllPairs}
 use Rattle.intervals.specs.Range.{Interval}
 use Rattle.loop_bounds.specs.declared.linear.Term.{Term}
 use Rattle.loop_bounds.specs.Ranges.{Box}
@@ -27,8 +27,3 @@ pub record IsForm (terms : List Term) (count : ℕ) : Type 0 where
   pub places : length terms ≡ 6
   pub within : count ≤ 6
   pub distinct : AreDistinct (take count terms)
-
--- what the least value of a sum is over a box, as far as its terms were seen
-pub record IsLeastSoFar (box : Box) (constant : ℤ) (seen : List Term) (least : ℤ) : Type 0 where
-  pub exact : least ≡ constant +ℤ least_total box seen
-  pub size : unsigned_abs least ≤ unsigned_abs constant + 65535 * weight seen

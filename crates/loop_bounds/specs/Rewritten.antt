@@ -1,11 +1,9 @@
 -- A sum over the variables before a step and those that are unknown after it.
-use Rattle.std.specs.Prelude.{◌≡◌, ◌≢◌, ℕ, ◌+◌, ◌*◌, ◌^◌, ◌≤◌, Bool, List, length, All, ℤ, pos, ◌+ℤ◌, unsigned_abs}
+use Rattle.std.specs.Prelude.{◌≡◌, ℕ, ◌+◌, ◌*◌, ◌^◌, ◌≤◌, Bool, length, ℤ, pos, ◌+ℤ◌, unsigned_abs}
 use Rattle.loop_bounds.specs.declared.rewritten.Rewritten.{Rewritten}
 use Rattle.loop_bounds.specs.declared.effect.Effect.{Effect}
-use Rattle.loop_bounds.specs.declared.effect.Change.TheVariants.{Unknown}
-use Rattle.loop_bounds.specs.declared.linear.Term.{Term}
 use Rattle.loop_bounds.specs.Linear.{Sum, total, value}
-use Rattle.loop_bounds.specs.Effect.{Valuation, whole, after, change_of}
+use Rattle.loop_bounds.specs.Effect.{Valuation, whole, after}
 use Rattle.loop_bounds.specs.Form.{weight}
 use Rattle.loop_bounds.specs.Signed.{signed}
 
@@ -26,9 +24,3 @@ pub record HasRoom (used : ℕ) (r : Rewritten) : Type 0 where
 abbrev pub WasAdded : Rewritten → Rewritten → Effect → Bool → Sum → Type 0
 WasAdded old new effect negated s =
     (before free : Valuation) → value_of_both before free new ≡ value_of_both before free old +ℤ signed negated (total (after effect before free) s.terms)
-
--- the terms were added, or their negations, each rewritten by the effect
-pub record HasAdded (old new : Rewritten) (effect : Effect) (negated : Bool) (terms : List Term) (count : ℕ) : Type 0 where
-  pub value : (before free : Valuation) → value_of_both before free new ≡ value_of_both before free old +ℤ signed negated (total (after effect before free) terms)
-  pub room : (used : ℕ) → HasRoom used old → HasRoom (used + count) new
-  pub known : All (λ t. change_of effect t.variable ≢ Unknown) terms → new.unknown ≡ old.unknown

@@ -1,13 +1,13 @@
 -- A linear that is 0 cuts each of its variables to what the others leave (docs/CHECKER.md, "Linear bounds, effects and
 -- tightening").
-use Rattle.std.specs.Prelude.{◌≡◌, ℕ, suc, ◌+◌, ◌*◌, ◌/◌, ◌≤◌, min, max, unsigned_abs, List, [], ◌∷◌, remove, ℤ, pos, negsuc, neg_ℤ, ◌+ℤ◌, ◌*ℤ◌, Option, Some, None, option_and_then}
+use Rattle.std.specs.Prelude.{ℕ, suc, ◌+◌, ◌/◌, min, max, List, [], ◌∷◌, remove, ℤ, pos, negsuc, neg_ℤ, ◌+ℤ◌, ◌*ℤ◌, Option, Some, None, option_and_then}
 use Rattle.std.specs.Int.{div_ceil}
 use Rattle.intervals.specs.Range.{Interval, intersection}
 use Rattle.loop_bounds.specs.declared.linear.Term.{Term}
 use Rattle.loop_bounds.specs.declared.variable.Variable.{Variable}
 use Rattle.loop_bounds.specs.Linear.{Sum}
 use Rattle.loop_bounds.specs.Ranges.{Box}
-use Rattle.loop_bounds.specs.Form.{least_total, weight}
+use Rattle.loop_bounds.specs.Form.{least_total}
 
 -- the end of a range at which a multiple is greatest
 abbrev pub top_of : Interval → ℤ → ℕ
@@ -53,8 +53,3 @@ tightened_from range_of cut_to fact place (t ∷ ts) s =
 -- every variable of the fact cut
 abbrev pub tightened : {S : Type 0} → (S → Box) → (S → Variable → Interval → Option S) → Sum → S → Option S
 tightened range_of cut_to fact s = tightened_from range_of cut_to fact 0 fact.terms s
-
--- what the greatest value of some terms is, as far as they were seen
-pub record IsGreatestSoFar (box : Box) (seen : List Term) (greatest : ℤ) : Type 0 where
-  pub exact : greatest ≡ greatest_total box seen
-  pub size : unsigned_abs greatest ≤ 65535 * weight seen

@@ -1,6 +1,5 @@
 use Rattle.std.proofs.Common.{take, pos}
-use Rattle.loop_bounds.specs.Form.{IsLeastSoFar}
-use Rattle.loop_bounds.specs.Tighten.{IsGreatestSoFar}
+use Rattle.loop_bounds.proofs.SoFar.{IsLeastSoFar, IsGreatestSoFar}
 use Rattle.loop_bounds.proofs.tightening.span.Given as goal
 
 abbrev pub invariant-loop-term : goal.invariant-loop-term

@@ -1,5 +1,5 @@
 use Rattle.std.proofs.Common.{take}
-use Rattle.loop_bounds.specs.Form.{IsLeastSoFar}
+use Rattle.loop_bounds.proofs.SoFar.{IsLeastSoFar}
 use Rattle.loop_bounds.proofs.form.Form.least.Given as goal
 
 abbrev pub invariant-loop-term : goal.invariant-loop-term

@@ -1,5 +1,5 @@
 use Rattle.std.proofs.Common.{take}
-use Rattle.loop_bounds.specs.Rewritten.{HasAdded}
+use Rattle.loop_bounds.proofs.SoFar.{HasAdded}
 use Rattle.loop_bounds.proofs.rewritten.Rewritten.add_terms.Given as goal
 
 abbrev pub invariant-loop-term : goal.invariant-loop-term

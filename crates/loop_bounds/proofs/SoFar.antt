@@ -1,0 +1,29 @@
+-- What the loops over terms keep.
+use Rattle.std.proofs.Common.{◌≡◌, ◌≢◌, ℕ, ◌+◌, ◌*◌, ◌≤◌, Bool, List, ℤ, ◌+ℤ◌, unsigned_abs, All}
+use Rattle.loop_bounds.specs.declared.rewritten.Rewritten.{Rewritten}
+use Rattle.loop_bounds.specs.declared.effect.Effect.{Effect}
+use Rattle.loop_bounds.specs.declared.effect.Change.TheVariants.{Unknown}
+use Rattle.loop_bounds.specs.declared.linear.Term.{Term}
+use Rattle.loop_bounds.specs.Linear.{total}
+use Rattle.loop_bounds.specs.Effect.{Valuation, after, change_of}
+use Rattle.loop_bounds.specs.Ranges.{Box}
+use Rattle.loop_bounds.specs.Form.{weight, least_total}
+use Rattle.loop_bounds.specs.Signed.{signed}
+use Rattle.loop_bounds.specs.Rewritten.{HasRoom, value_of_both}
+use Rattle.loop_bounds.specs.Tighten.{greatest_total}
+
+-- what the least value of a sum is over a box, as far as its terms were seen
+pub record IsLeastSoFar (box : Box) (constant : ℤ) (seen : List Term) (least : ℤ) : Type 0 where
+  pub exact : least ≡ constant +ℤ least_total box seen
+  pub size : unsigned_abs least ≤ unsigned_abs constant + 65535 * weight seen
+
+-- what the greatest value of some terms is, as far as they were seen
+pub record IsGreatestSoFar (box : Box) (seen : List Term) (greatest : ℤ) : Type 0 where
+  pub exact : greatest ≡ greatest_total box seen
+  pub size : unsigned_abs greatest ≤ 65535 * weight seen
+
+-- the terms were added, or their negations, each rewritten by the effect
+pub record HasAdded (old new : Rewritten) (effect : Effect) (negated : Bool) (terms : List Term) (count : ℕ) : Type 0 where
+  pub value : (before free : Valuation) → value_of_both before free new ≡ value_of_both before free old +ℤ signed negated (total (after effect before free) terms)
+  pub room : (used : ℕ) → HasRoom used old → HasRoom (used + count) new
+  pub known : All (λ t. change_of effect t.variable ≢ Unknown) terms → new.unknown ≡ old.unknown
