@@ -109,7 +109,7 @@ fn a_store_reaches_work_ram(rt: HostRuntime) -> Result<(), Fail> {
 #[test]
 fn refusals_are_told(rt: HostRuntime) -> Result<(), Fail> {
     let alloc = rt.alloc();
-    let cases: [(&[u8], u16, u16, &[(u16, char)], &str); 9] = [
+    let cases: [(&[u8], u16, u16, &[(u16, char)], &str); 12] = [
         (
             &[0x31, 0, 0x44, 0x32, 0, 0, 0x18, 0xFE],
             0x4380,
@@ -172,6 +172,28 @@ fn refusals_are_told(rt: HostRuntime) -> Result<(), Fail> {
             0x4400,
             &[(0, 'u')],
             "refused 0000 4 Decode Truncated\n",
+        ),
+        (
+            &[0xCB, 0x30],
+            0x4380,
+            0x4400,
+            &[(0, 'u')],
+            "refused 0000 4 Decode Undocumented\n",
+        ),
+        // HALT, and OUT (00),A: the rules do not know them yet
+        (
+            &[0x76],
+            0x4380,
+            0x4400,
+            &[(0, 'u')],
+            "refused 0000 12 NotCovered\n",
+        ),
+        (
+            &[0xD3, 0x00],
+            0x4380,
+            0x4400,
+            &[(0, 'u')],
+            "refused 0000 12 NotCovered\n",
         ),
     ];
     for (rom, low, top, rows, want) in cases {
