@@ -40,4 +40,6 @@ pub use registers::{ByteRegister, WordRegister};
 pub use table::{moves_for, moves_of_acceptance};
 
 #[cfg(test)]
+mod rows;
+#[cfg(test)]
 mod tests;
