@@ -42,4 +42,6 @@ pub use table::{moves_for, moves_of_acceptance};
 #[cfg(test)]
 mod acceptance_tests;
 #[cfg(test)]
+mod rows;
+#[cfg(test)]
 mod tests;
