@@ -1,0 +1,11 @@
+//! The order of procedures by their calls, and the stack that each of them needs (docs/CALLS.md).
+#![tactic(auto)]
+
+mod edge;
+mod fault;
+mod ordering;
+mod walk;
+
+pub use edge::{Edge, ProcId};
+pub use fault::GraphFault;
+pub use ordering::order;
