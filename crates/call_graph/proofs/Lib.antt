@@ -1,2 +1,3 @@
+pub mod DepthLemmas
 pub mod OrderLemmas
 pub mod WalkLemmas

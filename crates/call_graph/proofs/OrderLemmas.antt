@@ -36,7 +36,7 @@ numbered edges p q call =
 pub contains_at : (list : List ℕ) (k p : ℕ) → k < length list → get_or list k 0 ≡ p → Contains list p
 contains_at list k p h is = (k, h, get_or_default list k p 0 h ∙ is)
 
-place_of : (list : List ℕ) (p : ℕ) → Contains list p → (k : ℕ) × (k < length list) × (get_or list k 0 ≡ p)
+pub place_of : (list : List ℕ) (p : ℕ) → Contains list p → (k : ℕ) × (k < length list) × (get_or list k 0 ≡ p)
 place_of list p c = (c.0, c.1, get_or_default list c.0 0 p c.1 ∙ c.2)
 
 pub order_lists : (edges : List Edge) (marks : List Mark) (path : List Frame) (list : List ℕ) → KeptBy edges marks path list → length path ≡ 0 →
