@@ -1,6 +1,7 @@
 //! The order of procedures by their calls, and the stack that each of them needs (docs/CALLS.md).
 #![tactic(auto)]
 
+mod circle;
 mod depth;
 mod edge;
 mod fault;
@@ -11,3 +12,6 @@ pub use depth::{Held, depths};
 pub use edge::{Edge, ProcId};
 pub use fault::GraphFault;
 pub use ordering::order;
+
+#[cfg(test)]
+mod tests;
