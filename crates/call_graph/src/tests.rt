@@ -1,3 +1,5 @@
+ghost use Rattle.std.specs.Prelude.{◌<◌, Contains};
+
 use super::*;
 use std::alloc::{AllocError, Global};
 use std::test::Fail;
@@ -78,7 +80,9 @@ fn a_chain(rt: HostRuntime) -> Result<(), Fail> {
 }
 
 /// Procedure 0 calls 1 with 4 bytes held, and 2 with 2 held; 1 calls 2 with 6 held; their own bytes are 20, 3, 5.
-fn held_calls() -> [Held; 3] {
+fn held_calls() -> [Held; 3]
+    ensures { (call : Held) → Contains result call → (call.caller < 4) × (call.callee < 4) }
+{
     [
         Held {
             caller: 0,
@@ -116,10 +120,10 @@ fn refused_memory(rt: HostRuntime) -> Result<(), Fail> {
         match depths(rt.alloc(), &[1, 3, 5, 9], &held_calls()) {
             Ok(list) => assert_eq!(rt; list.as_slice(), [15, 11, 5, 9].as_slice()),
             Err(GraphFault::NoMemory) => refused = refused.wrapping_add(1),
-            Err(GraphFault::Cycle(_)) => assert!(rt; false),
+            Err(GraphFault::Cycle(list)) => assert_eq!(rt; list.len(), 0),
         }
         match order(rt.alloc(), &[edge(2, 3), edge(3, 2)]) {
-            Ok(_) => assert!(rt; false),
+            Ok(list) => assert_eq!(rt; list.len(), 0),
             Err(GraphFault::NoMemory) => refused = refused.wrapping_add(1),
             Err(GraphFault::Cycle(list)) => assert_eq!(rt; list.as_slice(), [2, 3].as_slice()),
         }
