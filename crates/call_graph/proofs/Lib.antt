@@ -1,0 +1,4 @@
+pub mod CircleLemmas
+pub mod DepthLemmas
+pub mod OrderLemmas
+pub mod WalkLemmas

@@ -1,0 +1,31 @@
+-- What an order of procedures and a circle of calls are.
+use Rattle.std.specs.Prelude.{◌≢◌, ℕ, ◌+◌, ◌-◌, ◌<◌, ◌⊎◌, List, length, Contains, slice_index}
+use Rattle.call_graph.specs.declared.edge.Edge.{Edge}
+use Rattle.call_graph.specs.declared.fault.GraphFault.{GraphFault}
+use Rattle.call_graph.specs.declared.fault.GraphFault.TheVariants.{Cycle, NoMemory}
+
+-- p calls q: that is one of the edges
+abbrev pub Calls : List Edge → ℕ → ℕ → Type 0
+Calls edges p q = Contains edges (record { caller = p; callee = q })
+
+-- p is a procedure of the edges: it calls, or it is called
+abbrev pub Occurs : List Edge → ℕ → Type 0
+Occurs edges p = (q : ℕ) × (Calls edges p q ⊎ Calls edges q p)
+
+-- the procedures of the edges, each of them once, and each callee before its callers
+pub record IsCallOrder (edges : List Edge) (list : List ℕ) : Type 0 where
+  pub listed : (p : ℕ) → Occurs edges p → Contains list p
+  pub only : (p : ℕ) → Contains list p → Occurs edges p
+  pub once : (i j : ℕ) → i < j → j < length list → slice_index list i ≢ slice_index list j
+  pub callees_first : (i j : ℕ) → i < length list → j < length list → Calls edges (slice_index list i) (slice_index list j) → j < i
+
+-- a circle of calls: each procedure calls the next, and the last calls the first
+pub record IsCycle (edges : List Edge) (list : List ℕ) : Type 0 where
+  pub some : 0 < length list
+  pub next : (i : ℕ) → i + 1 < length list → Calls edges (slice_index list i) (slice_index list (i + 1))
+  pub back : Calls edges (slice_index list (length list - 1)) (slice_index list 0)
+
+-- a circle that is named is one of the edges
+abbrev pub IsFaultOf : List Edge → GraphFault → Type 0
+IsFaultOf edges (Cycle list) = IsCycle edges list.items
+IsFaultOf edges NoMemory = Unit {0}

@@ -1,0 +1,51 @@
+-- How deep the stack gets under each procedure.
+use Rattle.std.specs.Prelude.{◌≡◌, ◌≢◌, ℕ, ◌+◌, ◌<◌, ◌≤◌, List, length, Contains, slice_index, slice_index_or}
+use Rattle.std.specs.List.Sorted.{IsNonDecreasingBy}
+use Rattle.call_graph.specs.declared.depth.Held.{Held}
+use Rattle.call_graph.specs.declared.edge.Edge.{Edge}
+
+-- the call without the bytes that are held at it
+abbrev pub edge_of : Held → Edge
+edge_of call = record { caller = call.caller; callee = call.callee }
+
+-- each procedure of the calls has a number of own bytes
+abbrev pub AreNumbered : List ℕ → List Held → Type 0
+AreNumbered own calls = (call : Held) → Contains calls call → (call.caller < length own) × (call.callee < length own)
+
+-- depths that suffice: the own bytes of each procedure, and at each call the bytes that are held and the callee's depth
+pub record Suffices (own : List ℕ) (calls : List Held) (depth : ℕ → ℕ) : Type 0 where
+  pub own_bytes : (p : ℕ) → p < length own → slice_index own p ≤ depth p
+  pub held_bytes : (call : Held) → Contains calls call → call.held + depth call.callee ≤ depth call.caller
+
+-- the least depths that suffice
+pub record AreDepths (own : List ℕ) (calls : List Held) (list : List ℕ) : Type 0 where
+  pub each : length list ≡ length own
+  pub suffice : Suffices own calls (slice_index list)
+  pub least : (depth : ℕ → ℕ) → Suffices own calls depth → (p : ℕ) → p < length own → slice_index list p ≤ depth p
+
+-- who calls, who is called, and what is held at the call of this number
+abbrev pub caller_of : List Held → ℕ → ℕ
+caller_of calls i = (slice_index_or calls i (record { caller = 0; callee = 0; held = 0 })).caller
+
+abbrev pub callee_of : List Held → ℕ → ℕ
+callee_of calls i = (slice_index_or calls i (record { caller = 0; callee = 0; held = 0 })).callee
+
+abbrev pub held_of : List Held → ℕ → ℕ
+held_of calls i = (slice_index_or calls i (record { caller = 0; callee = 0; held = 0 })).held
+
+-- the calls stand by their callers
+abbrev pub ByCaller : List Held → Type 0
+ByCaller calls = IsNonDecreasingBy (λ call. call.caller) calls
+
+-- `Suffices` by the numbers of the calls
+pub record SufficesAt (own : List ℕ) (calls : List Held) (depth : ℕ → ℕ) : Type 0 where
+  pub own_bytes : (p : ℕ) → p < length own → slice_index own p ≤ depth p
+  pub held_bytes : (i : ℕ) → i < length calls → held_of calls i + depth (callee_of calls i) ≤ depth (caller_of calls i)
+
+-- an order of procedures with numbers, in which each callee stands before its callers
+pub record Orders (own : List ℕ) (calls : List Held) (list : List ℕ) : Type 0 where
+  pub once : (i j : ℕ) → i < j → j < length list → slice_index list i ≢ slice_index list j
+  pub numbered : (k : ℕ) → k < length list → slice_index list k < length own
+  pub callees : (i : ℕ) → i < length calls → callee_of calls i < length own
+  pub callees_first : (i : ℕ) → i < length calls →
+      (j : ℕ) × ((k : ℕ) × ((j < k) × (k < length list) × (slice_index list j ≡ callee_of calls i) × (slice_index list k ≡ caller_of calls i)))

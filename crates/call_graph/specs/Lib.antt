@@ -1,0 +1,4 @@
+pub mod Calls
+pub mod Circle
+pub mod Depths
+pub mod Walk

@@ -1,0 +1,114 @@
+ghost use Rattle.std.specs.Prelude.{◌≡◌, ◌≢◌, ℕ, ◌+◌, ◌*◌, ◌<◌, ◌≤◌, ◌^◌, Contains, IfErr, IfOk, length, map, slice_index};
+ghost use Rattle.call_graph.specs.Calls.{IsCallOrder, IsFaultOf};
+ghost use Rattle.call_graph.specs.Depths.{AreDepths, AreNumbered, ByCaller, Orders, SufficesAt, callee_of, caller_of, edge_of, held_of};
+
+use crate::edge::{Edge, ProcId};
+use crate::fault::GraphFault;
+use crate::ordering::order;
+use std::alloc::{AllocError, Global};
+
+/// A call, and the bytes that the caller has on the stack when the callee begins, the return address with them.
+#[derive(Clone, Copy, Debug, PartialEq, Eq)]
+pub struct Held {
+    pub caller: ProcId,
+    pub callee: ProcId,
+    pub held: u32,
+}
+
+/// How many bytes deep the stack gets under each procedure: the least depths by which a procedure has room for
+/// its own bytes, and at each of its calls for the bytes that are held and the callee's depth. `own` has the own
+/// bytes of each procedure, by its number. The faults are those of `order`.
+pub fn depths(alloc: Global, own: &[u32], calls: &[Held]) -> Result<Vec<u64>, GraphFault>
+    requires { AreNumbered own.now calls.now }
+    ensures depths { IfOk result (λ list. AreDepths own.now calls.now list.items) }
+    ensures fault { IfErr result (IsFaultOf (map edge_of calls.now)) }
+{
+    let Ok(edges) = edges_of(alloc, calls) else {
+        return Err(GraphFault::NoMemory);
+    };
+    let procs = order(alloc, &edges)?;
+    let Ok(mut sorted) = Vec::from_slice(alloc, calls) else {
+        return Err(GraphFault::NoMemory);
+    };
+    sorted.sort_unstable_by_key(|call| call.caller);
+    match depths_along(alloc, &procs, own, &sorted) {
+        Ok(depths) => Ok(depths),
+        Err(_) => Err(GraphFault::NoMemory),
+    }
+}
+
+/// The calls without the bytes that are held.
+fn edges_of(alloc: Global, calls: &[Held]) -> Result<Vec<Edge>, AllocError>
+    ensures { IfOk result (λ edges. edges.items ≡ map edge_of calls.now) }
+{
+    calls
+        .iter()
+        .map(|call| Edge {
+            caller: call.caller,
+            callee: call.callee,
+        })
+        .collect(alloc)
+}
+
+/// The number of the first call whose caller is not before this procedure.
+fn first_call(calls: &[Held], proc: ProcId) -> usize
+    requires { ByCaller calls.now }
+    ensures bound { result ≤ length calls.now }
+    ensures before { (i : ℕ) → i < result → caller_of calls.now i < proc }
+    ensures from { (i : ℕ) → result ≤ i → i < length calls.now → proc ≤ caller_of calls.now i }
+{
+    calls.partition_point(|call| call.caller < proc)
+}
+
+/// The depth under a procedure, where the depths under its callees are known.
+fn depth_of(calls: &[Held], depths: &[u64], own: u32, proc: ProcId) -> u64
+    requires rising { ByCaller calls.now }
+    requires callees { (i : ℕ) → i < length calls.now → callee_of calls.now i < length depths.now }
+    requires fits { (i : ℕ) → i < length calls.now → caller_of calls.now i ≡ proc → slice_index depths.now (callee_of calls.now i) < 2 ^ 63 }
+    ensures own { own ≤ result }
+    ensures held { (i : ℕ) → i < length calls.now → caller_of calls.now i ≡ proc → held_of calls.now i + slice_index depths.now (callee_of calls.now i) ≤ result }
+    ensures least { (most : ℕ) → own ≤ most → ((i : ℕ) → i < length calls.now → caller_of calls.now i ≡ proc → held_of calls.now i + slice_index depths.now (callee_of calls.now i) ≤ most) → result ≤ most }
+    ensures low { (most : ℕ) → ((i : ℕ) → i < length calls.now → caller_of calls.now i ≡ proc → slice_index depths.now (callee_of calls.now i) ≤ most) → result ≤ most + 2 ^ 32 }
+{
+    let mut depth = u64::from(own);
+    for at in first_call(calls, proc)..calls.len() {
+        let call = calls[at];
+        if call.caller != proc {
+            return depth;
+        }
+        depth = depth.max(u64::from(call.held) + depths[usize::from(call.callee)]);
+    }
+    depth
+}
+
+/// The depths, where each callee stands before its callers in `order`, and the calls stand by their callers.
+fn depths_along(
+    alloc: Global,
+    order: &[ProcId],
+    own: &[u32],
+    calls: &[Held],
+) -> Result<Vec<u64>, AllocError>
+    requires rising { ByCaller calls.now }
+    requires orders { Orders own.now calls.now order.now }
+    ensures each { IfOk result (λ list. length list.items ≡ length own.now) }
+    ensures suffices { IfOk result (λ list. SufficesAt own.now calls.now (slice_index list.items)) }
+    ensures least { IfOk result (λ list. (depth : ℕ → ℕ) → SufficesAt own.now calls.now depth → (p : ℕ) → p < length own.now → slice_index list.items p ≤ depth p) }
+{
+    let mut depths = wide(alloc, own)?;
+    for proc in order {
+        let at = usize::from(*proc);
+        depths[at] = depth_of(calls, &depths, own[at], *proc);
+    }
+    Ok(depths)
+}
+
+/// The same numbers in eight bytes each.
+fn wide(alloc: Global, own: &[u32]) -> Result<Vec<u64>, AllocError>
+    ensures { IfOk result (λ list. list.items ≡ own.now) }
+{
+    let mut list = Vec::new(alloc);
+    for bytes in own {
+        list.push(u64::from(*bytes))?;
+    }
+    Ok(list)
+}

@@ -1,0 +1,17 @@
+//! The order of procedures by their calls, and the stack that each of them needs (docs/CALLS.md).
+#![tactic(auto)]
+
+mod circle;
+mod depth;
+mod edge;
+mod fault;
+mod ordering;
+mod walk;
+
+pub use depth::{Held, depths};
+pub use edge::{Edge, ProcId};
+pub use fault::GraphFault;
+pub use ordering::order;
+
+#[cfg(test)]
+mod tests;
