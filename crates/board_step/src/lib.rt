@@ -34,7 +34,7 @@ pub use moves::{Move, Moves, Test};
 pub use profile::{Profile, Trap};
 pub use ranges::{
     object_ram_is_in_range, ram_is_in_range, regs_are_in_range, set_is_in_range,
-    steps_stay_in_range,
+    states_stay_in_range,
 };
 pub use registers::{ByteRegister, WordRegister};
 pub use table::{moves_for, moves_of_acceptance};

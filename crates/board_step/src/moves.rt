@@ -1,4 +1,5 @@
 ghost use Rattle.std.specs.Prelude.{◌≡◌, ◌+◌, ◌≤◌, [], ◌∷◌, ◌++◌, length};
+ghost use Rattle.board_step.specs.declared.moves.Move.TheVariants.{Halt};
 
 use crate::registers::{ByteRegister, WordRegister};
 use arrayvec::ArrayVec;
@@ -112,6 +113,8 @@ pub enum Move {
 }
 
 impl Default for Move {
+    ghost is_default = { λ x. x ≡ Halt };
+
     fn default() -> Move {
         Move::Halt
     }
@@ -156,10 +159,7 @@ impl Moves {
         requires { length moves.now ≤ 8 }
         ensures { result ≡ moves.now }
     {
-        match ArrayVec::try_from(moves) {
-            Ok(items) => Moves { items },
-            Err(_) => unreachable!(),
-        }
+        Moves::none().then(moves)
     }
 
     /// The list with these behind it, of at most eight together.
@@ -167,10 +167,10 @@ impl Moves {
         requires { length self + length moves.now ≤ 8 }
         ensures { result ≡ self ++ moves.now }
     {
-        match self.items.try_extend_from_slice(moves) {
-            Ok(()) => self,
-            Err(_) => unreachable!(),
+        for step in moves {
+            self.items.push(*step);
         }
+        self
     }
 
     /// The moves, first to last.

@@ -1,6 +1,7 @@
 ghost use Rattle.std.specs.Prelude.{ℕ, List};
 ghost use Rattle.board_step.specs.State.{AreBytes, State, IsState, IsRam, IsRegisterSet, IsRegs};
 ghost use Rattle.board_step.specs.Env.{IsEnv};
+ghost use Rattle.board_step.specs.Run.{Reached};
 ghost use Rattle.board_step.specs.Step.{Step};
 ghost use Rattle.board_step.specs.declared.env.Env.{Env};
 ghost use Rattle.board_step.specs.declared.event.Event.{Event};
@@ -38,7 +39,9 @@ pub fn object_ram_is_in_range(ram: &[u8; 0x100])
     bytes_are_in_range(ram);
 }
 
-/// A law: where the ROM holds bytes, a step leads from a state in range to one in range.
-pub fn steps_stay_in_range()
-    ensures { (rom : List ℕ) (old new : State) (env : Env) (event : Event) → AreBytes rom → IsState old → IsEnv env → Step rom old env event new → IsState new }
+/// A law: where the ROM holds bytes, a step leads from a state in range to one in range, and every state that a run
+/// reaches is in range.
+pub fn states_stay_in_range()
+    ensures step { (rom : List ℕ) (old new : State) (env : Env) (event : Event) → AreBytes rom → IsState old → IsEnv env → Step rom old env event new → IsState new }
+    ensures reached { (rom : List ℕ) (s : State) → AreBytes rom → Reached rom s → IsState s }
 {}

@@ -1,4 +1,4 @@
-use Rattle.std.specs.Prelude.{ℕ, ◌<◌, ◌≤◌, ◌-◌, ◌≡◌, true, false, List, Option, Some, None, All, length, slice_get}
+use Rattle.std.specs.Prelude.{ℕ, ◌<◌, ◌≤◌, ◌-◌, ◌≡◌, true, false, List, Option, Some, None, All, length, slice_get, take}
 use Rattle.address_map.specs.declared.region.Region.{Region}
 use Rattle.certificate.specs.Contents.{Contents}
 use Rattle.certificate.specs.declared.contents.Mode.TheVariants.{Unset}
@@ -28,6 +28,12 @@ pub record Accepts (rom : List ℕ) (cert : Contents) : Type 0 where
   pub rows : All (IsConsistent rom cert) cert.rows
   pub depth : cert.main.depth ≤ cert.region.top - cert.region.low
 
+-- reasons 1, 2 and 3 don't apply
+pub record WholeFits (rom : List ℕ) (cert : Contents) : Type 0 where
+  pub fits_rom : FitsRom rom cert
+  pub fits_work_ram : FitsWorkRam cert.region
+  pub entry : is_covered cert.rows 0 Unset ≡ true
+
 -- a reason against the certificate as a whole
 abbrev pub WholeApplies : List ℕ → Contents → Reason → Type 0
 WholeApplies rom cert reasons.Rom = FitsRom rom cert → ⊥
@@ -41,3 +47,11 @@ abbrev pub Applies : List ℕ → Contents → Option ℕ → ℕ → Reason →
 Applies rom cert None address reason = (address ≡ 0) × WholeApplies rom cert reason
 Applies rom cert (Some number) address reason =
     (row : Row) × (slice_get cert.rows number ≡ Some row) × (address ≡ row.address) × RowReason rom cert row (Some reason)
+
+-- nothing applies that comes earlier: 1, 2 and 3 of the whole, then the rows in order, then 11 of the whole
+abbrev pub NothingBefore : List ℕ → Contents → Option ℕ → Reason → Type 0
+NothingBefore rom cert None reasons.Rom = Unit {0}
+NothingBefore rom cert None reasons.Region = FitsRom rom cert
+NothingBefore rom cert None reasons.Entry = FitsRom rom cert × FitsWorkRam cert.region
+NothingBefore rom cert None reason = WholeFits rom cert × All (IsConsistent rom cert) cert.rows
+NothingBefore rom cert (Some number) reason = WholeFits rom cert × All (IsConsistent rom cert) (take number cert.rows)

@@ -2,7 +2,7 @@ ghost use Rattle.std.specs.Prelude.{◌≡◌, ◌≤◌, ◌<◌, ◌-◌, ◌�
 ghost use Rattle.address_map.specs.Starts.{is_start};
 ghost use Rattle.board_step.specs.Safe.{Safe};
 ghost use Rattle.certificate.specs.Contents.{RowsRise};
-ghost use Rattle.cert_checker.specs.Accepts.{Accepts, Applies, FitsRom, FitsWorkRam};
+ghost use Rattle.cert_checker.specs.Accepts.{Accepts, Applies, FitsRom, FitsWorkRam, NothingBefore};
 ghost use Rattle.cert_checker.specs.Profile.{profile_of, has_row};
 ghost use Rattle.cert_checker.specs.Row.{IsConsistent};
 ghost use Rattle.cert_checker.specs.declared.checking.Refused.{Refused};
@@ -42,7 +42,7 @@ pub fn check<'r>(rom: &'r [u8], certificate: Certificate) -> Result<Accepted<'r>
     ensures exact { IsOk result ↔ Accepts rom.now certificate }
     ensures kept { IfOk result (λ accepted. (accepted.rom ≡ rom.now) × (accepted.certificate ≡ certificate)) }
     ensures safe { OnOk result (Safe (profile_of rom.now certificate) None) }
-    ensures refused { IfErr result (λ fault. (r : Refused) × (fault ≡ CheckFault.Refused r) × Applies rom.now certificate r.row r.address r.reason) }
+    ensures refused { IfErr result (λ fault. (r : Refused) × (fault ≡ CheckFault.Refused r) × Applies rom.now certificate r.row r.address r.reason × NothingBefore rom.now certificate r.row r.reason) }
 {
     let rom = match Rom::of(rom) {
         Some(rom) if rom.len() == certificate.rom_len() => rom,
@@ -92,6 +92,7 @@ fn check_rows(rom: &Rom, certificate: &Certificate) -> Result<Starts, Refused>
     ensures consistent { OnOk result (All (IsConsistent rom.now certificate.now) certificate.now.rows) }
     ensures starts { IfOk result (λ starts. (address : ℕ) → is_start starts address ≡ has_row certificate.now.rows address) }
     ensures refused { IfErr result (λ r. Applies rom.now certificate.now r.row r.address r.reason) }
+    ensures first { IfErr result (λ r. (number : ℕ) × (r.row ≡ Some number) × All (IsConsistent rom.now certificate.now) (take number certificate.now.rows)) }
 {
     let mut starts = Starts::new();
     for (number, row) in certificate.rows().iter().enumerate() {

@@ -1,6 +1,7 @@
-ghost use Rattle.std.specs.Prelude.{◌≡◌, ◌≤◌, ◌<◌, ◌⊎◌, IsErr, IfErr, IfOk, OnOk};
+ghost use Rattle.std.specs.Prelude.{◌≡◌, ◌≤◌, ◌<◌, ◌⊎◌, List, ℕ, IsErr, IsOk, IfErr, IfOk, OnOk};
 ghost use Rattle.galcert.specs.Devices.{SomeFailed};
-ghost use Rattle.certificate.specs.Device.{HasGrown};
+ghost use Rattle.galcert.specs.Verdict.{IsAccepted, PrintsRefusal, TellsAccepted, TellsRefusal};
+ghost use Rattle.certificate.specs.Device.{HasGrown, Takes};
 
 use crate::reading::{Stop, read_up_to};
 use crate::verdict::{write_accepted, write_bad_line, write_refused};
@@ -29,6 +30,8 @@ pub fn verify_on<A: Source, B: Source, W: Sink>(
     cert: &mut B,
     out: &mut W,
 ) -> u8
+    ensures accepted { result ≡ 0 → TellsAccepted (A.rest rom.old) (B.rest cert.old) (W.taken out.old) (W.taken out.new) }
+    ensures refused { result ≡ 1 → TellsRefusal (A.rest rom.old) (B.rest cert.old) (W.taken out.old) (W.taken out.new) }
     ensures device { result ≡ 3 → SomeFailed (A.failure_count rom.old) (A.failure_count rom.new) (B.failure_count cert.old) (B.failure_count cert.new) (W.failure_count out.old) (W.failure_count out.new) }
     ensures known { result ≤ 4 }
 {
@@ -82,10 +85,11 @@ fn judge<'r, W: Sink>(
     text: &[u8],
     out: &mut W,
 ) -> Result<Accepted<'r>, u8>
-    ensures accepted { IfOk result (λ accepted. accepted.rom ≡ rom.now) }
-    ensures kept { OnOk result (W.failure_count out.new ≡ W.failure_count out.old) }
+    ensures accepted { IfOk result (λ accepted. (accepted.rom ≡ rom.now) × IsAccepted rom.now text.now accepted.certificate) }
+    ensures refused { result ≡ Err 1 → (printed : List ℕ) × Takes (W.taken out.old) printed (W.taken out.new) × PrintsRefusal rom.now text.now printed }
+    ensures kept { OnOk result (out.new ≡ out.old) }
     ensures device { result ≡ Err 3 → HasGrown (W.failure_count out.old) (W.failure_count out.new) }
-    ensures known { IfErr result (λ status. status ≤ 4) }
+    ensures known { IfErr result (λ status. (1 ≤ status) × (status ≤ 4)) }
 {
     let certificate = match read(alloc, text) {
         Ok(certificate) => certificate,
@@ -126,7 +130,7 @@ fn play_on<C: Source, W: Sink>(accepted: &Accepted, input: &mut C, steps: u32, o
 
 fn stopped_status(stop: Stop) -> u8
     ensures device { result ≡ 3 → stop ≡ Stop.Device }
-    ensures known { result ≤ 4 }
+    ensures known { (result ≡ 3) ⊎ (result ≡ 4) }
 {
     match stop {
         Stop::Device => DEVICE,
@@ -136,8 +140,9 @@ fn stopped_status(stop: Stop) -> u8
 
 fn written_status(written: Result<(), DeviceFault>, status: u8) -> u8
     requires { status < 3 }
+    ensures done { result ≡ status → IsOk written }
     ensures device { result ≡ 3 → IsErr written }
-    ensures known { result ≤ 4 }
+    ensures known { (result ≡ status) ⊎ (result ≡ 3) }
 {
     match written {
         Ok(()) => status,

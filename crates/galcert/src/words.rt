@@ -1,4 +1,6 @@
-ghost use Rattle.std.specs.Prelude.{◌≡◌, ◌<◌, ◌^◌, ◌↔◌, IsSome, IfSome};
+ghost use Rattle.std.specs.Prelude.{SomeIff};
+ghost use Rattle.std.specs.Str.Parse.{digits_value};
+ghost use Rattle.galcert.specs.Words.{IsSteps};
 
 use clap::{Arg, ArgAction, ArgMatches, Command};
 use std::alloc::{AllocError, Global};
@@ -32,19 +34,13 @@ pub fn word<'a>(matches: &ArgMatches<'a>, name: &str) -> &'a str {
     matches.get_str(name).unwrap_or("")
 }
 
-/// The number of steps that a text of decimal digits says, 0 to 4,294,967,295; leading zeros are allowed. None
-/// for any other text.
-pub fn steps_of(text: &str) -> Option<u32> {
-    let bytes = text.as_bytes();
-    if bytes.is_empty() {
-        return None;
+/// The number of steps that a text says, 0 to 4,294,967,295: one decimal digit or more, and leading zeros are
+/// allowed. None for any other text (docs/PROGRAM.md).
+pub fn steps_of(text: &str) -> Option<u32>
+    ensures { SomeIff result (IsSteps text.now) (digits_value 10 text.now) }
+{
+    match text.as_bytes() {
+        [b'+', ..] => None,
+        _ => text.parse::<u32>().ok(),
     }
-    let mut steps = 0u32;
-    for byte in bytes {
-        if !byte.is_ascii_digit() {
-            return None;
-        }
-        steps = steps.checked_mul(10)?.checked_add(u32::from(*byte - b'0'))?;
-    }
-    Some(steps)
 }
