@@ -95,7 +95,7 @@ impl Shape {
         ensures value { result ≡ 2 * length self.now }
         ensures within { result ≤ 128 }
     {
-        self.slots.len() as u16 * 2
+        self.len() as u16 * 2
     }
 
     /// The slot that was pushed last, or None where there is none.
