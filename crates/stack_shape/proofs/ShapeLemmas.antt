@@ -13,6 +13,7 @@ use Rattle.stack_shape.specs.Slot.{HoldsSlot, CoversSlot}
 use Rattle.stack_shape.specs.Shape.{HoldsShape, CoversShape, hull_of_shapes}
 use Rattle.stack_shape.proofs.Zipped.{AllZip-itself, AllZip-along, AllZip-last}
 
+-- covering is a preorder that widens
 pub shape_covers_itself : (a : List Slot) → CoversShape a a
 shape_covers_itself a = AllZip-itself CoversSlot (λ s. covers_itself s.pair) a
 
@@ -25,6 +26,7 @@ shape_holds_wider a b entry words h k =
     let Held : Slot → ℕ → Type 0 = λ s w. HoldsSlot s entry w in
     AllZip-along CoversSlot Held Held (λ s t w. holds_wider s.pair t.pair entry w) a b words h k
 
+-- a join covers both
 pub hull_covers_first_shape : (a b : List Slot) → length a ≡ length b → CoversShape (hull_of_shapes a b) a
 hull_covers_first_shape [] [] e = tt
 hull_covers_first_shape [] (t ∷ b) e = absurd (omega arith)

@@ -14,14 +14,14 @@ module _ {A B : Type 0} (R : A → B → Type 0) where
   AllZip-last (a ∷ xs) (b ∷ ys) x y h = let k = AllZip-last xs ys x y h.1 in ((h.0, k.0), k.1)
 
   -- a fact of each pair is a fact of the lists, and one pair without it is enough against it
-  pub each_zipped : (xs : List A) (ys : List B) → length xs ≡ length ys → AllWithin (λ p. R p.0 p.1) (zip xs ys) 0 (length (zip xs ys)) → AllZip R xs ys
+  each_zipped : (xs : List A) (ys : List B) → length xs ≡ length ys → AllWithin (λ p. R p.0 p.1) (zip xs ys) 0 (length (zip xs ys)) → AllZip R xs ys
   each_zipped [] [] e h = tt
   each_zipped [] (y ∷ ys) e h = absurd (omega arith)
   each_zipped (x ∷ xs) [] e h = absurd (omega arith)
   each_zipped (x ∷ xs) (y ∷ ys) e h =
       (h 0 (x, y) (omega arith) (omega arith), each_zipped xs ys (omega arith) (λ k d p q. h (suc k) d (omega arith) (omega arith)))
 
-  pub none_zipped : (xs : List A) (ys : List B) (k : ℕ) → k < length (zip xs ys) → HoldsAt (λ p. R p.0 p.1 → ⊥) (zip xs ys) k → AllZip R xs ys → ⊥
+  none_zipped : (xs : List A) (ys : List B) (k : ℕ) → k < length (zip xs ys) → HoldsAt (λ p. R p.0 p.1 → ⊥) (zip xs ys) k → AllZip R xs ys → ⊥
   none_zipped [] ys k l h z = omega arith
   none_zipped (x ∷ xs) [] k l h z = z
   none_zipped (x ∷ xs) (y ∷ ys) zero l h z = h (x, y) z.0

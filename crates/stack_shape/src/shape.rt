@@ -150,7 +150,7 @@ impl Shape {
     }
 
     /// Whether this shape covers the other one: they have one length, and each slot covers the other's slot in its
-    /// place. Covering is a preorder, and a shape holds of all that those hold of which it covers.
+    /// place. Covering is a preorder, and this shape then holds of all words that the other holds of.
     pub fn covers(&self, other: &Shape) -> bool
         ensures exact { IsTrue result ↔ CoversShape self.now other.now }
         ensures reflexive { self.now ≡ other.now → IsTrue result }
@@ -163,8 +163,8 @@ impl Shape {
         mine.len() == theirs.len() && mine.iter().zip(theirs).all(|(a, b)| a.covers(b))
     }
 
-    /// The shape whose slots are the joins of both shapes' slots, place by place. It covers both, and holds of all that
-    /// either holds of. None where the shapes have not one length.
+    /// The shape whose slots are the joins of the two shapes' slots, place by place, or None where their lengths differ.
+    /// It covers both, and holds of all words that either holds of.
     pub fn join(&self, other: &Shape) -> Option<Shape>
         ensures exact { SomeIff result (length self.now ≡ length other.now) (hull_of_shapes self.now other.now) }
         ensures covers { IfSome result (λ both. CoversShape both self.now × CoversShape both other.now) }
