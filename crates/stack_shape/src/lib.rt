@@ -1,0 +1,12 @@
+// What is known of the words that an activation has on the stack (docs/SHAPES.md).
+#![tactic(auto)]
+
+mod fault;
+mod shape;
+mod slot;
+#[cfg(test)]
+mod tests;
+
+pub use fault::ShapeFault;
+pub use shape::{SLOTS, Shape};
+pub use slot::Slot;

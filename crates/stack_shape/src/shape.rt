@@ -1,0 +1,184 @@
+ghost use Rattle.std.specs.Prelude.{◌≡◌, ◌+◌, ◌*◌, ◌<◌, ◌≤◌, ◌↔◌, ◌⊎◌, ⊤, ℕ, List, [], ◌∷◌, ◌++◌, length, IsTrue, IsOk, IsNone, IfOk, IfErr, IfSome, OnOk, OnErr, SomeIff};
+ghost use Rattle.intervals.specs.Domain.{Entry};
+ghost use Rattle.stack_shape.specs.declared.shape.TheConstants.{SLOTS};
+
+use crate::fault::ShapeFault;
+use crate::slot::Slot;
+use arrayvec::ArrayVec;
+use intervals::Domain;
+use std::alloc::AllocError;
+use std::marker::Model;
+
+/// How many slots a shape has at most.
+pub const SLOTS: usize = 64;
+
+/// What is known of the words that one activation has on the stack: at most 64 slots, first pushed first
+/// (docs/SHAPES.md).
+#[derive(Debug, Drop, PartialEq, Eq)]
+pub struct Shape {
+    slots: ArrayVec<Slot, SLOTS>,
+}
+
+impl Model for Shape {
+    ghost use Rattle.std.specs.Prelude.{List, length, ◌≤◌};
+    ghost use Rattle.stack_shape.specs.declared.slot.Slot.{Slot};
+    ghost use Rattle.stack_shape.specs.declared.shape.TheConstants.{SLOTS};
+
+    ghost Value = { List Slot };
+
+    ghost view = { λ s. s.slots.items };
+
+    ghost invariant = { λ s. length s.slots.items ≤ SLOTS };
+
+    ghost inverse = { λ slots. record { slots = record { items = slots } } };
+}
+
+impl Clone for Shape {
+    ghost is_clone = { λ shape copy. copy ≡ shape };
+
+    ghost is_infallible = { λ _. ⊤ };
+
+    /// The same shape again. It takes no memory, and never fails.
+    fn clone(&self) -> Result<Shape, AllocError> {
+        Ok(self.copied())
+    }
+}
+
+impl Shape {
+    ghost use Rattle.stack_shape.specs.declared.slot.Slot.{Slot};
+    ghost use Rattle.stack_shape.specs.Slot.{HoldsSlot};
+    ghost use Rattle.stack_shape.specs.Shape.{HoldsShape, CoversShape, hull_of_shapes};
+
+    /// The shape without words, which an activation begins with.
+    pub fn empty() -> Shape
+        ensures { result ≡ [] }
+    {
+        Shape {
+            slots: ArrayVec::new(),
+        }
+    }
+
+    /// The same shape again. It takes no memory.
+    pub fn copied(&self) -> Shape
+        ensures { result ≡ self.now }
+    {
+        let mut slots = ArrayVec::new();
+        let _fits = slots.try_extend_from_slice(self.slots());
+        Shape { slots }
+    }
+
+    /// The slots, first pushed first, 0 to 64.
+    pub fn slots(&self) -> &[Slot]
+        ensures value { result.now ≡ self.now }
+        ensures within { length result.now ≤ SLOTS }
+    {
+        self.slots.as_slice()
+    }
+
+    /// How many slots there are, 0 to 64.
+    pub fn len(&self) -> usize
+        ensures value { result ≡ length self.now }
+        ensures within { result ≤ SLOTS }
+    {
+        self.slots.len()
+    }
+
+    /// Whether there is no slot.
+    pub fn is_empty(&self) -> bool
+        ensures { IsTrue result ↔ (self.now ≡ []) }
+    {
+        self.slots.is_empty()
+    }
+
+    /// How many bytes the words take on the stack, 0 to 128.
+    pub fn bytes(&self) -> u16
+        ensures value { result ≡ 2 * length self.now }
+        ensures within { result ≤ 128 }
+    {
+        self.len() as u16 * 2
+    }
+
+    /// The slot that was pushed last, or None where there is none.
+    pub fn top(&self) -> Option<Slot>
+        ensures none { IsNone result ↔ (self.now ≡ []) }
+        ensures last { IfSome result (λ top. (below : List Slot) × (self.now ≡ below ++ top ∷ [])) }
+    {
+        self.slots.last().copied()
+    }
+
+    /// Pushes a slot. At 64 slots it is Full, and the shape stays as it was.
+    pub fn push(&mut self, slot: Slot) -> Result<(), ShapeFault>
+        ensures ok { IsOk result ↔ (length self.old < SLOTS) }
+        ensures pushed { OnOk result (self.new ≡ self.old ++ slot ∷ []) }
+        ensures full { IfErr result (λ fault. (fault ≡ ShapeFault.Full) × (length self.old ≡ SLOTS)) }
+        ensures unchanged { OnErr result (self.new ≡ self.old) }
+        ensures holds { (entry : Entry) (words : List ℕ) (word : ℕ)
+            → HoldsShape self.old entry words → HoldsSlot slot entry word
+            → OnOk result (HoldsShape self.new entry (words ++ word ∷ [])) }
+    {
+        self.slots.try_push(slot).map_err(|_| ShapeFault::Full)
+    }
+
+    /// Pops the slot that was pushed last, and gives it. At 0 slots it is Empty, and the shape stays as it was.
+    pub fn pop(&mut self) -> Result<Slot, ShapeFault>
+        ensures ok { IsOk result ↔ (0 < length self.old) }
+        ensures popped { IfOk result (λ top. self.old ≡ self.new ++ top ∷ []) }
+        ensures empty { IfErr result (λ fault. (fault ≡ ShapeFault.Empty) × (self.old ≡ [])) }
+        ensures unchanged { OnErr result (self.new ≡ self.old) }
+        ensures holds { (entry : Entry) (words : List ℕ) (word : ℕ)
+            → HoldsShape self.old entry (words ++ word ∷ [])
+            → IfOk result (λ top. HoldsSlot top entry word × HoldsShape self.new entry words) }
+    {
+        self.slots.pop().ok_or(ShapeFault::Empty)
+    }
+
+    /// Puts a slot in the place of the one that was pushed last, and gives that one. At 0 slots it is Empty, and the
+    /// shape stays as it was.
+    pub fn exchange(&mut self, slot: Slot) -> Result<Slot, ShapeFault>
+        ensures ok { IsOk result ↔ (0 < length self.old) }
+        ensures exchanged { IfOk result (λ top. (below : List Slot)
+            × (self.old ≡ below ++ top ∷ []) × (self.new ≡ below ++ slot ∷ [])) }
+        ensures empty { IfErr result (λ fault. (fault ≡ ShapeFault.Empty) × (self.old ≡ [])) }
+        ensures unchanged { OnErr result (self.new ≡ self.old) }
+        ensures holds { (entry : Entry) (words : List ℕ) (before after : ℕ)
+            → HoldsShape self.old entry (words ++ before ∷ []) → HoldsSlot slot entry after
+            → IfOk result (λ top. HoldsSlot top entry before × HoldsShape self.new entry (words ++ after ∷ [])) }
+    {
+        let top = self.slots.pop().ok_or(ShapeFault::Empty)?;
+        self.slots.push(slot);
+        Ok(top)
+    }
+
+    /// Whether this shape covers the other one: they have one length, and each slot covers the other's slot in its
+    /// place. Covering is a preorder, and this shape then holds of all words that the other holds of.
+    pub fn covers(&self, other: &Shape) -> bool
+        ensures exact { IsTrue result ↔ CoversShape self.now other.now }
+        ensures reflexive { self.now ≡ other.now → IsTrue result }
+        ensures transitive { IsTrue result → (third : List Slot)
+            → CoversShape other.now third → CoversShape self.now third }
+        ensures widens { IsTrue result → (entry : Entry) (words : List ℕ)
+            → HoldsShape other.now entry words → HoldsShape self.now entry words }
+    {
+        let (mine, theirs) = (self.slots(), other.slots());
+        mine.len() == theirs.len() && mine.iter().zip(theirs).all(|(a, b)| a.covers(b))
+    }
+
+    /// The shape whose slots are the joins of the two shapes' slots, place by place, or None where their lengths differ.
+    /// It covers both, and holds of all words that either holds of.
+    pub fn join(&self, other: &Shape) -> Option<Shape>
+        ensures exact { SomeIff result (length self.now ≡ length other.now) (hull_of_shapes self.now other.now) }
+        ensures covers { IfSome result (λ both. CoversShape both self.now × CoversShape both other.now) }
+        ensures holds { IfSome result (λ both. (entry : Entry) (words : List ℕ)
+            → HoldsShape self.now entry words ⊎ HoldsShape other.now entry words → HoldsShape both entry words) }
+    {
+        let (mine, theirs) = (self.slots(), other.slots());
+        if mine.len() != theirs.len() {
+            return None;
+        }
+        let mut slots = ArrayVec::new();
+        for (a, b) in mine.iter().zip(theirs) {
+            slots.push(a.join(b));
+        }
+        Some(Shape { slots })
+    }
+}
