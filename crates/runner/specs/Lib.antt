@@ -1,3 +1,3 @@
+pub mod Input
 pub mod Machine
-pub mod Output
 pub mod Playing

@@ -1,12 +1,12 @@
 ghost use Rattle.std.specs.Prelude.{◌≡◌, ◌≤◌, ◌<◌, IfSome, IfErr, OnOk, length};
 ghost use Rattle.certificate.specs.Device.{HasGrown};
-ghost use Rattle.t_states.specs.declared.frame.TheConstants.{FRAME};
+ghost use Rattle.certificate.specs.Fields.{Reads};
+ghost use Rattle.runner.specs.Input.{IsResetLine, IsEnvLine, reset_fields, reset_text, env_fields, env_text, env_of};
 
 use crate::fault::PlayFault;
-use crate::fields::Fields;
 use arrayvec::ArrayVec;
 use board_step::{Env, Inputs};
-use certificate::Source;
+use certificate::{Fields, Source, decimal_between, flag_field, hex2_field};
 use t_states::FRAME;
 
 /// The longest line of an input, without its line feed.
@@ -95,44 +95,94 @@ impl Pending {
     }
 }
 
-/// The first line of an input: the phase of the frame, 0 to 50,687, and the byte of every RAM cell and of
-/// every register byte that a reset leaves open.
-pub fn reset_of(line: &[u8]) -> Option<(u32, u8)>
-    ensures { IfSome result (λ x. x.0 < FRAME) }
+/// The first line of an input, `reset PHASE FILL`.
+#[derive(Clone, Copy)]
+pub struct ResetLine {
+    /// The T-states since the last vertical blank began, 0 to 50,687.
+    pub phase: u32,
+    /// The byte of every RAM cell and of every register byte that a reset leaves open.
+    pub fill: u8,
+}
+
+impl ResetLine {
+    /// The line that has this text, which comes without its LF.
+    pub fn of(text: &[u8]) -> Option<ResetLine>
+        ensures { Reads reset_text IsResetLine text.now result }
+    {
+        reset_line(Fields::of(text))
+    }
+}
+
+fn reset_line(mut fields: Fields) -> Option<ResetLine>
+    ensures { Reads reset_fields IsResetLine fields.entry result }
 {
-    let mut fields = Fields::of(line);
-    if fields.next_field()? != b"reset".as_slice() {
+    if !fields.skip(b"reset") {
         return None;
     }
-    let phase = fields.next_decimal(0, FRAME - 1)?;
-    let fill = fields.next_byte()?;
-    if fields.is_at_end() {
-        Some((phase, fill))
+    let phase = decimal_between(fields.next()?, 0, FRAME - 1)?;
+    let fill = hex2_field(fields.next()?)?;
+    if fields.is_empty() {
+        Some(ResetLine { phase, fill })
     } else {
         None
     }
 }
 
-/// Another line of an input: an environment, and for how many events it stands, at least 1.
-pub fn env_of(line: &[u8]) -> Option<(u32, Env)>
-    ensures { IfSome result (λ x. 1 ≤ x.0) }
+/// Another line of an input, `N IN0 IN1 IN2 OPEN NOISE R L`: an environment, and for how many events it
+/// stands.
+#[derive(Clone, Copy)]
+pub struct EnvLine {
+    /// The number of events, at least 1.
+    pub count: u32,
+    /// What both reads of an event find.
+    pub inputs: Inputs,
+    pub noise: u8,
+    pub r: u8,
+    pub latch: bool,
+}
+
+impl EnvLine {
+    /// The line that has this text, which comes without its LF.
+    pub fn of(text: &[u8]) -> Option<EnvLine>
+        ensures { Reads env_text IsEnvLine text.now result }
+    {
+        env_line(Fields::of(text))
+    }
+
+    /// The environment of each of its events.
+    pub fn env(self) -> Env
+        ensures { result ≡ env_of self }
+    {
+        Env {
+            inputs: [self.inputs, self.inputs],
+            noise: self.noise,
+            r: self.r,
+            latch: self.latch,
+        }
+    }
+}
+
+fn env_line(mut fields: Fields) -> Option<EnvLine>
+    ensures { Reads env_fields IsEnvLine fields.entry result }
 {
-    let mut fields = Fields::of(line);
-    let count = fields.next_decimal(1, u32::MAX)?;
+    let count = decimal_between(fields.next()?, 1, u32::MAX)?;
     let inputs = Inputs {
-        in0: fields.next_byte()?,
-        in1: fields.next_byte()?,
-        in2: fields.next_byte()?,
-        bus: fields.next_byte()?,
+        in0: hex2_field(fields.next()?)?,
+        in1: hex2_field(fields.next()?)?,
+        in2: hex2_field(fields.next()?)?,
+        bus: hex2_field(fields.next()?)?,
     };
-    let env = Env {
-        inputs: [inputs, inputs],
-        noise: fields.next_byte()?,
-        r: fields.next_byte()?,
-        latch: fields.next_flag()?,
-    };
-    if fields.is_at_end() {
-        Some((count, env))
+    let noise = hex2_field(fields.next()?)?;
+    let r = hex2_field(fields.next()?)?;
+    let latch = flag_field(fields.next()?)?;
+    if fields.is_empty() {
+        Some(EnvLine {
+            count,
+            inputs,
+            noise,
+            r,
+            latch,
+        })
     } else {
         None
     }

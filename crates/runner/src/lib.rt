@@ -3,7 +3,6 @@
 #![tactic(auto)]
 
 mod fault;
-mod fields;
 mod input;
 mod machine;
 mod output;

@@ -1,6 +1,6 @@
 ghost use Rattle.std.specs.Prelude.{◌≡◌, ◌<◌, OnOk, OnErr, decimal};
 ghost use Rattle.certificate.specs.Device.{HasGrown, Takes};
-ghost use Rattle.runner.specs.Output.{hex_digit, hex4};
+ghost use Rattle.certificate.specs.Fields.{hex_digit, hex4};
 
 use certificate::{DeviceFault, Sink};
 use itoa::Buffer;
@@ -36,6 +36,7 @@ pub fn put_decimal<W: Sink>(out: &mut W, number: u128) -> Result<(), DeviceFault
 }
 
 /// Writes a word as four upper-case hexadecimal digits.
+#[tactic(auto, unfolding(certificate::specs::Fields::hex4))]
 pub fn put_hex4<W: Sink>(out: &mut W, word: u16) -> Result<(), DeviceFault>
     ensures written { OnOk result (Takes (W.taken out.old) (hex4 word) (W.taken out.new)) }
     ensures kept { OnOk result (W.failure_count out.new ≡ W.failure_count out.old) }

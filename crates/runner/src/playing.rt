@@ -1,15 +1,16 @@
 ghost use Rattle.std.specs.Prelude.{◌≡◌, ◌≢◌, ◌<◌, ℕ, IfOk, OnErr, OnOk};
 ghost use Rattle.certificate.specs.Device.{HasGrown};
-ghost use Rattle.t_states.specs.declared.frame.TheConstants.{FRAME};
+ghost use Rattle.runner.specs.Input.{IsResetLine};
+ghost use Rattle.runner.specs.Playing.{regs_of, reset_of};
 
 use crate::fault::PlayFault;
-use crate::input::{Line, Pending, env_of, reset_of};
+use crate::input::{EnvLine, Line, Pending, ResetLine};
 use crate::machine::{Machine, Summary};
 use crate::output::{put, put_decimal, put_hex4};
 use board_step::Reset;
 use cert_checker::Accepted;
 use certificate::{DeviceFault, Sink, Source};
-use z80_alu::{RegisterSet, Regs};
+use z80_alu::{RegisterSet, Regs, Word};
 
 /// Plays an input on an accepted ROM for at most this many events, and writes its summary. A line of the
 /// input is read and judged only when its events are needed; what was written before a fault stays.
@@ -24,8 +25,8 @@ pub fn play<R: Source, W: Sink>(
     ensures line { (line : ℕ) → result ≡ Err (PlayFault.Line line) → W.failure_count out.new ≡ W.failure_count out.old }
 {
     let mut pending = Pending::new();
-    let (phase, fill) = first_line(&mut pending, input)?;
-    let mut machine = Machine::reset(accepted, &filled(phase, fill));
+    let line = first_line(&mut pending, input)?;
+    let mut machine = Machine::reset(accepted, &filled(line));
     let summary = play_lines(&mut machine, &mut pending, steps, input)?;
     match write_summary(&summary, out) {
         Ok(()) => Ok(summary),
@@ -33,25 +34,24 @@ pub fn play<R: Source, W: Sink>(
     }
 }
 
-fn first_line<R: Source>(pending: &mut Pending, input: &mut R) -> Result<(u32, u8), PlayFault>
-    ensures phase { IfOk result (λ x. x.0 < FRAME) }
+fn first_line<R: Source>(pending: &mut Pending, input: &mut R) -> Result<ResetLine, PlayFault>
+    ensures phase { IfOk result IsResetLine }
     ensures kept { OnOk result (R.failure_count input.new ≡ R.failure_count input.old) }
     ensures read { result ≡ Err PlayFault.Read → HasGrown (R.failure_count input.old) (R.failure_count input.new) }
     ensures write { result ≢ Err PlayFault.Write }
 {
     match pending.next_line(input)? {
-        Line::Text(text) => match reset_of(text.as_slice()) {
-            Some(reset) => Ok(reset),
+        Line::Text(text) => match ResetLine::of(text.as_slice()) {
+            Some(line) => Ok(line),
             None => Err(PlayFault::Line(1)),
         },
         Line::Bad | Line::End => Err(PlayFault::Line(1)),
     }
 }
 
-/// The values of a reset whose bytes are all the same.
-fn filled(phase: u32, fill: u8) -> Reset
-    requires { phase < FRAME }
-    ensures { result.phase ≡ phase }
+/// The registers of a reset whose bytes are all the same, but for those that a reset clears.
+fn filled_regs(fill: u8) -> Regs
+    ensures { result ≡ regs_of fill }
 {
     let set = RegisterSet {
         a: fill,
@@ -63,19 +63,35 @@ fn filled(phase: u32, fill: u8) -> Reset
         h: fill,
         l: fill,
     };
-    let word = u16::from(fill) * 0x101;
+    let pair = Word {
+        high: fill,
+        low: fill,
+    };
+    let word = pair.value();
+    Regs {
+        main: set,
+        alternate: set,
+        ix: word,
+        iy: word,
+        sp: word,
+        pc: 0,
+        i: 0,
+        r: 0,
+        iff1: false,
+        iff2: false,
+    }
+}
+
+/// The values that a reset leaves open, as the first line of an input tells them.
+fn filled(line: ResetLine) -> Reset
+    ensures { result ≡ reset_of line }
+{
+    let ResetLine { phase, fill } = line;
     Reset {
         work: [fill; 0x400],
         video: [fill; 0x400],
         object: [fill; 0x100],
-        regs: Regs {
-            main: set,
-            alternate: set,
-            ix: word,
-            iy: word,
-            sp: word,
-            ..Regs::default()
-        },
+        regs: filled_regs(fill),
         phase,
     }
 }
@@ -96,15 +112,15 @@ fn play_lines<R: Source>(
     while left > 0 {
         number += 1;
         let line = match pending.next_line(input)? {
-            Line::Text(text) => env_of(text.as_slice()),
+            Line::Text(text) => EnvLine::of(text.as_slice()),
             Line::Bad => None,
             Line::End => break,
         };
-        let Some((count, env)) = line else {
+        let Some(line) = line else {
             return Err(PlayFault::Line(number));
         };
-        let count = count.min(left);
-        time += machine.repeat(&env, count);
+        let count = line.count.min(left);
+        time += machine.repeat(&line.env(), count);
         left -= count;
     }
     Ok(machine.summary(u64::from(steps - left), time))
