@@ -1,3 +1,4 @@
 pub mod Input
 pub mod Machine
+pub mod Pending
 pub mod Playing

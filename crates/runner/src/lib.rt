@@ -6,6 +6,7 @@ mod fault;
 mod input;
 mod machine;
 mod output;
+mod pending;
 mod playing;
 
 pub use fault::PlayFault;

@@ -4,9 +4,10 @@ ghost use Rattle.runner.specs.Input.{IsResetLine};
 ghost use Rattle.runner.specs.Playing.{regs_of, reset_of};
 
 use crate::fault::PlayFault;
-use crate::input::{EnvLine, Line, Pending, ResetLine};
+use crate::input::{EnvLine, ResetLine};
 use crate::machine::{Machine, Summary};
 use crate::output::{put, put_decimal, put_hex4};
+use crate::pending::{Line, Pending};
 use board_step::Reset;
 use cert_checker::Accepted;
 use certificate::{DeviceFault, Sink, Source};
