@@ -1,4 +1,4 @@
-use Rattle.std.proofs.Common.{replicate, append_assoc, not, ◌↔◌, ◌≡◌, ◌≢◌, ◌<◌, ◌==◌, ℕ, zero, suc, ◌+◌, ◌-◌, ◌∷◌, [], ◌++◌, ◌⊎◌, List, length, get_or, take, drop, Bool, true, false, cond, Option, Some, None, Result, Ok, Err, refl, sym, ap, subst, ◌∙◌, inl, inr, arith, Bor, IsTrue, lit<}
+use Rattle.std.proofs.Common.{replicate, append_assoc, not, ◌↔◌, ◌≡◌, ◌≢◌, ◌<◌, ◌≤◌, ◌==◌, ℕ, zero, suc, ◌+◌, ◌-◌, ◌^◌, ◌∷◌, [], ◌++◌, ◌⊎◌, List, length, get_or, take, drop, Bool, true, false, cond, Option, Some, None, Result, Ok, Err, refl, sym, ap, subst, ◌∙◌, inl, inr, arith, Bor, IsTrue, lit<}
 use Rattle.std.specs.List.{slice_split, position}
 use Rattle.std.specs.Fmt.{decimal}
 use Rattle.std.specs.Str.{IsUtf8}
@@ -11,9 +11,9 @@ use Rattle.std.proofs.lemmas.List.{append_cancel_left, replicate-append-replicat
 use Rattle.std.proofs.lemmas.Option.{cond_some}
 use Rattle.std.proofs.lemmas.Str.{IsUtf8-from_ascii}
 use Rattle.std.proofs.lemmas.Str.Parse.{IsNumeralModel, numerals_by_value, tells_digits, parse_plain}
-use Rattle.std.proofs.lemmas.Fmt.{first_decimal, decimal_digit, decimal-digits_value, parse-decimal, IsAscii-decimal, decimal_nonempty}
+use Rattle.std.proofs.lemmas.Fmt.{decimal_injective, first_decimal, decimal_digit, decimal-digits_value, parse-decimal, IsAscii-decimal, decimal_nonempty}
 use Rattle.std.proofs.lemmas.Bool.{ltb-true, ltb-false, eqb-true}
-use Rattle.certificate.specs.Fields.{BeginsDecimal, fields_left, Reads, IsWord}
+use Rattle.certificate.specs.Fields.{BeginsDecimal, fields_left, Reads}
 
 -- a text has at least one part
 pub slice_split_some : (p : ℕ → Bool) (xs : List ℕ) → slice_split p xs ≡ [] → ⊥
@@ -50,24 +50,24 @@ cut_position m xs i e =
     (subst (λ n. Cut n (get_or xs n 0)) found.1 (split_at_first p xs 0 inside))
 
 -- the first digit of a number other than 0 is not 0
-first_digit : (n : ℕ) → IsWord n → (n ≡ 0) ⊎ (48 < get_or (decimal n) 0 0)
+first_digit : (n : ℕ) → n < 2 ^ 32 → (n ≡ 0) ⊎ (48 < get_or (decimal n) 0 0)
 first_digit zero small = inl refl
 first_digit (suc n) small = inr (first_decimal (suc n) (omega arith) (omega arith))
 
 -- a number's decimal has no sign
-decimal_plain : (n : ℕ) → IsWord n → get_or (decimal n) 0 0 ≢ 43
+decimal_plain : (n : ℕ) → n < 2 ^ 32 → get_or (decimal n) 0 0 ≢ 43
 decimal_plain n small e = elim (first_digit n small) [ inl z ↦ absurd (omega (arith, ap (λ ds. get_or ds 0 0) (ap decimal z ∙ decimal_digit 0 (lit< tt)))) | inr above ↦ absurd (omega arith) ]
 
 -- nor a leading zero
-decimal_short : (n : ℕ) → IsWord n → get_or (decimal n) 0 0 ≡ 48 → length (decimal n) ≡ 1
+decimal_short : (n : ℕ) → n < 2 ^ 32 → get_or (decimal n) 0 0 ≡ 48 → length (decimal n) ≡ 1
 decimal_short n small e = elim (first_digit n small) [ inl z ↦ ap length (ap decimal z ∙ decimal_digit 0 (lit< tt)) | inr above ↦ absurd (omega arith) ]
 
 -- each decimal begins as one
-pub decimal_begins : (bs : List ℕ) (n : ℕ) → IsWord n → bs ≡ decimal n → BeginsDecimal bs
+pub decimal_begins : (bs : List ℕ) (n : ℕ) → n < 2 ^ 32 → bs ≡ decimal n → BeginsDecimal bs
 decimal_begins bs n small e = subst BeginsDecimal (sym e) record { some = decimal_nonempty n (omega arith); no_sign = decimal_plain n small; no_leading_zero = decimal_short n small }
 
 -- and is text
-pub decimal_is_text : (bs : List ℕ) (n : ℕ) → IsWord n → bs ≡ decimal n → IsUtf8 bs
+pub decimal_is_text : (bs : List ℕ) (n : ℕ) → n < 2 ^ 32 → bs ≡ decimal n → IsUtf8 bs
 decimal_is_text bs n small e = subst IsUtf8 (sym e) (IsUtf8-from_ascii (decimal n) (IsAscii-decimal n (omega arith)))
 
 err_not_ok : {E : Type 0} (e : E) (n : ℕ) → Err e ≡ Ok n → ⊥
@@ -77,14 +77,20 @@ own : IsNumeralModel (AllDigits 10) (digits_value 10)
 own = numerals_by_value _ tells_digits
 
 -- what `parse` gives is the number whose decimal the text is, if it begins as one
-pub decimal_from_parse : {E : Type 0} (bs : List ℕ) (r : Result ℕ E) → ParsesUnsigned 16 10 bs r → BeginsDecimal bs → Reads decimal IsWord bs (result_ok r)
+pub decimal_from_parse : {E : Type 0} (bs : List ℕ) (r : Result ℕ E) → ParsesUnsigned 32 10 bs r → BeginsDecimal bs → Reads decimal (λ n. n < 2 ^ 32) bs (result_ok r)
 decimal_from_parse {E} bs (Ok n) h begins =
-    let k = parse_plain own {E = E} 16 bs (Ok n) h begins.no_sign in
+    let k = parse_plain own {E = E} 32 bs (Ok n) h begins.no_sign in
     let value = k.1 in
-    let small : digits_value 10 bs < 65536 = k.0.2 in
+    let small : digits_value 10 bs < 2 ^ 32 = k.0.2 in
     (omega arith, sym (ap decimal value ∙ decimal-digits_value own bs k.0.0 k.0.1 begins.no_leading_zero (omega arith)))
 decimal_from_parse bs (Err e) h begins = λ n small same.
-    err_not_ok e n (parse-decimal 16 n bs (Err e) (omega arith) (omega arith) same h)
+    err_not_ok e n (parse-decimal 32 n bs (Err e) (omega arith) (omega arith) same h)
+
+-- the one number that has this decimal is out of bounds
+pub out_of_bounds : (bs : List ℕ) (least most n : ℕ) → n < 2 ^ 32 → most < 2 ^ 32 → bs ≡ decimal n → ((least ≤ n) × (n ≤ most) → ⊥) → Reads decimal (λ m. (least ≤ m) × (m ≤ most)) bs None
+out_of_bounds bs least most n small bound is out = λ m within same.
+    let one : m ≡ n = decimal_injective m n (omega (arith, within.1)) (omega arith) (sym same ∙ is) in
+    out (omega (arith, within.0), omega (arith, within.1))
 
 -- no field is left where no text is left
 pub nothing_left : (rest : Option (Bor (List ℕ))) (b : Bool) (fields : List (List ℕ)) → is_some rest ≡ not b → fields_left rest ≡ fields → IsTrue b ↔ (fields ≡ [])

@@ -1,4 +1,4 @@
-use Rattle.std.specs.Prelude.{◌<◌, length, slice_index, ℕ, ◌+◌, ◌/◌, ◌%◌, ◌≤◌, ◌≡◌, ◌≢◌, ◌==◌, nat_lt, if◌then◌else◌, Bool, true, false, List, [], ◌∷◌, ◌++◌, Option, Some, None}
+use Rattle.std.specs.Prelude.{◌<◌, length, slice_index, ℕ, ◌+◌, ◌/◌, ◌%◌, ◌≤◌, ◌≡◌, ◌≢◌, ◌==◌, nat_lt, if◌then◌else◌, Bool, true, false, List, [], ◌∷◌, ◌++◌, codes, Option, Some, None}
 use Rattle.std.specs.List.{slice_split}
 use denote.Ref.{Bor}
 
@@ -10,6 +10,10 @@ Reads {X} text InRange seen None = (x : X) → InRange x → seen ≢ text x
 -- every value is in range
 abbrev pub Always : {X : Type 0} → X → Type 0
 Always x = Unit {0}
+
+-- a number of eight bits
+abbrev pub IsByte : ℕ → Type 0
+IsByte n = n ≤ 255
 
 -- a number of sixteen bits
 abbrev pub IsWord : ℕ → Type 0
@@ -25,9 +29,18 @@ pub record BeginsDecimal (field : List ℕ) : Type 0 where
 abbrev pub hex_digit : ℕ → ℕ
 hex_digit n = if nat_lt n 10 then 48 + n else 55 + n
 
+-- a byte as two hexadecimal digits
+unfoldable pub hex2 : ℕ → List ℕ
+hex2 n = hex_digit (n / 16) ∷ hex_digit (n % 16) ∷ []
+
 -- a word as four hexadecimal digits
 unfoldable pub hex4 : ℕ → List ℕ
 hex4 n = hex_digit (n / 4096) ∷ hex_digit (n / 256 % 16) ∷ hex_digit (n / 16 % 16) ∷ hex_digit (n % 16) ∷ []
+
+-- a flag as one digit
+abbrev pub flag_digit : Bool → List ℕ
+flag_digit false = codes "0"
+flag_digit true = codes "1"
 
 -- the fields of a line, parted by single spaces
 abbrev pub fields_in : List ℕ → List (List ℕ)

@@ -1,7 +1,7 @@
-ghost use Rattle.std.specs.Prelude.{◌≡◌, ◌<◌, ◌∷◌, ◌==◌, ◌↔◌, [], ◌++◌, IsTrue, MatchOption, replicate};
+ghost use Rattle.std.specs.Prelude.{◌≡◌, ◌<◌, ◌≤◌, ◌^◌, ◌∷◌, ◌==◌, ◌↔◌, [], ◌++◌, IsTrue, MatchOption, replicate};
 ghost use Rattle.std.specs.List.{slice_split, position};
 ghost use Rattle.std.specs.Fmt.{decimal};
-ghost use Rattle.certificate.specs.Fields.{BeginsDecimal, TakesField, TakesWord, TakesFields, Reads, IsWord, fields_in, hex_digit, hex4};
+ghost use Rattle.certificate.specs.Fields.{BeginsDecimal, TakesField, TakesWord, TakesFields, Reads, Always, IsByte, IsWord, fields_in, hex_digit, hex2, hex4, flag_digit};
 
 use std::marker::Model;
 
@@ -102,9 +102,9 @@ fn begins_decimal(field: &[u8]) -> bool
     }
 }
 
-/// A number from 0 to 65,535 in decimal, without leading zeros.
-pub fn decimal_field(field: &[u8]) -> Option<u16>
-    ensures { Reads decimal IsWord field.now result }
+/// A number from 0 to 4,294,967,295 in decimal, without leading zeros.
+fn decimal_number(field: &[u8]) -> Option<u32>
+    ensures { Reads decimal (λ n. n < 2 ^ 32) field.now result }
 {
     if !begins_decimal(field) {
         return None;
@@ -112,7 +112,27 @@ pub fn decimal_field(field: &[u8]) -> Option<u16>
     let Ok(text) = str::from_utf8(field) else {
         return None;
     };
-    text.parse::<u16>().ok()
+    text.parse::<u32>().ok()
+}
+
+/// A number from `least` to `most` in decimal, without leading zeros.
+pub fn decimal_between(field: &[u8], least: u32, most: u32) -> Option<u32>
+    ensures { Reads decimal (λ n. (least ≤ n) × (n ≤ most)) field.now result }
+{
+    let number = decimal_number(field)?;
+    if least <= number && number <= most {
+        Some(number)
+    } else {
+        None
+    }
+}
+
+/// A number from 0 to 65,535 in decimal, without leading zeros.
+pub fn decimal_field(field: &[u8]) -> Option<u16>
+    ensures { Reads decimal IsWord field.now result }
+{
+    let number = decimal_between(field, 0, u32::from(u16::MAX))?;
+    Some(number as u16)
 }
 
 /// The value of a hexadecimal digit, upper case.
@@ -139,4 +159,28 @@ pub fn hex4_field(field: &[u8]) -> Option<u16>
     let c = hex_digit_value(*c)?;
     let d = hex_digit_value(*d)?;
     Some(a * 0x1000 + b * 0x100 + c * 0x10 + d)
+}
+
+/// A number from 0 to 255 as two hexadecimal digits, upper case.
+#[tactic(auto, unfolding(crate::specs::Fields::hex2))]
+pub fn hex2_field(field: &[u8]) -> Option<u8>
+    ensures { Reads hex2 IsByte field.now result }
+{
+    let [high, low] = field else {
+        return None;
+    };
+    let high = hex_digit_value(*high)?;
+    let low = hex_digit_value(*low)?;
+    Some((high * 0x10 + low) as u8)
+}
+
+/// A flag: `0` where it is clear, `1` where it is set.
+pub fn flag_field(field: &[u8]) -> Option<bool>
+    ensures { Reads flag_digit Always field.now result }
+{
+    match field {
+        [b'0'] => Some(false),
+        [b'1'] => Some(true),
+        _ => None,
+    }
 }

@@ -13,6 +13,7 @@ mod text;
 pub use contents::{Certificate, Mode, Proc, Row};
 pub use device::{DeviceFault, Sink, Source};
 pub use fault::CertFault;
+pub use fields::{Fields, decimal_between, flag_field, hex2_field};
 pub use text::read;
 
 #[cfg(test)]

@@ -1,1 +1,6 @@
+pub mod FeedLemmas
+pub mod InputLemmas
 pub mod MachineLemmas
+pub mod OutputLemmas
+pub mod PendingLemmas
+pub mod PlayLemmas

@@ -1,3 +1,5 @@
+pub mod Input
 pub mod Machine
 pub mod Output
+pub mod Pending
 pub mod Playing

@@ -1,9 +1,23 @@
-use Rattle.std.specs.Prelude.{ℕ, ◌+◌, ◌/◌, ◌%◌, List, [], ◌∷◌, nat_lt, if◌then◌else◌}
+use Rattle.std.specs.Prelude.{ℕ, List, [], ◌∷◌, ◌++◌, codes, map}
+use Rattle.std.specs.Fmt.{decimal}
+use Rattle.std.specs.List.{join_with_byte}
+use Rattle.certificate.specs.Fields.{hex4}
+use Rattle.runner.specs.declared.machine.Summary.{Summary}
 
--- a hexadecimal digit, upper case
-abbrev pub hex_digit : ℕ → ℕ
-hex_digit n = if nat_lt n 10 then 48 + n else 55 + n
+-- fields as a line: they are parted by single spaces, and a line feed stands behind them
+abbrev pub line_of : List (List ℕ) → List ℕ
+line_of fields = join_with_byte 32 fields ++ 10 ∷ []
 
--- a word as four hexadecimal digits
-abbrev pub hex4 : ℕ → List ℕ
-hex4 word = hex_digit (word / 0x1000) ∷ hex_digit (word / 0x100 % 16) ∷ hex_digit (word / 0x10 % 16) ∷ hex_digit (word % 16) ∷ []
+-- the lines of a summary (docs/PROGRAM.md, "A run's lines")
+unfoldable pub done_line : Summary → List ℕ
+done_line s = line_of (codes "done" ∷ decimal s.events ∷ decimal s.time ∷ hex4 s.pc ∷ hex4 s.sp ∷ [])
+
+unfoldable pub regs_line : List ℕ → List ℕ
+regs_line pairs = line_of (codes "regs" ∷ map hex4 pairs)
+
+unfoldable pub sum_line : List ℕ → List ℕ
+sum_line sums = line_of (codes "sum" ∷ map decimal sums)
+
+-- the text of a summary
+abbrev pub summary_text : Summary → List ℕ
+summary_text s = done_line s ++ regs_line s.pairs ++ sum_line s.sums

@@ -3,10 +3,10 @@
 #![tactic(auto)]
 
 mod fault;
-mod fields;
 mod input;
 mod machine;
 mod output;
+mod pending;
 mod playing;
 
 pub use fault::PlayFault;

@@ -1,7 +1,9 @@
-ghost use Rattle.std.specs.Prelude.{◌≡◌, ◌<◌, OnOk, OnErr, decimal};
+ghost use Rattle.std.specs.Prelude.{◌≡◌, ◌<◌, ◌∷◌, OnOk, OnErr, decimal};
 ghost use Rattle.certificate.specs.Device.{HasGrown, Takes};
-ghost use Rattle.runner.specs.Output.{hex_digit, hex4};
+ghost use Rattle.certificate.specs.Fields.{hex_digit, hex4};
+ghost use Rattle.runner.specs.Output.{done_line, regs_line, sum_line, summary_text};
 
+use crate::machine::Summary;
 use certificate::{DeviceFault, Sink};
 use itoa::Buffer;
 
@@ -36,6 +38,7 @@ pub fn put_decimal<W: Sink>(out: &mut W, number: u128) -> Result<(), DeviceFault
 }
 
 /// Writes a word as four upper-case hexadecimal digits.
+#[tactic(auto, unfolding(certificate::specs::Fields::hex4))]
 pub fn put_hex4<W: Sink>(out: &mut W, word: u16) -> Result<(), DeviceFault>
     ensures written { OnOk result (Takes (W.taken out.old) (hex4 word) (W.taken out.new)) }
     ensures kept { OnOk result (W.failure_count out.new ≡ W.failure_count out.old) }
@@ -59,4 +62,75 @@ fn digit_of(value: u16) -> u8
     } else {
         b'A' + (value as u8 - 10)
     }
+}
+
+/// Writes a space and a number in decimal.
+fn put_decimal_field<W: Sink>(out: &mut W, number: u128) -> Result<(), DeviceFault>
+    ensures written { OnOk result (Takes (W.taken out.old) (32 ∷ decimal number) (W.taken out.new)) }
+    ensures kept { OnOk result (W.failure_count out.new ≡ W.failure_count out.old) }
+    ensures failed { OnErr result (HasGrown (W.failure_count out.old) (W.failure_count out.new)) }
+{
+    put(out, b" ")?;
+    put_decimal(out, number)
+}
+
+/// Writes a space and a word as four upper-case hexadecimal digits.
+fn put_hex4_field<W: Sink>(out: &mut W, word: u16) -> Result<(), DeviceFault>
+    ensures written { OnOk result (Takes (W.taken out.old) (32 ∷ hex4 word) (W.taken out.new)) }
+    ensures kept { OnOk result (W.failure_count out.new ≡ W.failure_count out.old) }
+    ensures failed { OnErr result (HasGrown (W.failure_count out.old) (W.failure_count out.new)) }
+{
+    put(out, b" ")?;
+    put_hex4(out, word)
+}
+
+/// Writes the line of a summary's events, T-states, program counter and stack pointer.
+fn put_done<W: Sink>(out: &mut W, summary: &Summary) -> Result<(), DeviceFault>
+    ensures written { OnOk result (Takes (W.taken out.old) (done_line summary.now) (W.taken out.new)) }
+    ensures kept { OnOk result (W.failure_count out.new ≡ W.failure_count out.old) }
+    ensures failed { OnErr result (HasGrown (W.failure_count out.old) (W.failure_count out.new)) }
+{
+    put(out, b"done")?;
+    put_decimal_field(out, u128::from(summary.events))?;
+    put_decimal_field(out, summary.time)?;
+    put_hex4_field(out, summary.pc)?;
+    put_hex4_field(out, summary.sp)?;
+    put(out, b"\n")
+}
+
+/// Writes the line of a summary's register pairs.
+fn put_regs<W: Sink>(out: &mut W, pairs: &[u16]) -> Result<(), DeviceFault>
+    ensures written { OnOk result (Takes (W.taken out.old) (regs_line pairs.now) (W.taken out.new)) }
+    ensures kept { OnOk result (W.failure_count out.new ≡ W.failure_count out.old) }
+    ensures failed { OnErr result (HasGrown (W.failure_count out.old) (W.failure_count out.new)) }
+{
+    put(out, b"regs")?;
+    for pair in pairs {
+        put_hex4_field(out, *pair)?;
+    }
+    put(out, b"\n")
+}
+
+/// Writes the line of a summary's sums.
+fn put_sums<W: Sink>(out: &mut W, sums: &[u32]) -> Result<(), DeviceFault>
+    ensures written { OnOk result (Takes (W.taken out.old) (sum_line sums.now) (W.taken out.new)) }
+    ensures kept { OnOk result (W.failure_count out.new ≡ W.failure_count out.old) }
+    ensures failed { OnErr result (HasGrown (W.failure_count out.old) (W.failure_count out.new)) }
+{
+    put(out, b"sum")?;
+    for sum in sums {
+        put_decimal_field(out, u128::from(*sum))?;
+    }
+    put(out, b"\n")
+}
+
+/// Writes the lines of a summary.
+pub(crate) fn put_summary<W: Sink>(out: &mut W, summary: &Summary) -> Result<(), DeviceFault>
+    ensures written { OnOk result (Takes (W.taken out.old) (summary_text summary.now) (W.taken out.new)) }
+    ensures kept { OnOk result (W.failure_count out.new ≡ W.failure_count out.old) }
+    ensures failed { OnErr result (HasGrown (W.failure_count out.old) (W.failure_count out.new)) }
+{
+    put_done(out, summary)?;
+    put_regs(out, &summary.pairs)?;
+    put_sums(out, &summary.sums)
 }

@@ -1,57 +1,124 @@
-ghost use Rattle.std.specs.Prelude.{◌≡◌, ◌≢◌, ◌<◌, ℕ, IfOk, OnErr, OnOk};
-ghost use Rattle.certificate.specs.Device.{HasGrown};
-ghost use Rattle.t_states.specs.declared.frame.TheConstants.{FRAME};
+ghost use Rattle.std.specs.Prelude.{◌≡◌, ◌≢◌, [], ℕ, IfErr, IfOk, IfSome, OnOk};
+ghost use Rattle.certificate.specs.Device.{HasGrown, Takes};
+ghost use Rattle.runner.specs.Input.{IsResetLine, IsEnvLine, reset_text, env_text};
+ghost use Rattle.runner.specs.Output.{summary_text};
+ghost use Rattle.runner.specs.Pending.{left_of};
+ghost use Rattle.runner.specs.Playing.{BeginsWithNo, IsBadLine, OfBytes, Played, TakesEnv, TakesReset, regs_of, reset_of};
 
 use crate::fault::PlayFault;
-use crate::input::{Line, Pending, env_of, reset_of};
+use crate::input::{EnvLine, ResetLine};
 use crate::machine::{Machine, Summary};
-use crate::output::{put, put_decimal, put_hex4};
+use crate::output::put_summary;
+use crate::pending::{Line, Pending};
 use board_step::Reset;
 use cert_checker::Accepted;
 use certificate::{DeviceFault, Sink, Source};
-use z80_alu::{RegisterSet, Regs};
+use z80_alu::{RegisterSet, Regs, Word};
 
-/// Plays an input on an accepted ROM for at most this many events, and writes its summary. A line of the
-/// input is read and judged only when its events are needed; what was written before a fault stays.
+/// Plays an input (docs/PROGRAM.md, "INPUT") on an accepted ROM for at most this many events, and writes its
+/// summary. A line of the input is read and judged only when its events are needed; the first line is always
+/// needed.
+///
+/// `Line` is the first needed line that is out of form, and nothing is written then. `Read` and `Write` come only
+/// where the device failed; what was written before a fault stays.
 pub fn play<R: Source, W: Sink>(
     accepted: &Accepted,
     steps: u32,
     input: &mut R,
     out: &mut W,
 ) -> Result<Summary, PlayFault>
+    // The summary is that of the input's run, and it was written whole.
+    ensures played { IfOk result (λ summary. OfBytes (R.rest input.old) (Played accepted.now.rom steps summary)) }
+    ensures written { IfOk result (λ summary. Takes (W.taken out.old) (summary_text summary) (W.taken out.new)) }
+    // Which line is bad, and that nothing was written for it.
+    ensures bad { (line : ℕ) → result ≡ Err (PlayFault.Line line) → OfBytes (R.rest input.old) (IsBadLine steps line) }
+    ensures untouched { IfErr result (λ fault. fault ≢ PlayFault.Write → out.new ≡ out.old) }
+    // When a device's fault is told.
     ensures read { result ≡ Err PlayFault.Read → HasGrown (R.failure_count input.old) (R.failure_count input.new) }
     ensures write { result ≡ Err PlayFault.Write → HasGrown (W.failure_count out.old) (W.failure_count out.new) }
     ensures line { (line : ℕ) → result ≡ Err (PlayFault.Line line) → W.failure_count out.new ≡ W.failure_count out.old }
 {
-    let mut pending = Pending::new();
-    let (phase, fill) = first_line(&mut pending, input)?;
-    let mut machine = Machine::reset(accepted, &filled(phase, fill));
-    let summary = play_lines(&mut machine, &mut pending, steps, input)?;
-    match write_summary(&summary, out) {
+    let summary = play_input(accepted, steps, input)?;
+    match put_summary(out, &summary) {
         Ok(()) => Ok(summary),
         Err(DeviceFault) => Err(PlayFault::Write),
     }
 }
 
-fn first_line<R: Source>(pending: &mut Pending, input: &mut R) -> Result<(u32, u8), PlayFault>
-    ensures phase { IfOk result (λ x. x.0 < FRAME) }
+/// Plays an input, and writes nothing.
+fn play_input<R: Source>(
+    accepted: &Accepted,
+    steps: u32,
+    input: &mut R,
+) -> Result<Summary, PlayFault>
+    ensures played { IfOk result (λ summary. OfBytes (R.rest input.old) (Played accepted.now.rom steps summary)) }
+    ensures line { (line : ℕ) → result ≡ Err (PlayFault.Line line) → OfBytes (R.rest input.old) (IsBadLine steps line) }
+    ensures kept { OnOk result (R.failure_count input.new ≡ R.failure_count input.old) }
+    ensures read { result ≡ Err PlayFault.Read → HasGrown (R.failure_count input.old) (R.failure_count input.new) }
+    ensures write { result ≢ Err PlayFault.Write }
+{
+    let mut pending = Pending::new();
+    let reset = first_line(&mut pending, input)?;
+    let mut machine = Machine::reset(accepted, &filled(reset));
+    let mut left = steps;
+    let mut number = 1;
+    let mut time = 0;
+    while left > 0 {
+        number += 1;
+        let Some(line) = next_env(&mut pending, number, input)? else {
+            return Ok(machine.summary(u64::from(steps - left), time));
+        };
+        let count = line.count.min(left);
+        time += machine.repeat(&line.env(), count);
+        left -= count;
+    }
+    Ok(machine.summary(u64::from(steps), time))
+}
+
+/// The first line of an input.
+fn first_line<R: Source>(pending: &mut Pending, input: &mut R) -> Result<ResetLine, PlayFault>
+    ensures line { IfOk result (λ line. TakesReset (left_of pending.old (R.rest input.old)) line (left_of pending.new (R.rest input.new))) }
+    ensures bad { (line : ℕ) → result ≡ Err (PlayFault.Line line) → (line ≡ 1) × IfSome (left_of pending.old (R.rest input.old)) (BeginsWithNo reset_text IsResetLine) }
     ensures kept { OnOk result (R.failure_count input.new ≡ R.failure_count input.old) }
     ensures read { result ≡ Err PlayFault.Read → HasGrown (R.failure_count input.old) (R.failure_count input.new) }
     ensures write { result ≢ Err PlayFault.Write }
 {
     match pending.next_line(input)? {
-        Line::Text(text) => match reset_of(text.as_slice()) {
-            Some(reset) => Ok(reset),
+        Line::Text(text) => match ResetLine::of(text.as_slice()) {
+            Some(line) => Ok(line),
             None => Err(PlayFault::Line(1)),
         },
-        Line::Bad | Line::End => Err(PlayFault::Line(1)),
+        Line::Bad => Err(PlayFault::Line(1)),
+        Line::End => Err(PlayFault::Line(1)),
     }
 }
 
-/// The values of a reset whose bytes are all the same.
-fn filled(phase: u32, fill: u8) -> Reset
-    requires { phase < FRAME }
-    ensures { result.phase ≡ phase }
+/// The next line of environments, which has this number, or None at the end of the input.
+fn next_env<R: Source>(
+    pending: &mut Pending,
+    number: u64,
+    input: &mut R,
+) -> Result<Option<EnvLine>, PlayFault>
+    ensures line { IfOk result (λ line. TakesEnv (left_of pending.old (R.rest input.old)) line (left_of pending.new (R.rest input.new))) }
+    ensures some { (line : ℕ) → result ≡ Err (PlayFault.Line line) → (line ≡ number) × IfSome (left_of pending.old (R.rest input.old)) (λ bytes. bytes ≢ []) }
+    ensures bad { (line : ℕ) → result ≡ Err (PlayFault.Line line) → IfSome (left_of pending.old (R.rest input.old)) (BeginsWithNo env_text IsEnvLine) }
+    ensures kept { OnOk result (R.failure_count input.new ≡ R.failure_count input.old) }
+    ensures read { result ≡ Err PlayFault.Read → HasGrown (R.failure_count input.old) (R.failure_count input.new) }
+    ensures write { result ≢ Err PlayFault.Write }
+{
+    match pending.next_line(input)? {
+        Line::Text(text) => match EnvLine::of(text.as_slice()) {
+            Some(line) => Ok(Some(line)),
+            None => Err(PlayFault::Line(number)),
+        },
+        Line::Bad => Err(PlayFault::Line(number)),
+        Line::End => Ok(None),
+    }
+}
+
+/// The registers of a reset whose bytes are all the same, but for those that a reset clears.
+fn filled_regs(fill: u8) -> Regs
+    ensures { result ≡ regs_of fill }
 {
     let set = RegisterSet {
         a: fill,
@@ -63,73 +130,35 @@ fn filled(phase: u32, fill: u8) -> Reset
         h: fill,
         l: fill,
     };
-    let word = u16::from(fill) * 0x101;
+    let pair = Word {
+        high: fill,
+        low: fill,
+    };
+    let word = pair.value();
+    Regs {
+        main: set,
+        alternate: set,
+        ix: word,
+        iy: word,
+        sp: word,
+        pc: 0,
+        i: 0,
+        r: 0,
+        iff1: false,
+        iff2: false,
+    }
+}
+
+/// The values that a reset leaves open, as the first line of an input tells them.
+fn filled(line: ResetLine) -> Reset
+    ensures { result ≡ reset_of line }
+{
+    let ResetLine { phase, fill } = line;
     Reset {
         work: [fill; 0x400],
         video: [fill; 0x400],
         object: [fill; 0x100],
-        regs: Regs {
-            main: set,
-            alternate: set,
-            ix: word,
-            iy: word,
-            sp: word,
-            ..Regs::default()
-        },
+        regs: filled_regs(fill),
         phase,
     }
-}
-
-fn play_lines<R: Source>(
-    machine: &mut Machine,
-    pending: &mut Pending,
-    steps: u32,
-    input: &mut R,
-) -> Result<Summary, PlayFault>
-    ensures kept { OnOk result (R.failure_count input.new ≡ R.failure_count input.old) }
-    ensures read { result ≡ Err PlayFault.Read → HasGrown (R.failure_count input.old) (R.failure_count input.new) }
-    ensures write { result ≢ Err PlayFault.Write }
-{
-    let mut left = steps;
-    let mut number = 1;
-    let mut time = 0;
-    while left > 0 {
-        number += 1;
-        let line = match pending.next_line(input)? {
-            Line::Text(text) => env_of(text.as_slice()),
-            Line::Bad => None,
-            Line::End => break,
-        };
-        let Some((count, env)) = line else {
-            return Err(PlayFault::Line(number));
-        };
-        let count = count.min(left);
-        time += machine.repeat(&env, count);
-        left -= count;
-    }
-    Ok(machine.summary(u64::from(steps - left), time))
-}
-
-fn write_summary<W: Sink>(summary: &Summary, out: &mut W) -> Result<(), DeviceFault>
-    ensures { OnErr result (HasGrown (W.failure_count out.old) (W.failure_count out.new)) }
-{
-    put(out, b"done ")?;
-    put_decimal(out, u128::from(summary.events))?;
-    put(out, b" ")?;
-    put_decimal(out, summary.time)?;
-    put(out, b" ")?;
-    put_hex4(out, summary.pc)?;
-    put(out, b" ")?;
-    put_hex4(out, summary.sp)?;
-    put(out, b"\nregs")?;
-    for pair in summary.pairs {
-        put(out, b" ")?;
-        put_hex4(out, pair)?;
-    }
-    put(out, b"\nsum")?;
-    for sum in summary.sums {
-        put(out, b" ")?;
-        put_decimal(out, u128::from(sum))?;
-    }
-    put(out, b"\n")
 }

@@ -1,0 +1,25 @@
+use Rattle.std.proofs.Common.{◌≡◌, ◌≢◌, inl, ℕ, List, [], ◌∷◌, ◌++◌, Option, Some, None, length, arith, length-append}
+use Rattle.certificate.specs.Device.{Gives}
+use Rattle.certificate.proofs.DeviceLemmas.{gives_both}
+use Rattle.runner.specs.Pending.{TakesByte, HasNoFeed, GivesLine}
+use Rattle.runner.specs.declared.pending.Line.TheVariants.{Bad}
+
+-- one byte more
+pub no_feed_push : (text : List ℕ) (byte : ℕ) → HasNoFeed text → byte ≢ 10 → HasNoFeed (text ++ byte ∷ [])
+no_feed_push [] byte none other = (other, tt)
+no_feed_push (b ∷ text) byte none other = (none.0, no_feed_push text byte none.1 other)
+
+-- a line that has no line feed in its first 31 bytes
+pub line_too_long : (old now after : Option (List ℕ)) (text : List ℕ) (byte : ℕ) → Gives old text now → HasNoFeed text → length text ≡ 30 → byte ≢ 10 → TakesByte now (Some byte) after → GivesLine old Bad after
+line_too_long None now after text byte given none long other next = tt
+line_too_long (Some old) now after text byte given none long other next =
+    let (left, is, parts) = gives_both (Some old) now after text (byte ∷ []) given next in (
+      left,
+      is,
+      inl record {
+        text = text ++ byte ∷ [];
+        long = omega (arith, long, length-append text (byte ∷ []));
+        no_feed = no_feed_push text byte none other;
+        parts = parts;
+      },
+    )

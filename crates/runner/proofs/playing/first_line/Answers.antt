@@ -1,0 +1,25 @@
+use Rattle.std.proofs.Common.{◌≡◌, None}
+use Rattle.certificate.specs.Fields.{Reads}
+use Rattle.runner.specs.Input.{IsResetLine, reset_text}
+use Rattle.runner.specs.Pending.{GivesLine, left_of}
+use Rattle.runner.specs.declared.pending.Line.TheVariants.{Text, Bad}
+use Rattle.runner.proofs.FeedLemmas.{no_line, no_line_bad}
+use Rattle.runner.proofs.InputLemmas.{no_feed_reset, short_reset}
+use Rattle.runner.proofs.playing.first_line.Goals as goal
+
+pub returns-in-None-clause-bad : goal.returns-in-None-clause-bad
+returns-in-None-clause-bad g c line e =
+    let old = left_of c.args.pending.now (g.R.Source.rest c.args.input.now) in
+    let new = left_of c.next_line.new.self (g.R.Source.rest c.next_line.new.input) in
+    let gives : GivesLine old (Text c.in-Text.text) new = rw c.in-Text.is at c.in_ok-text.ensures.line in
+    let none : Reads reset_text IsResetLine c.in-Text.text.items None = rw c.as_slice.ensures.value at c.in-None.ensures in
+    let first : line ≡ 1 = cc in
+    (first, no_line reset_text IsResetLine no_feed_reset old new c.in-Text.text gives none)
+
+pub returns-in-Bad-clause-bad : goal.returns-in-Bad-clause-bad
+returns-in-Bad-clause-bad g c line e =
+    let old = left_of c.args.pending.now (g.R.Source.rest c.args.input.now) in
+    let new = left_of c.next_line.new.self (g.R.Source.rest c.next_line.new.input) in
+    let gives : GivesLine old Bad new = rw c.in-Bad.is at c.in_ok-text.ensures.line in
+    let first : line ≡ 1 = cc in
+    (first, no_line_bad reset_text IsResetLine short_reset old new gives)
