@@ -53,5 +53,5 @@ abbrev pub NothingBefore : List ℕ → Contents → Option ℕ → Reason → T
 NothingBefore rom cert None reasons.Rom = Unit {0}
 NothingBefore rom cert None reasons.Region = FitsRom rom cert
 NothingBefore rom cert None reasons.Entry = FitsRom rom cert × FitsWorkRam cert.region
-NothingBefore rom cert None reason = WholeFits rom cert × All (IsConsistent rom cert) cert.rows
-NothingBefore rom cert (Some number) reason = WholeFits rom cert × All (IsConsistent rom cert) (take number cert.rows)
+NothingBefore rom cert None _ = WholeFits rom cert × All (IsConsistent rom cert) cert.rows
+NothingBefore rom cert (Some number) _ = WholeFits rom cert × All (IsConsistent rom cert) (take number cert.rows)

@@ -9,7 +9,7 @@ use Rattle.cert_checker.specs.declared.checking.Refused.{Refused}
 use Rattle.certificate.specs.Contents.{Contents}
 use Rattle.certificate.specs.Device.{Takes}
 use Rattle.galcert.specs.Verdict.{accepted_text, detail_of, refused_text, right_in_5}
-use Rattle.runner.specs.Output.{hex4}
+use Rattle.certificate.specs.Fields.{hex4}
 use Rattle.certificate.proofs.DeviceLemmas.{takes_both}
 
 -- a write that may fail, behind one that did not

@@ -13,7 +13,7 @@ use Rattle.cert_checker.specs.declared.reason.Saved.TheVariants as saved
 use Rattle.certificate.specs.Contents.{Contents}
 use Rattle.certificate.specs.Device.{Takes}
 use Rattle.certificate.specs.Text.{HasTooManyRows, IsFirstBadLine, IsInForm, text_of}
-use Rattle.runner.specs.Output.{hex4}
+use Rattle.certificate.specs.Fields.{hex4}
 use Rattle.z80_decode.specs.declared.fault.DecodeFault.TheVariants as decoding
 
 -- a number in decimal, right in five places
