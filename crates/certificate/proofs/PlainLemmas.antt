@@ -69,7 +69,7 @@ no_lf_then : (field rest : List ℕ) → IsPlain field → AllByRecursion (λ b.
 no_lf_then [] rest plain none = none
 no_lf_then (b ∷ field) rest plain none = (not_mark b 10 (omega (arith, plain.0)), no_lf_then field rest plain.1 none)
 
-pub no_lf : (field : List ℕ) → IsPlain field → AllByRecursion (λ b. (b == 10) ≡ false) field
+no_lf : (field : List ℕ) → IsPlain field → AllByRecursion (λ b. (b == 10) ≡ false) field
 no_lf [] plain = tt
 no_lf (b ∷ field) plain = (not_mark b 10 (omega (arith, plain.0)), no_lf field plain.1)
 

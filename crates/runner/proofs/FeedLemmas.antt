@@ -1,11 +1,10 @@
-use Rattle.std.proofs.Common.{◌≡◌, ◌≢◌, ◌<◌, ◌≤◌, ◌⊎◌, inl, inr, ℕ, Bool, false, if◌then◌else◌, List, [], ◌∷◌, ◌++◌, Option, Some, None, IfSome, length, get_or, drop, refl, sym, ap, ◌∙◌, append_assoc, arith, length-append}
+use Rattle.std.proofs.Common.{◌≡◌, ◌≢◌, ◌<◌, ◌≤◌, ◌⊎◌, inl, inr, ℕ, Bool, false, if◌then◌else◌, List, [], ◌∷◌, ◌++◌, Option, Some, None, IfSome, length, get_or, drop, refl, sym, ap, ◌∙◌, arith, length-append}
 use Rattle.std.proofs.lemmas.List.{append-nil}
 use Rattle.arrayvec.specs.ArrayVec.{ArrayVec}
-use Rattle.certificate.specs.Device.{Gives}
 use Rattle.certificate.specs.Fields.{Reads}
 use Rattle.runner.specs.Pending.{Unused, left_of, HasNoFeed, IsLine, IsTooLong, IsUnended, GivesLine}
 use Rattle.runner.specs.Playing.{BeginsWithNo}
-use Rattle.runner.specs.declared.pending.Line.TheVariants.{Text, Bad, End}
+use Rattle.runner.specs.declared.pending.Line.TheVariants.{Text, Bad}
 
 heads_same : (x y : ℕ) (xs ys : List ℕ) → x ∷ xs ≡ y ∷ ys → x ≡ y
 heads_same x y xs ys e = ap (λ (l : List ℕ). get_or l 0 0) e
@@ -48,30 +47,11 @@ module _ {X : Type 0} (text : X → List ℕ) (InForm : X → Type 0) where
   no_line_bad short None new gives = tt
   no_line_bad short (Some bytes) new (left, is, bad) = none_in_bad short bytes left bad
 
-  pub no_line_end : (old new : Option (List ℕ)) → GivesLine old End new → IfSome old (BeginsWithNo text InForm)
-  no_line_end None new gives = tt
-  no_line_end (Some bytes) new (left, is, ends) = none_at_end bytes ends.0
-
--- a line was taken off with its line feed
-pub line_given : (old new : Option (List ℕ)) (line : ArrayVec ℕ) (text : List ℕ) → GivesLine old (Text line) new → line.items ≡ text → Gives old (text ++ 10 ∷ []) new
-line_given None new line text gives same = tt
-line_given (Some bytes) new line text (left, is, parts) same =
-    (left, is, parts.parts ∙ ap (λ (t : List ℕ). t ++ 10 ∷ left) same ∙ sym (append_assoc text (10 ∷ []) left))
-
--- where a line stands, something is left
-pub line_some : (old new : Option (List ℕ)) (line : ArrayVec ℕ) → GivesLine old (Text line) new → IfSome old (λ bytes. bytes ≢ [])
-line_some None new line gives = tt
-line_some (Some bytes) new line (left, is, parts) = λ empty. absurd (omega (arith, ap length (sym empty ∙ parts.parts), length-append line.items (10 ∷ left)))
-
+-- where a bad line stands, something is left
 pub bad_some : (old new : Option (List ℕ)) → GivesLine old Bad new → IfSome old (λ bytes. bytes ≢ [])
 bad_some None new gives = tt
 bad_some (Some bytes) new (left, is, inl bad) = λ empty. absurd (omega (arith, ap length (sym empty ∙ bad.parts), bad.long, length-append bad.text left))
 bad_some (Some bytes) new (left, is, inr bad) = λ empty. absurd (omega (arith, ap length empty, bad.some))
-
--- the end of the input is the end of its bytes
-pub end_empty : (old new : Option (List ℕ)) → GivesLine old End new → IfSome old (λ bytes. bytes ≡ [])
-end_empty None new gives = tt
-end_empty (Some bytes) new (left, is, ends) = ends.0
 
 -- of an input of which nothing was read all is left
 pub fresh : (unused : Unused) (rest : Option (List ℕ)) → unused.bytes ≡ [] → unused.ended ≡ false → left_of unused rest ≡ rest

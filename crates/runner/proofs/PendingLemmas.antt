@@ -5,7 +5,7 @@ use Rattle.runner.specs.Pending.{TakesByte, HasNoFeed, GivesLine}
 use Rattle.runner.specs.declared.pending.Line.TheVariants.{Bad}
 
 -- one byte more
-pub no_feed_push : (text : List ℕ) (byte : ℕ) → HasNoFeed text → byte ≢ 10 → HasNoFeed (text ++ byte ∷ [])
+no_feed_push : (text : List ℕ) (byte : ℕ) → HasNoFeed text → byte ≢ 10 → HasNoFeed (text ++ byte ∷ [])
 no_feed_push [] byte none other = (other, tt)
 no_feed_push (b ∷ text) byte none other = (none.0, no_feed_push text byte none.1 other)
 

@@ -18,7 +18,7 @@ use Rattle.runner.specs.Playing.{BeginsWithNo, IsBadLine, OfBytes, Played, Takes
 use Rattle.runner.specs.declared.input.EnvLine.{EnvLine}
 use Rattle.runner.specs.declared.input.ResetLine.{ResetLine}
 use Rattle.runner.specs.declared.machine.Summary.{Summary}
-use Rattle.runner.proofs.FeedLemmas.{none_at_end, none_in_line}
+use Rattle.runner.proofs.FeedLemmas.{none_in_line}
 use Rattle.runner.proofs.InputLemmas.{no_feed_env, env_some}
 
 -- a play under way: what was taken off the input, and the run over its lines so far
@@ -185,8 +185,3 @@ sofar_bad rom steps (Some bytes) now number left time state n far some is left_s
       bad = subst (λ (o : Option (List ℕ)). IfSome o (BeginsWithNo env_text IsEnvLine)) rest_is bad;
       number_is = omega (arith, is, far.number_is);
     }
-
--- the first line is out of form
-pub first_bad : (steps n : ℕ) (old : Option (List ℕ)) → n ≡ 1 → IfSome old (BeginsWithNo reset_text IsResetLine) → OfBytes old (IsBadLine steps n)
-first_bad steps n None is bad = ([], inl record { first = is; bad = none_at_end reset_text IsResetLine [] refl })
-first_bad steps n (Some bytes) is bad = inl record { first = is; bad = bad }

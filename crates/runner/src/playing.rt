@@ -35,6 +35,7 @@ pub fn play<R: Source, W: Sink>(
     ensures untouched { IfErr result (λ fault. fault ≢ PlayFault.Write → out.new ≡ out.old) }
     // When a device's fault is told.
     ensures read { result ≡ Err PlayFault.Read → HasGrown (R.failure_count input.old) (R.failure_count input.new) }
+    ensures told { result ≢ Err PlayFault.Read → R.failure_count input.new ≡ R.failure_count input.old }
     ensures write { result ≡ Err PlayFault.Write → HasGrown (W.failure_count out.old) (W.failure_count out.new) }
     ensures line { (line : ℕ) → result ≡ Err (PlayFault.Line line) → W.failure_count out.new ≡ W.failure_count out.old }
 {
@@ -55,6 +56,7 @@ fn play_input<R: Source>(
     ensures line { (line : ℕ) → result ≡ Err (PlayFault.Line line) → OfBytes (R.rest input.old) (IsBadLine steps line) }
     ensures kept { OnOk result (R.failure_count input.new ≡ R.failure_count input.old) }
     ensures read { result ≡ Err PlayFault.Read → HasGrown (R.failure_count input.old) (R.failure_count input.new) }
+    ensures told { result ≢ Err PlayFault.Read → R.failure_count input.new ≡ R.failure_count input.old }
     ensures write { result ≢ Err PlayFault.Write }
 {
     let mut pending = Pending::new();
@@ -81,6 +83,7 @@ fn first_line<R: Source>(pending: &mut Pending, input: &mut R) -> Result<ResetLi
     ensures bad { (line : ℕ) → result ≡ Err (PlayFault.Line line) → (line ≡ 1) × IfSome (left_of pending.old (R.rest input.old)) (BeginsWithNo reset_text IsResetLine) }
     ensures kept { OnOk result (R.failure_count input.new ≡ R.failure_count input.old) }
     ensures read { result ≡ Err PlayFault.Read → HasGrown (R.failure_count input.old) (R.failure_count input.new) }
+    ensures told { result ≢ Err PlayFault.Read → R.failure_count input.new ≡ R.failure_count input.old }
     ensures write { result ≢ Err PlayFault.Write }
 {
     match pending.next_line(input)? {
@@ -104,6 +107,7 @@ fn next_env<R: Source>(
     ensures bad { (line : ℕ) → result ≡ Err (PlayFault.Line line) → IfSome (left_of pending.old (R.rest input.old)) (BeginsWithNo env_text IsEnvLine) }
     ensures kept { OnOk result (R.failure_count input.new ≡ R.failure_count input.old) }
     ensures read { result ≡ Err PlayFault.Read → HasGrown (R.failure_count input.old) (R.failure_count input.new) }
+    ensures told { result ≢ Err PlayFault.Read → R.failure_count input.new ≡ R.failure_count input.old }
     ensures write { result ≢ Err PlayFault.Write }
 {
     match pending.next_line(input)? {
