@@ -4,8 +4,7 @@ ghost use Rattle.call_graph.specs.Calls.{Calls, IsCycle};
 ghost use Rattle.call_graph.specs.Circle.{IsShortestFrom, Returns, Searched, Traced, left, seen_at, step_far, step_from, step_proc};
 ghost use Rattle.call_graph.specs.Walk.{ByCaller};
 
-use crate::edge::{Edge, ProcId};
-use crate::walk::first_call;
+use crate::edge::{Edge, ProcId, first_call};
 use std::alloc::{AllocError, Global};
 
 /// How many numbers a procedure may have.

@@ -1,4 +1,4 @@
-use crate::edge::{Edge, ProcId};
+use crate::edge::{Edge, ProcId, first_call};
 use std::alloc::{AllocError, Global};
 
 /// Where a procedure stands in the walk.
@@ -33,16 +33,6 @@ pub(crate) struct Walk {
 ghost use Rattle.std.specs.Prelude.{◌≡◌, ◌≢◌, ℕ, ◌+◌, ◌-◌, ◌<◌, ◌≤◌, ◌↔◌, ◌⊎◌, IsTrue, List, IfNone, IfOk, IfSome, OnOk, length, slice_index, sum_by, vec_len};
 ghost use Rattle.call_graph.specs.Calls.{Occurs, Reaches};
 ghost use Rattle.call_graph.specs.Walk.{ByCaller, Holds, Settled, StaysSeen, Within, caller_at, callee_at, frame_at, mark_at, mark_work, work};
-
-/// The number of the first edge whose caller is not before this procedure.
-pub(crate) fn first_call(calls: &[Edge], proc: ProcId) -> usize
-    requires { ByCaller calls.now }
-    ensures bound { result ≤ length calls.now }
-    ensures before { (i : ℕ) → i < result → caller_at calls.now i < proc }
-    ensures from { (i : ℕ) → result ≤ i → i < length calls.now → proc ≤ caller_at calls.now i }
-{
-    calls.partition_point(|edge| edge.caller < proc)
-}
 
 /// How many numbers a procedure may have.
 const NUMBERS: usize = 65_536;

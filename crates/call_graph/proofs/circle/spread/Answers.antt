@@ -16,7 +16,7 @@ returns-then-edge-step-clause-goes_on c =
     let steps = c.loop-number.steps.items in
     let number : ℕ = c.loop-number.number in
     let proc : step_proc steps c.args.at ≡ c.index-step.result.now.proc = kept.proc_is in
-    let low : c.index-step.result.now.proc ≤ caller_at calls number = c.first_call-number.ensures.from number (omega arith) (omega arith) in
+    let low : c.index-step.result.now.proc ≤ caller_at calls number = c.first_call-number.ensures.from number (record { caller = 0; callee = 0 }) (omega arith) (omega arith) in
     let other : caller_at calls number ≢ c.index-step.result.now.proc = c.if-edge-step.true in
     search_passed calls c.args.start c.loop-number.seen steps c.args.at number kept.searched kept.inside
     (λ i l h e. kept.so_far i l h (e ∙ proc))

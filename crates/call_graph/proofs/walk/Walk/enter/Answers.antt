@@ -13,6 +13,6 @@ returns-clause-holds c =
     record {
       kept = rw (met, path, c.from.ensures, place) (enter_lists c.args.calls.now w.marks.items w.met.items w.path.items w.order.items c.args.proc c.first_call.result
           c.requires.holds.kept in_room c.requires.unseen c.requires.known c.requires.called
-          c.first_call.ensures.bound c.first_call.ensures.before c.first_call.ensures.from);
+          c.first_call.ensures.bound (λ i. c.first_call.ensures.before i (record { caller = 0; callee = 0 })) (λ i. c.first_call.ensures.from i (record { caller = 0; callee = 0 })));
       room = c.requires.holds.room;
     }
