@@ -8,7 +8,7 @@ use Rattle.std.proofs.lemmas.Map.Steps.{length-le_from_distinct_below}
 use Rattle.std.proofs.lemmas.Bool.{cases_order, cases_eq, ne_eqb, eqb-true, or_cases}
 use lib.Dec.{eqb}
 use Rattle.call_graph.specs.Calls.{Calls, IsCallOrder}
-use Rattle.call_graph.specs.Depths.{ByCaller, Orders, Suffices, SufficesAt, AreDepths, AreNumbered, edge_of, caller_of, callee_of, held_of}
+use Rattle.call_graph.specs.Depths.{ByCaller, Orders, Suffices, AreDepths, AreNumbered, edge_of, call_at}
 use Rattle.call_graph.specs.declared.depth.Held.{Held}
 use Rattle.call_graph.specs.declared.edge.Edge.{Edge}
 use Rattle.call_graph.proofs.OrderLemmas.{place_of}
@@ -42,40 +42,44 @@ one_place list a b once ha hb same = elim (cases_order a b) [
 ]
 
 -- after a call of another procedure there is none of this one
-pub rest_is_above : (calls : List Held) (proc at : ℕ) → ByCaller calls → at < length calls → proc ≤ caller_of calls at → caller_of calls at ≢ proc →
-    (i : ℕ) → at ≤ i → i < length calls → caller_of calls i ≢ proc
+pub rest_is_above : (calls : List Held) (proc at : ℕ) → ByCaller calls → at < length calls → proc ≤ (call_at calls at).caller → (call_at calls at).caller ≢ proc →
+    (i : ℕ) → at ≤ i → i < length calls → (call_at calls i).caller ≢ proc
 rest_is_above calls proc at rising inside low other i l h same =
-    let up : caller_of calls at ≤ caller_of calls i = rising at i (record { caller = 0; callee = 0; held = 0 }) l h in
-    let differs : caller_of calls at ≢ proc = other in
+    let up : (call_at calls at).caller ≤ (call_at calls i).caller = rising at i (record { caller = 0; callee = 0; held = 0 }) l h in
+    let differs : (call_at calls at).caller ≢ proc = other in
     omega arith
 
 -- the callee of a call stands before the place of its caller
 pub callee_place : (own : List ℕ) (calls : List Held) (list : List ℕ) → Orders own calls list → (k i : ℕ) → k < length list → i < length calls →
-    slice_index list k ≡ caller_of calls i → (j : ℕ) × (j < k) × (slice_index list j ≡ callee_of calls i)
+    slice_index list k ≡ (call_at calls i).caller → (j : ℕ) × (j < k) × (slice_index list j ≡ (call_at calls i).callee)
 callee_place own calls list orders k i hk hi is =
     let z = orders.callees_first i hi in
     let place = z.1.0 in
     let before : z.0 < place = z.1.1.0 in
     let inside : place < length list = z.1.1.1 in
-    let callee : slice_index list z.0 ≡ callee_of calls i = z.1.1.2 in
-    let caller : slice_index list place ≡ caller_of calls i = z.1.1.3 in
+    let callee : slice_index list z.0 ≡ (call_at calls i).callee = z.1.1.2 in
+    let caller : slice_index list place ≡ (call_at calls i).caller = z.1.1.3 in
     let same : place ≡ k = one_place list place k orders.once inside hk (caller ∙ sym is) in
     (z.0, omega arith, callee)
+
+-- the call of a number is one of the calls
+call_in : (calls : List Held) (i : ℕ) → i < length calls → Contains calls (call_at calls i)
+call_in calls i h = (i, h, get_or_default calls i (call_at calls i) (record { caller = 0; callee = 0; held = 0 }) h)
 
 -- what the loop over the order keeps
 pub record Settled (own : List ℕ) (calls : List Held) (list : List ℕ) (index : ℕ) (depths : List ℕ) : Type 0 where
   pub each : length depths ≡ length own
   pub own_bytes : (p : ℕ) → p < length own → slice_index own p ≤ slice_index depths p
-  pub held_bytes : (k i : ℕ) → k < index → i < length calls → slice_index list k ≡ caller_of calls i →
-      held_of calls i + slice_index depths (callee_of calls i) ≤ slice_index depths (caller_of calls i)
-  pub least : (depth : ℕ → ℕ) → SufficesAt own calls depth → (p : ℕ) → p < length own → slice_index depths p ≤ depth p
+  pub held_bytes : (k i : ℕ) → k < index → i < length calls → slice_index list k ≡ (call_at calls i).caller →
+      (call_at calls i).held + slice_index depths (call_at calls i).callee ≤ slice_index depths (call_at calls i).caller
+  pub least : (depth : ℕ → ℕ) → Suffices own calls depth → (p : ℕ) → p < length own → slice_index depths p ≤ depth p
   pub low : (k : ℕ) → k < index → slice_index depths (slice_index list k) ≤ 4294967296 * (k + 1)
 
 pub settle : (own : List ℕ) (calls : List Held) (list : List ℕ) (index : ℕ) (depths : List ℕ) (p v : ℕ) → Orders own calls list → Settled own calls list index depths →
     index < length list → slice_index list index ≡ p → slice_index own p ≤ v →
-    ((i : ℕ) → i < length calls → caller_of calls i ≡ p → held_of calls i + slice_index depths (callee_of calls i) ≤ v) →
-    ((most : ℕ) → slice_index own p ≤ most → ((i : ℕ) → i < length calls → caller_of calls i ≡ p → held_of calls i + slice_index depths (callee_of calls i) ≤ most) → v ≤ most) →
-    ((most : ℕ) → ((i : ℕ) → i < length calls → caller_of calls i ≡ p → slice_index depths (callee_of calls i) ≤ most) → v ≤ most + 4294967296) →
+    ((i : ℕ) → i < length calls → (call_at calls i).caller ≡ p → (call_at calls i).held + slice_index depths (call_at calls i).callee ≤ v) →
+    ((most : ℕ) → slice_index own p ≤ most → ((i : ℕ) → i < length calls → (call_at calls i).caller ≡ p → (call_at calls i).held + slice_index depths (call_at calls i).callee ≤ most) → v ≤ most) →
+    ((most : ℕ) → ((i : ℕ) → i < length calls → (call_at calls i).caller ≡ p → slice_index depths (call_at calls i).callee ≤ most) → v ≤ most + 4294967296) →
     Settled own calls list (index + 1) (set depths p v)
 settle own calls list index depths p v orders settled inside is own_fits held least low =
     let numbered : p < length own = subst (λ x. x < length own) is (orders.numbered index inside) in
@@ -93,16 +97,16 @@ settle own calls list index depths p v orders settled inside is own_fits held le
           let in_list : k < length list = omega arith in
           let z = callee_place own calls list orders k i in_list hi e in
           let lower : z.0 < k = z.1 in
-          let callee_earlier : callee_of calls i ≢ p = λ x. earlier z.0 (omega arith) (z.2 ∙ x) in
-          rw (other (callee_of calls i) callee_earlier)
+          let callee_earlier : (call_at calls i).callee ≢ p = λ x. earlier z.0 (omega arith) (z.2 ∙ x) in
+          rw (other (call_at calls i).callee callee_earlier)
           (elim (cases_eq k index) [
-            | inl x ↦ let caller : caller_of calls i ≡ p = sym e ∙ (ap (slice_index list) x ∙ is) in rw (caller, same) (held i hi caller)
-            | inr ne ↦ let old : k < index = omega arith in rw (other (caller_of calls i) (λ x. earlier k old (e ∙ x))) (settled.held_bytes k i old hi e)
+            | inl x ↦ let caller : (call_at calls i).caller ≡ p = sym e ∙ (ap (slice_index list) x ∙ is) in rw (caller, same) (held i hi caller)
+            | inr ne ↦ let old : k < index = omega arith in rw (other (call_at calls i).caller (λ x. earlier k old (e ∙ x))) (settled.held_bytes k i old hi e)
           ]);
       least = λ depth suffices q h. elim (cases_eq q p) [
         | inl e ↦ rw (e, same) (least (depth p) (suffices.own_bytes p numbered) (λ i hi caller.
-            let a : slice_index depths (callee_of calls i) ≤ depth (callee_of calls i) = settled.least depth suffices (callee_of calls i) (orders.callees i hi) in
-            let b : held_of calls i + depth (callee_of calls i) ≤ depth p = subst (λ x. held_of calls i + depth (callee_of calls i) ≤ depth x) caller (suffices.held_bytes i hi) in
+            let a : slice_index depths (call_at calls i).callee ≤ depth (call_at calls i).callee = settled.least depth suffices (call_at calls i).callee (orders.callees i hi) in
+            let b : (call_at calls i).held + depth (call_at calls i).callee ≤ depth p = subst (λ x. (call_at calls i).held + depth (call_at calls i).callee ≤ depth x) caller (suffices.held_bytes (call_at calls i) (call_in calls i hi)) in
             omega arith))
         | inr ne ↦ rw (other q ne) (settled.least depth suffices q h)
       ];
@@ -151,31 +155,28 @@ orders_from own calls sorted list numbered moved order =
           (callee.0, (caller.0, (order.callees_first caller.0 callee.0 caller.1 callee.1 (rw (caller.2, callee.2) edge), caller.1, callee.2, caller.2)));
     }
 
--- the numbers of the calls say what the calls say
-suffices_at : (own : List ℕ) (calls sorted : List Held) (depth : ℕ → ℕ) → IsPermutation calls sorted → Suffices own calls depth → SufficesAt own sorted depth
-suffices_at own calls sorted depth moved s =
-    let none_held : Held = record { caller = 0; callee = 0; held = 0 } in
-    record {
-      own_bytes = s.own_bytes;
-      held_bytes = λ i h. s.held_bytes (get_or sorted i none_held)
-          (Contains-permutation sorted calls (get_or sorted i none_held) (IsPermutation-sym calls sorted moved) (i, h, get_or_default sorted i (get_or sorted i none_held) none_held h));
-    }
+-- what is settled after the last procedure are the depths
+pub settled_all : (own : List ℕ) (calls : List Held) (list : List ℕ) (index : ℕ) (depths : List ℕ) → Orders own calls list → Settled own calls list index depths → length list ≡ index → AreDepths own calls depths
+settled_all own calls list index depths orders settled all = record {
+  each = settled.each;
+  suffice = record {
+    own_bytes = settled.own_bytes;
+    held_bytes = λ call c.
+        let z = orders.callees_first c.0 c.1 in
+        let inside : z.1.0 < length list = z.1.1.1 in
+        let same : call_at calls c.0 ≡ call = get_or_default calls c.0 (record { caller = 0; callee = 0; held = 0 }) call c.1 ∙ c.2 in
+        subst (λ x. x.held + slice_index depths x.callee ≤ slice_index depths x.caller) same (settled.held_bytes z.1.0 c.0 (omega arith) c.1 z.1.1.3);
+  };
+  least = settled.least;
+}
 
-suffices_of : (own : List ℕ) (calls sorted : List Held) (depth : ℕ → ℕ) → IsPermutation calls sorted → SufficesAt own sorted depth → Suffices own calls depth
-suffices_of own calls sorted depth moved s =
-    let none_held : Held = record { caller = 0; callee = 0; held = 0 } in
-    record {
-      own_bytes = s.own_bytes;
-      held_bytes = λ call c.
-          let there = Contains-permutation calls sorted call moved c in
-          let same : get_or sorted there.0 none_held ≡ call = get_or_default sorted there.0 none_held call there.1 ∙ there.2 in
-          subst (λ x. x.held + depth x.callee ≤ depth x.caller) same (s.held_bytes there.0 there.1);
-    }
+-- depths suffice for the calls in whatever order
+suffices_same : (own : List ℕ) (calls others : List Held) (depth : ℕ → ℕ) → IsPermutation calls others → Suffices own others depth → Suffices own calls depth
+suffices_same own calls others depth moved s = record { own_bytes = s.own_bytes; held_bytes = λ call c. s.held_bytes call (Contains-permutation calls others call moved c) }
 
-pub depths_from : (own : List ℕ) (calls sorted : List Held) (list : List ℕ) → IsPermutation calls sorted → length list ≡ length own → SufficesAt own sorted (slice_index list) →
-    ((depth : ℕ → ℕ) → SufficesAt own sorted depth → (p : ℕ) → p < length own → slice_index list p ≤ depth p) → AreDepths own calls list
-depths_from own calls sorted list moved each suffices least = record {
-  each = each;
-  suffice = suffices_of own calls sorted (slice_index list) moved suffices;
-  least = λ depth s. least depth (suffices_at own calls sorted depth moved s);
+pub depths_same : (own : List ℕ) (calls sorted : List Held) (list : List ℕ) → IsPermutation calls sorted → AreDepths own sorted list → AreDepths own calls list
+depths_same own calls sorted list moved are = record {
+  each = are.each;
+  suffice = suffices_same own calls sorted (slice_index list) moved are.suffice;
+  least = λ depth s. are.least depth (suffices_same own sorted calls depth (IsPermutation-sym calls sorted moved) s);
 }

@@ -1,4 +1,7 @@
+pub mod CallLemmas
 pub mod CircleLemmas
 pub mod DepthLemmas
+pub mod GroupLemmas
 pub mod OrderLemmas
+pub mod StateLemmas
 pub mod WalkLemmas

@@ -1,36 +1,27 @@
--- A walk that has seen every caller has an order; an order leaves no circle; both look at the calls alone.
+-- A walk that has seen every caller has an order, or the lowest procedure that lies on a circle; an order leaves no circle; and
+-- both look at the calls alone.
 use Rattle.std.proofs.Common.{◌≡◌, ◌≢◌, ℕ, ◌+◌, ◌-◌, ◌<◌, ◌≤◌, ◌⊎◌, inl, inr, sym, ◌∙◌, ap, arith, zero, suc, List, length, get_or, refl}
 use Rattle.std.specs.List.{Contains}
 use Rattle.std.specs.List.Sorted.{IsPermutation}
+use Rattle.std.proofs.lemmas.Bool.{cases_lt}
 use Rattle.std.proofs.lemmas.List.{get_or_default}
 use Rattle.std.proofs.lemmas.List.Sorted.{Contains-permutation, IsPermutation-sym}
-use Rattle.call_graph.specs.Calls.{Calls, Occurs, IsCallOrder, IsCycle, IsFaultOf}
-use Rattle.call_graph.specs.Walk.{KeptBy, mark_at, caller_at, callee_at}
+use Rattle.call_graph.specs.Calls.{Calls, Occurs, Way, Reaches, IsCallOrder, IsCycle, IsFaultOf}
+use Rattle.call_graph.specs.Circle.{IsLowestStart}
+use Rattle.call_graph.specs.Walk.{State, Kept, ByCaller, Within, state_of, mark_at, caller_at, callee_at}
+use Rattle.call_graph.proofs.CallLemmas.{calls_at, numbered, on_cycle, returns_of}
 use Rattle.call_graph.specs.declared.edge.Edge.{Edge}
 use Rattle.call_graph.specs.declared.fault.GraphFault.{GraphFault}
 use Rattle.call_graph.specs.declared.fault.GraphFault.TheVariants.{Cycle, NoMemory}
 use Rattle.call_graph.specs.declared.walk.Frame.{Frame}
 use Rattle.call_graph.specs.declared.walk.Mark.{Mark}
-use Rattle.call_graph.specs.declared.walk.Mark.TheVariants.{Unseen, OnPath, Ordered}
+use Rattle.call_graph.specs.declared.walk.Mark.TheVariants.{Unseen, Met, Done}
 
 -- what a mark may be
-mark_cases : (m : Mark) → (m ≡ Unseen) ⊎ (((k : ℕ) × (m ≡ OnPath k)) ⊎ ((k : ℕ) × (m ≡ Ordered k)))
+mark_cases : (m : Mark) → (m ≡ Unseen) ⊎ (((k : ℕ) × (m ≡ Met k)) ⊎ ((k : ℕ) × (m ≡ Done k)))
 mark_cases Unseen = inl refl
-mark_cases (OnPath k) = inr (inl (k, refl))
-mark_cases (Ordered k) = inr (inr (k, refl))
-
--- the number of a call
-pub record Numbered (edges : List Edge) (p q : ℕ) : Type 0 where
-  pub at : ℕ
-  pub inside : at < length edges
-  pub caller : caller_at edges at ≡ p
-  pub callee : callee_at edges at ≡ q
-
-numbered : (edges : List Edge) (p q : ℕ) → Calls edges p q → Numbered edges p q
-numbered edges p q call =
-    let e : Edge = record { caller = p; callee = q } in
-    let same : get_or edges call.0 (record { caller = 0; callee = 0 }) ≡ e = get_or_default edges call.0 (record { caller = 0; callee = 0 }) e call.1 ∙ call.2 in
-    record { at = call.0; inside = call.1; caller = ap (λ x. x.caller) same; callee = ap (λ x. x.callee) same }
+mark_cases (Met k) = inr (inl (k, refl))
+mark_cases (Done k) = inr (inr (k, refl))
 
 -- a number of a list stands at a place
 pub contains_at : (list : List ℕ) (k p : ℕ) → k < length list → get_or list k 0 ≡ p → Contains list p
@@ -39,46 +30,93 @@ contains_at list k p h is = (k, h, get_or_default list k p 0 h ∙ is)
 pub place_of : (list : List ℕ) (p : ℕ) → Contains list p → (k : ℕ) × (k < length list) × (get_or list k 0 ≡ p)
 place_of list p c = (c.0, c.1, get_or_default list c.0 0 p c.1 ∙ c.2)
 
-pub order_lists : (edges : List Edge) (marks : List Mark) (path : List Frame) (list : List ℕ) → KeptBy edges marks path list → length path ≡ 0 →
-    ((i : ℕ) → i < length edges → mark_at marks (caller_at edges i) ≢ Unseen) → IsCallOrder edges list
-order_lists edges marks path list kept empty seen =
-    let ordered : (p : ℕ) → mark_at marks p ≢ Unseen → (k : ℕ) × (mark_at marks p ≡ Ordered k) =
-    λ p met. elim (mark_cases (mark_at marks p)) [
-      | inl u ↦ absurd (met u)
-      | inr x ↦ elim x [
-        | inl y ↦ let z : y.0 < length path = (kept.path_is p y.0 y.1).0 in absurd (omega arith)
-        | inr y ↦ y
-      ]
-    ] in
-    let caller_ordered : (p q : ℕ) → Calls edges p q → (k : ℕ) × (mark_at marks p ≡ Ordered k) =
-    λ p q call. let e = numbered edges p q call in
-    ordered p (λ u. seen e.at e.inside (ap (mark_at marks) e.caller ∙ u)) in
-    let callee_before : (p q k : ℕ) → Calls edges p q → mark_at marks p ≡ Ordered k → (j : ℕ) × (mark_at marks q ≡ Ordered j) × (j < k) =
-    λ p q k call is. let e = numbered edges p q call in
-    let z = kept.callees_first e.at k e.inside (ap (mark_at marks) e.caller ∙ is) in
-    (z.0, ap (mark_at marks) (sym e.callee) ∙ z.1, z.2) in
-    let listed_at : (p k : ℕ) → mark_at marks p ≡ Ordered k → Contains list p =
-    λ p k is. let z = kept.ordered_is p k is in contains_at list k p z.0 z.1 in
+-- whoever was seen is in order once the walk is over
+in_order : (edges : List Edge) (s : State) → Kept edges s → s.depth ≡ 0 → (p : ℕ) → s.mark p ≢ Unseen → (a : ℕ) × (s.mark p ≡ Done a)
+in_order edges s kept empty p seen = elim (mark_cases (s.mark p)) [
+  | inl u ↦ absurd (seen u)
+  | inr x ↦ elim x [
+    | inl y ↦ let z : y.0 < s.size = (kept.stands.met_is p y.0 y.1).0 in let none : s.size ≡ 0 = kept.stands.none empty in absurd (omega arith)
+    | inr y ↦ y
+  ]
+]
+
+-- whoever calls has a group
+caller_group : (edges : List Edge) (s : State) → Kept edges s → s.depth ≡ 0 → ((i : ℕ) → i < length edges → s.mark (caller_at edges i) ≢ Unseen) → (p q : ℕ) → Calls edges p q → (a : ℕ) × (s.mark p ≡ Done a)
+caller_group edges s kept empty seen p q call = let e = numbered edges p q call in
+    in_order edges s kept empty p (λ u. seen e.at e.inside (ap s.mark e.caller ∙ u))
+
+-- and whoever is called has that or an earlier one
+callee_group : (edges : List Edge) (s : State) → Kept edges s → (p q a : ℕ) → Calls edges p q → s.mark p ≡ Done a → (b : ℕ) × (s.mark q ≡ Done b) × (b ≤ a)
+callee_group edges s kept p q a call is = let e = numbered edges p q call in
+    let z = kept.ordered.falls e.at a e.inside (ap s.mark e.caller ∙ is) in
+    (z.0, ap s.mark (sym e.callee) ∙ z.1, z.2)
+
+way_group : (edges : List Edge) (s : State) → Kept edges s → (p q a n : ℕ) → Way edges p q n → s.mark p ≡ Done a → (b : ℕ) × (s.mark q ≡ Done b) × (b ≤ a)
+way_group edges s kept p q a zero way is = (a, ap s.mark (sym way) ∙ is, omega arith)
+way_group edges s kept p q a (suc n) way is =
+    let z = way_group edges s kept p way.0 a n way.1 is in
+    let y = callee_group edges s kept way.0 q z.0 way.2 z.1 in
+    let first : z.0 ≤ a = z.2 in let last : y.0 ≤ z.0 = y.2 in (y.0, y.1, omega arith)
+
+-- where no call stays within a group, the order of the groups is an order of the calls
+pub order_of : (edges : List Edge) (marks : List Mark) (met : List ℕ) (path : List Frame) (order : List ℕ) → Kept edges (state_of marks met path order) → length path ≡ 0 →
+    ((i : ℕ) → i < length edges → mark_at marks (caller_at edges i) ≢ Unseen) → ((i : ℕ) → i < length edges → Within edges marks i → ⊥) → IsCallOrder edges order
+order_of edges marks met path order kept empty seen none =
+    let s : State = state_of marks met path order in
+    let old = kept.ordered in
+    let listed : (p a : ℕ) → mark_at marks p ≡ Done a → Contains order p = λ p a is. let z = old.listed p a is in contains_at order z.0 p z.1 z.2 in
     record {
       listed = λ p occurs. elim occurs.1 [
-        | inl call ↦ let z = caller_ordered p occurs.0 call in listed_at p z.0 z.1
-        | inr call ↦ let z = caller_ordered occurs.0 p call in let y = callee_before occurs.0 p z.0 call z.1 in listed_at p y.0 y.1
+        | inl call ↦ let z = caller_group edges s kept empty seen p occurs.0 call in listed p z.0 z.1
+        | inr call ↦ let z = caller_group edges s kept empty seen occurs.0 p call in let y = callee_group edges s kept occurs.0 p z.0 call z.1 in listed p y.0 y.1
       ];
-      only = λ p c. let z = place_of list p c in
-          let is : mark_at marks p ≡ Ordered z.0 = ap (mark_at marks) (sym z.2) ∙ kept.ordered_at z.0 z.1 in
-          elim (kept.known p) [ inl u ↦ absurd cc | inr k ↦ k ];
-      once = λ i j l h same.
-          let a : mark_at marks (get_or list i 0) ≡ Ordered i = kept.ordered_at i (omega arith) in
-          let b : mark_at marks (get_or list j 0) ≡ Ordered j = kept.ordered_at j h in
-          let c = ap (mark_at marks) same in
-          let equal : i ≡ j = cc in omega arith;
+      only = λ p c. let z = place_of order p c in
+          let at = old.listed_at z.0 z.1 in
+          let is : mark_at marks p ≡ Done at.0 = ap (mark_at marks) (sym z.2) ∙ at.1 in
+          elim (kept.stands.known p) [ inl u ↦ absurd cc | inr k ↦ k ];
+      once = old.once;
       callees_first = λ i j h l call.
-          let a : mark_at marks (get_or list i 0) ≡ Ordered i = kept.ordered_at i h in
-          let b : mark_at marks (get_or list j 0) ≡ Ordered j = kept.ordered_at j l in
-          let z = callee_before (get_or list i 0) (get_or list j 0) i call a in
-          let y : mark_at marks (get_or list j 0) ≡ Ordered z.0 = z.1 in
-          let equal : z.0 ≡ j = cc in
-          let x : z.0 < i = z.2 in omega arith;
+          let p : ℕ = get_or order i 0 in let q : ℕ = get_or order j 0 in
+          let a = old.listed_at i h in
+          let b = callee_group edges s kept p q a.0 call a.1 in
+          let falls : b.0 ≤ a.0 = b.2 in
+          elim (cases_lt j i) [
+            | inl x ↦ x
+            | inr x ↦ let rises : a.0 ≤ b.0 = old.upward i j a.0 b.0 x l a.1 b.1 in
+                let same : b.0 ≡ a.0 = omega arith in
+                let e = numbered edges p q call in
+                absurd (none e.at e.inside (a.0, ap (mark_at marks) e.caller ∙ a.1, ap (mark_at marks) e.callee ∙ (b.1 ∙ ap Done same)))
+          ];
+    }
+
+-- the caller of the first call that stays within a group is the lowest procedure that lies on a circle
+pub lowest_start : (edges : List Edge) (marks : List Mark) (met : List ℕ) (path : List Frame) (order : List ℕ) (p i : ℕ) → Kept edges (state_of marks met path order) → length path ≡ 0 →
+    ((i : ℕ) → i < length edges → mark_at marks (caller_at edges i) ≢ Unseen) → ByCaller edges → i < length edges → caller_at edges i ≡ p → Within edges marks i →
+    ((j : ℕ) → j < i → Within edges marks j → ⊥) → IsLowestStart edges p
+lowest_start edges marks met path order p i kept empty seen rising inside is within before =
+    let s : State = state_of marks met path order in
+    let q : ℕ = callee_at edges i in
+    let back : Reaches edges q p = rw (← is) (kept.ordered.joined q (caller_at edges i) within.0 within.2 within.1) in
+    record {
+      returns = returns_of edges p q back.0 (calls_at edges i p q inside is refl) back.1;
+      lowest = λ list cycle k h.
+          let r : ℕ = get_or list k 0 in
+          let z = on_cycle edges list cycle k h in
+          let a = caller_group edges s kept empty seen r z.0 z.1 in
+          let b = callee_group edges s kept r z.0 a.0 z.1 a.1 in
+          let c = way_group edges s kept z.0 r b.0 z.2.0 z.2.1 b.1 in
+          let one : mark_at marks r ≡ Done a.0 = a.1 in
+          let other : mark_at marks r ≡ Done c.0 = c.1 in
+          let equal : a.0 ≡ c.0 = cc in
+          let falls : b.0 ≤ a.0 = b.2 in let more : c.0 ≤ b.0 = c.2 in
+          let same : b.0 ≡ a.0 = omega arith in
+          let e = numbered edges r z.0 z.1 in
+          let stays : Within edges marks e.at = (a.0, ap (mark_at marks) e.caller ∙ a.1, ap (mark_at marks) e.callee ∙ (b.1 ∙ ap Done same)) in
+          elim (cases_lt e.at i) [
+            | inl l ↦ absurd (before e.at l stays)
+            | inr l ↦ let up : caller_at edges i ≤ caller_at edges e.at = rising i e.at (record { caller = 0; callee = 0 }) l e.inside in
+                let caller : caller_at edges e.at ≡ r = e.caller in omega arith
+          ];
     }
 
 -- calls of other edges that are the same calls
@@ -96,13 +134,17 @@ order_same edges others list moved order =
       callees_first = λ i j h l call. order.callees_first i j h l (to (get_or list i 0) (get_or list j 0) call);
     }
 
-pub cycle_same : (edges others : List Edge) (list : List ℕ) → IsPermutation edges others → IsCycle others list → IsCycle edges list
+cycle_same : (edges others : List Edge) (list : List ℕ) → IsPermutation edges others → IsCycle edges list → IsCycle others list
 cycle_same edges others list moved circle =
-    let from : (p q : ℕ) → Calls others p q → Calls edges p q = λ p q call. Contains-permutation others edges (record { caller = p; callee = q }) (IsPermutation-sym edges others moved) call in
-    record { some = circle.some; next = λ i h. from _ _ (circle.next i h); back = from _ _ circle.back }
+    let to : (p q : ℕ) → Calls edges p q → Calls others p q = λ p q call. Contains-permutation edges others (record { caller = p; callee = q }) moved call in
+    record { some = circle.some; next = λ i h. to _ _ (circle.next i h); back = to _ _ circle.back }
 
 pub fault_same : (edges others : List Edge) → IsPermutation edges others → (fault : GraphFault) → IsFaultOf others fault → IsFaultOf edges fault
-fault_same edges others moved (Cycle list) circle = cycle_same edges others list.items moved circle
+fault_same edges others moved (Cycle list) fault = record {
+  cycle = cycle_same others edges list.items (IsPermutation-sym edges others moved) fault.cycle;
+  lowest = λ other cycle. fault.lowest other (cycle_same edges others other moved cycle);
+  shortest = λ other cycle. fault.shortest other (cycle_same edges others other moved cycle);
+}
 fault_same edges others moved NoMemory h = tt
 
 -- along a circle the places in an order go down

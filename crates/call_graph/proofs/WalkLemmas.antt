@@ -1,250 +1,237 @@
 -- Each step of the walk keeps what `Kept` says.
-use Rattle.std.proofs.Common.{◌≡◌, ◌≢◌, ℕ, ◌+◌, ◌-◌, ◌<◌, ◌≤◌, inl, inr, sym, ◌∙◌, ap, arith, subst, below_more}
-use Rattle.std.proofs.lemmas.Bool.{cases_eq}
-use Rattle.std.proofs.Common.{List, [], ◌∷◌, ◌++◌, length, set, length-append, length-set, get_or, take, drop, map, sum_by, get_or-set_same, get_or-set_other}
-use Rattle.std.proofs.lemmas.List.{get_or-take, length-take-le, get_or_default, get_or-drop, get_or-map, length-drop}
-use Rattle.std.proofs.lemmas.List.{length-map}
-use Rattle.std.proofs.lemmas.List.Sums.{sum_by-set, sum_by_more_le}
-use Rattle.std.proofs.Math.ListN.{get_or-append}
-use Rattle.std.proofs.Math.Seq.{get_or-append_seam}
-use Rattle.call_graph.specs.Calls.{Calls, Occurs, IsCycle}
-use Rattle.call_graph.specs.Walk.{Kept, KeptBy, mark_at, proc_at, next_at, caller_at, callee_at, mark_work, frame_work}
+use Rattle.std.proofs.Common.{◌≡◌, ◌≢◌, ℕ, ◌+◌, ◌<◌, ◌≤◌, min, inl, inr, sym, ◌∙◌, ap, arith, subst, List, length}
+use Rattle.std.proofs.lemmas.Bool.{cases_eq, cases_lt}
+use Rattle.call_graph.specs.Calls.{Occurs, Reaches}
+use Rattle.call_graph.specs.Walk.{State, Settled, Covers, Ordered, Kept, caller_at, callee_at}
 use Rattle.call_graph.specs.declared.edge.Edge.{Edge}
 use Rattle.call_graph.specs.declared.walk.Frame.{Frame}
 use Rattle.call_graph.specs.declared.walk.Mark.{Mark}
-use Rattle.call_graph.specs.declared.walk.Mark.TheVariants.{Unseen, OnPath, Ordered}
+use Rattle.call_graph.specs.declared.walk.Mark.TheVariants.{Unseen, Met, Done}
+use Rattle.call_graph.proofs.CallLemmas.{reaches_self}
 
--- one mark is written
-pub record Marked (mark mark' : ℕ → Mark) (p : ℕ) (m : Mark) : Type 0 where
-  pub same : mark' p ≡ m
-  pub other : (q : ℕ) → q ≢ p → mark' q ≡ mark q
+-- what is settled stays so, at a lower place and under other marks
+pub settled_low : (mark : ℕ → Mark) (low low' q : ℕ) → low' ≤ low → Settled mark low q → Settled mark low' q
+settled_low mark low low' q h x = elim x [ inl d ↦ inl d | inr m ↦ let y : low ≤ m.0 = m.2 in inr (m.0, m.1, omega arith) ]
 
--- a mark of another kind than the old and the new one was there, and is there
-kept_mark : (mark mark' : ℕ → Mark) (p : ℕ) (m : Mark) → Marked mark mark' p m → (q : ℕ) (x : Mark) → mark p ≢ x → mark q ≡ x → mark' q ≡ x
-kept_mark mark mark' p m w q x differs is =
-    let ne : q ≢ p = λ e. differs (sym (ap mark e) ∙ is) in w.other q ne ∙ is
-
-had_mark : (mark mark' : ℕ → Mark) (p : ℕ) (m : Mark) → Marked mark mark' p m → (q : ℕ) (x : Mark) → m ≢ x → mark' q ≡ x → (mark q ≡ x) × (q ≢ p)
-had_mark mark mark' p m w q x differs is =
-    let ne : q ≢ p = λ e. differs (sym w.same ∙ (sym (ap mark' e) ∙ is)) in (sym (w.other q ne) ∙ is, ne)
-
-pub enter_kept : {Known : ℕ → Type 0} {count : ℕ} {caller callee : ℕ → ℕ} {mark : ℕ → Mark} {depth : ℕ} {proc next : ℕ → ℕ} {size : ℕ} {place : ℕ → ℕ} →
-    Kept Known count caller callee mark depth proc next size place → (p b : ℕ) → mark p ≡ Unseen → Known p →
-    ((k : ℕ) → k + 1 ≡ depth → (next k < count) × (caller (next k) ≡ proc k) × (callee (next k) ≡ p)) →
-    (mark' : ℕ → Mark) (proc' next' : ℕ → ℕ) → Marked mark mark' p (OnPath depth) →
-    ((k : ℕ) → k < depth → proc' k ≡ proc k) → ((k : ℕ) → k < depth → next' k ≡ next k) → proc' depth ≡ p → next' depth ≡ b →
-    b ≤ count → ((i : ℕ) → i < b → caller i < p) → ((i : ℕ) → b ≤ i → i < count → p ≤ caller i) →
-    Kept Known count caller callee mark' (depth + 1) proc' next' size place
-enter_kept {Known = Known} {count = count} {caller = caller} {callee = callee} {mark = mark} {depth = depth} {proc = proc} {next = next} {size = size} {place = place}
-    kept p b unseen known called mark' proc' next' marked procs nexts proc_new next_new fits before from =
-    let not_ordered : (j : ℕ) → mark p ≢ Ordered j = λ j e. cc in
-    let not_path : (j : ℕ) → mark p ≢ OnPath j = λ j e. cc in
-    let ordered : (q j : ℕ) → mark q ≡ Ordered j → mark' q ≡ Ordered j = λ q j e. kept_mark mark mark' p (OnPath depth) marked q (Ordered j) (not_ordered j) e in
-    let was_ordered : (q j : ℕ) → mark' q ≡ Ordered j → mark q ≡ Ordered j = λ q j e. (had_mark mark mark' p (OnPath depth) marked q (Ordered j) (λ x. cc) e).0 in
-    record {
-      known = λ q. elim (cases_eq q p) [ inl e ↦ inr (subst Known (sym e) known) | inr ne ↦ elim (kept.known q) [ inl u ↦ inl (marked.other q ne ∙ u) | inr k ↦ inr k ] ];
-      ordered_at = λ k h. ordered (place k) k (kept.ordered_at k h);
-      ordered_is = λ q k e. kept.ordered_is q k (was_ordered q k e);
-      path_at = below_more (λ k. mark' (proc' k) ≡ OnPath k) depth
-          (λ k h. ap mark' (procs k h) ∙ kept_mark mark mark' p (OnPath depth) marked (proc k) (OnPath k) (not_path k) (kept.path_at k h))
-          (ap mark' proc_new ∙ marked.same);
-      path_is = λ q k e. elim (cases_eq q p) [
-        | inl x ↦ let at : k ≡ depth = cc (marked.same, ap mark' x) in (omega arith, ap proc' at ∙ proc_new ∙ sym x)
-        | inr ne ↦ let z = kept.path_is q k (sym (marked.other q ne) ∙ e) in (let l : k < depth = z.0 in omega arith, procs k z.0 ∙ z.1)
-      ];
-      in_range = below_more (λ k. next' k ≤ count) depth (λ k h. let z = kept.in_range k h in rw (nexts k h) z) (rw next_new fits);
-      calls = λ k h. elim (cases_eq (k + 1) depth) [
-        | inl e ↦ let old : k < depth = omega arith in let z = called k e in
-            rw (nexts k old) (z.0, z.1 ∙ sym (procs k old), z.2 ∙ sym proc_new ∙ ap proc' (sym e))
-        | inr ne ↦ let old : k < depth = omega arith in let more : k + 1 < depth = omega arith in let z = kept.calls k more in
-            rw (nexts k old) (z.0, z.1 ∙ sym (procs k old), z.2 ∙ sym (procs (k + 1) more))
-      ];
-      behind = λ k i h. below_more (λ k. (i : ℕ) → i < next' k → caller i ≡ proc' k → (j : ℕ) × (mark' (callee i) ≡ Ordered j)) depth
-          (λ k h i l e. let z = kept.behind k i h (let w : next' k ≡ next k = nexts k h in omega arith) (e ∙ procs k h) in (z.0, ordered (callee i) z.0 z.1))
-          (λ i l e. let w : next' depth ≡ b = next_new in let x : caller i ≡ p = e ∙ proc_new in let y : i < b = omega arith in let z : caller i < p = before i y in absurd (omega arith)) k h i;
-      ahead = λ k i h. below_more (λ k. (i : ℕ) → next' k ≤ i → i < count → proc' k ≤ caller i) depth
-          (λ k h i l e. let w : next' k ≡ next k = nexts k h in let y : proc' k ≡ proc k = procs k h in let v : next k ≤ i = omega arith in let z : proc k ≤ caller i = kept.ahead k i h v e in omega arith)
-          (λ i l e. let w : next' depth ≡ b = next_new in let y : proc' depth ≡ p = proc_new in let v : b ≤ i = omega arith in let z : p ≤ caller i = from i v e in omega arith) k h i;
-      callees_first = λ i k h e. let z = kept.callees_first i k h (was_ordered (caller i) k e) in (z.0, ordered (callee i) z.0 z.1, z.2);
-    }
-
--- a mark of a list is written
-pub marked_set : (marks : List Mark) (p : ℕ) (m : Mark) → p < length marks → Marked (mark_at marks) (mark_at (set marks p m)) p m
-marked_set marks p m h = record {
-  same = get_or-set_same marks p m Unseen h;
-  other = λ q ne. get_or-set_other marks p q m Unseen ne;
+-- an order whose procedures keep their marks
+ordered_same : (edges : List Edge) (mark mark' : ℕ → Mark) (done : ℕ) (order : ℕ → ℕ) → ((q a : ℕ) → mark q ≡ Done a → mark' q ≡ Done a) →
+    ((q a : ℕ) → mark' q ≡ Done a → mark q ≡ Done a) → Ordered edges mark done order → Ordered edges mark' done order
+ordered_same edges mark mark' done order to from old = record {
+  below = λ p a is. old.below p a (from p a is);
+  listed = λ p a is. old.listed p a (from p a is);
+  listed_at = λ k h. let z = old.listed_at k h in (z.0, to (order k) z.0 z.1);
+  once = old.once;
+  upward = λ i j a b l h is is'. old.upward i j a b l h (from (order i) a is) (from (order j) b is');
+  falls = λ i a h is. let z = old.falls i a h (from (caller_at edges i) a is) in (z.0, to (callee_at edges i) z.0 z.1, z.2);
+  joined = λ p q a is is'. old.joined p q a (from p a is) (from q a is');
 }
 
-pub enter_lists : (edges : List Edge) (marks : List Mark) (path : List Frame) (list : List ℕ) (p b : ℕ) →
-    KeptBy edges marks path list → p < length marks → mark_at marks p ≡ Unseen → Occurs edges p →
-    ((k : ℕ) → k + 1 ≡ length path → (next_at path k < length edges) × (caller_at edges (next_at path k) ≡ proc_at path k) × (callee_at edges (next_at path k) ≡ p)) →
-    b ≤ length edges → ((i : ℕ) → i < b → caller_at edges i < p) → ((i : ℕ) → b ≤ i → i < length edges → p ≤ caller_at edges i) →
-    KeptBy edges (set marks p (OnPath (length path))) (path ++ (record { proc = p; next = b }) ∷ []) list
-enter_lists edges marks path list p b kept h unseen known called fits before from =
-    let longer : length (path ++ (record { proc = p; next = b }) ∷ []) ≡ length path + 1 = length-append path ((record { proc = p; next = b }) ∷ []) in
-    rw longer (enter_kept kept p b unseen known called (mark_at (set marks p (OnPath (length path))))
-    (proc_at (path ++ (record { proc = p; next = b }) ∷ [])) (next_at (path ++ (record { proc = p; next = b }) ∷ []))
-    (marked_set marks p (OnPath (length path)) h)
-    (λ k l. ap (λ f. f.proc) (get_or-append path ((record { proc = p; next = b }) ∷ []) (record { proc = 0; next = 0 }) k l))
-    (λ k l. ap (λ f. f.next) (get_or-append path ((record { proc = p; next = b }) ∷ []) (record { proc = 0; next = 0 }) k l))
-    (ap (λ f. f.proc) (get_or-append_seam path (record { proc = p; next = b }) [] (record { proc = 0; next = 0 })))
-    (ap (λ f. f.next) (get_or-append_seam path (record { proc = p; next = b }) [] (record { proc = 0; next = 0 })))
-    fits before from)
+-- one procedure more is met, and goes on the path
+pub record Entered (s t : State) (p b : ℕ) : Type 0 where
+  pub mark_new : t.mark p ≡ Met s.size
+  pub mark_old : (q : ℕ) → q ≢ p → t.mark q ≡ s.mark q
+  pub size : t.size ≡ s.size + 1
+  pub met_new : (i : ℕ) → i ≡ s.size → t.met i ≡ p
+  pub met_old : (i : ℕ) → i < s.size → t.met i ≡ s.met i
+  pub depth : t.depth ≡ s.depth + 1
+  pub frame_new : (k : ℕ) → k ≡ s.depth → t.frame k ≡ record { place = s.size; next = b; low = s.size }
+  pub frame_old : (k : ℕ) → k < s.depth → t.frame k ≡ s.frame k
+  pub done : t.done ≡ s.done
+  pub order : t.order ≡ s.order
 
-pub advance_kept : {Known : ℕ → Type 0} {count : ℕ} {caller callee : ℕ → ℕ} {mark : ℕ → Mark} {depth : ℕ} {proc next : ℕ → ℕ} {size : ℕ} {place : ℕ → ℕ} →
-    Kept Known count caller callee mark depth proc next size place → (n : ℕ) → n + 1 ≡ depth → next n < count → (j : ℕ) → mark (callee (next n)) ≡ Ordered j →
-    (proc' next' : ℕ → ℕ) → ((k : ℕ) → k < depth → proc' k ≡ proc k) → ((k : ℕ) → k ≢ n → next' k ≡ next k) → next' n ≡ next n + 1 →
-    Kept Known count caller callee mark depth proc' next' size place
-advance_kept {Known = Known} {count = count} {caller = caller} {callee = callee} {mark = mark} {depth = depth} {proc = proc} {next = next} {size = size} {place = place}
-    kept n last edge j ordered proc' next' procs nexts step =
+pub enter_kept : (edges : List Edge) (s t : State) (p b : ℕ) → Kept edges s → Entered s t p b → s.mark p ≡ Unseen → Occurs edges p →
+    ((k : ℕ) → k + 1 ≡ s.depth → ((s.frame k).next < length edges) × (caller_at edges (s.frame k).next ≡ s.met (s.frame k).place) × (callee_at edges (s.frame k).next ≡ p)) →
+    b ≤ length edges → ((i : ℕ) → i < b → caller_at edges i < p) → ((i : ℕ) → b ≤ i → i < length edges → p ≤ caller_at edges i) → Kept edges t
+enter_kept edges s t p b kept e unseen known called fits before from =
+    let size : t.size ≡ s.size + 1 = e.size in
+    let depth : t.depth ≡ s.depth + 1 = e.depth in
+    let met_mark : (q i : ℕ) → s.mark q ≡ Met i → t.mark q ≡ Met i = λ q i is. e.mark_old q (λ same. let x = ap s.mark same in cc) ∙ is in
+    let done_mark : (q a : ℕ) → s.mark q ≡ Done a → t.mark q ≡ Done a = λ q a is. e.mark_old q (λ same. let x = ap s.mark same in cc) ∙ is in
+    let was_done : (q a : ℕ) → t.mark q ≡ Done a → s.mark q ≡ Done a =
+    λ q a is. elim (cases_eq q p) [ inl same ↦ absurd (let x = ap t.mark same in let y = e.mark_new in cc) | inr ne ↦ sym (e.mark_old q ne) ∙ is ] in
+    let settled : (low q : ℕ) → Settled s.mark low q → Settled t.mark low q =
+    λ low q x. elim x [ inl d ↦ inl (d.0, done_mark q d.0 d.1) | inr m ↦ inr (m.0, met_mark q m.0 m.1, m.2) ] in
+    let place : (k : ℕ) → k < s.depth → (t.frame k).place ≡ (s.frame k).place = λ k h. ap (λ f. f.place) (e.frame_old k h) in
+    let next : (k : ℕ) → k < s.depth → (t.frame k).next ≡ (s.frame k).next = λ k h. ap (λ f. f.next) (e.frame_old k h) in
+    let low : (k : ℕ) → k < s.depth → (t.frame k).low ≡ (s.frame k).low = λ k h. ap (λ f. f.low) (e.frame_old k h) in
+    let proc : (k : ℕ) → k < s.depth → t.met (t.frame k).place ≡ s.met (s.frame k).place =
+    λ k h. ap t.met (place k h) ∙ e.met_old (s.frame k).place (kept.stands.placed k h) in
+    let place_new : (k : ℕ) → k ≡ s.depth → (t.frame k).place ≡ s.size = λ k h. ap (λ f. f.place) (e.frame_new k h) in
+    let next_new : (k : ℕ) → k ≡ s.depth → (t.frame k).next ≡ b = λ k h. ap (λ f. f.next) (e.frame_new k h) in
+    let low_new : (k : ℕ) → k ≡ s.depth → (t.frame k).low ≡ s.size = λ k h. ap (λ f. f.low) (e.frame_new k h) in
+    let proc_new : (k : ℕ) → k ≡ s.depth → t.met (t.frame k).place ≡ p = λ k h. e.met_new (t.frame k).place (place_new k h) in
+    let covers : (k j : ℕ) → k < s.depth → Covers t k j → Covers s k j = λ k j h c.
+    let a : (t.frame k).place ≡ (s.frame k).place = place k h in
+    let f : (t.frame k).place ≤ j = c.from in
+    let below : k + 1 < s.depth → j < (s.frame (k + 1)).place =
+    λ l. let x : (t.frame (k + 1)).place ≡ (s.frame (k + 1)).place = place (k + 1) l in let y : j < (t.frame (k + 1)).place = c.below (omega arith) in omega arith in
     record {
-      known = kept.known;
-      ordered_at = kept.ordered_at;
-      ordered_is = kept.ordered_is;
-      path_at = λ k h. ap mark (procs k h) ∙ kept.path_at k h;
-      path_is = λ q k e. let z = kept.path_is q k e in (z.0, procs k z.0 ∙ z.1);
-      in_range = λ k h. elim (cases_eq k n) [
-        | inl e ↦ let w : next' k ≡ next n + 1 = ap next' e ∙ step in omega arith
-        | inr ne ↦ let w : next' k ≡ next k = nexts k ne in let z : next k ≤ count = kept.in_range k h in omega arith
+      on = h;
+      from = omega arith;
+      inside = elim (cases_eq (k + 1) s.depth) [
+        | inl same ↦ let x : (t.frame (k + 1)).place ≡ s.size = place_new (k + 1) same in let y : j < (t.frame (k + 1)).place = c.below (omega arith) in omega arith
+        | inr ne ↦ let more : k + 1 < s.depth = omega arith in
+            let x : j < (s.frame (k + 1)).place = below more in
+            let y : (s.frame (k + 1)).place < s.size = kept.stands.placed (k + 1) more in omega arith
       ];
-      calls = λ k h. let ne : k ≢ n = omega arith in let z = kept.calls k h in let old : k < depth = omega arith in
-          rw (nexts k ne) (z.0, z.1 ∙ sym (procs k old), z.2 ∙ sym (procs (k + 1) h));
-      behind = λ k i h l e. elim (cases_eq k n) [
-        | inl x ↦ let w : next' k ≡ next n + 1 = ap next' x ∙ step in
-            elim (cases_eq i (next n)) [
-              | inl y ↦ (j, ap (λ v. mark (callee v)) y ∙ ordered)
-              | inr ne ↦ kept.behind k i h (let v : next k ≡ next n = ap next x in omega arith) (e ∙ procs k h)
-            ]
-        | inr ne ↦ kept.behind k i h (let w : next' k ≡ next k = nexts k ne in omega arith) (e ∙ procs k h)
-      ];
-      ahead = λ k i h l e. let y : proc' k ≡ proc k = procs k h in
-          let v : next k ≤ i = elim (cases_eq k n) [
-            | inl x ↦ let w : next' k ≡ next n + 1 = ap next' x ∙ step in let z : next k ≡ next n = ap next x in omega arith
-            | inr ne ↦ let w : next' k ≡ next k = nexts k ne in omega arith
-          ] in
-          let z : proc k ≤ caller i = kept.ahead k i h v e in omega arith;
-      callees_first = kept.callees_first;
+      below = below;
+    } in
+    let covers_new : (k j : ℕ) → k ≡ s.depth → Covers t k j → j ≡ s.size = λ k j h c.
+    let x : (t.frame k).place ≡ s.size = place_new k h in let y : (t.frame k).place ≤ j = c.from in let z : j < t.size = c.inside in omega arith in
+    let met_same : (k j : ℕ) → (h : k < s.depth) → Covers t k j → t.met j ≡ s.met j = λ k j h c. e.met_old j (covers k j h c).inside in
+    record {
+      stands = record {
+        known = λ q. elim (cases_eq q p) [ inl same ↦ inr (subst (Occurs edges) (sym same) known) | inr ne ↦ elim (kept.stands.known q) [ inl u ↦ inl (e.mark_old q ne ∙ u) | inr k ↦ inr k ] ];
+        met_at = λ i h. elim (cases_eq i s.size) [
+          | inl same ↦ ap t.mark (e.met_new i same) ∙ (e.mark_new ∙ ap Met (sym same))
+          | inr ne ↦ let l : i < s.size = omega arith in ap t.mark (e.met_old i l) ∙ met_mark (s.met i) i (kept.stands.met_at i l)
+        ];
+        met_is = λ q i is. elim (cases_eq q p) [
+          | inl same ↦ let at : i ≡ s.size = (let x = ap t.mark same in let y = e.mark_new in cc) in (omega arith, e.met_new i at ∙ sym same)
+          | inr ne ↦ let z = kept.stands.met_is q i (sym (e.mark_old q ne) ∙ is) in let l : i < s.size = z.0 in (omega arith, e.met_old i l ∙ z.1)
+        ];
+        root = λ some. elim (cases_eq 0 s.depth) [
+          | inl same ↦ place_new 0 same ∙ kept.stands.none (sym same)
+          | inr ne ↦ let l : 0 < s.depth = omega arith in place 0 l ∙ kept.stands.root l
+        ];
+        none = λ x. absurd (omega arith);
+        placed = λ k h. elim (cases_eq k s.depth) [
+          | inl same ↦ let x : (t.frame k).place ≡ s.size = place_new k same in omega arith
+          | inr ne ↦ let l : k < s.depth = omega arith in let x : (t.frame k).place ≡ (s.frame k).place = place k l in let y : (s.frame k).place < s.size = kept.stands.placed k l in omega arith
+        ];
+        rising = λ k h. let l : k < s.depth = omega arith in
+            let x : (t.frame k).place ≡ (s.frame k).place = place k l in
+            elim (cases_eq (k + 1) s.depth) [
+              | inl same ↦ let y : (t.frame (k + 1)).place ≡ s.size = place_new (k + 1) same in let z : (s.frame k).place < s.size = kept.stands.placed k l in omega arith
+              | inr ne ↦ let m : k + 1 < s.depth = omega arith in
+                  let y : (t.frame (k + 1)).place ≡ (s.frame (k + 1)).place = place (k + 1) m in let z : (s.frame k).place < (s.frame (k + 1)).place = kept.stands.rising k m in omega arith
+            ];
+        lower = λ k h. elim (cases_eq k s.depth) [
+          | inl same ↦ let x : (t.frame k).place ≡ s.size = place_new k same in let y : (t.frame k).low ≡ s.size = low_new k same in omega arith
+          | inr ne ↦ let l : k < s.depth = omega arith in
+              let x : (t.frame k).place ≡ (s.frame k).place = place k l in let y : (t.frame k).low ≡ (s.frame k).low = low k l in
+              let z : (s.frame k).low ≤ (s.frame k).place = kept.stands.lower k l in omega arith
+        ];
+        in_range = λ k h. elim (cases_eq k s.depth) [
+          | inl same ↦ let x : (t.frame k).next ≡ b = next_new k same in omega arith
+          | inr ne ↦ let l : k < s.depth = omega arith in let x : (t.frame k).next ≡ (s.frame k).next = next k l in let y : (s.frame k).next ≤ length edges = kept.stands.in_range k l in omega arith
+        ];
+        calls = λ k h. let l : k < s.depth = omega arith in
+            elim (cases_eq (k + 1) s.depth) [
+              | inl same ↦ let z = called k same in rw (next k l) (z.0, z.1 ∙ sym (proc k l), z.2 ∙ sym (proc_new (k + 1) same))
+              | inr ne ↦ let m : k + 1 < s.depth = omega arith in let z = kept.stands.calls k m in rw (next k l) (z.0, z.1 ∙ sym (proc k l), z.2 ∙ sym (proc (k + 1) m))
+            ];
+        ahead = λ k i h l m. elim (cases_eq k s.depth) [
+          | inl same ↦ let x : (t.frame k).next ≡ b = next_new k same in let y : t.met (t.frame k).place ≡ p = proc_new k same in
+              let a : b ≤ i = omega arith in let z : p ≤ caller_at edges i = from i a m in omega arith
+          | inr ne ↦ let n : k < s.depth = omega arith in let x : (t.frame k).next ≡ (s.frame k).next = next k n in
+              let y : t.met (t.frame k).place ≡ s.met (s.frame k).place = proc k n in
+              let a : (s.frame k).next ≤ i = omega arith in let z : s.met (s.frame k).place ≤ caller_at edges i = kept.stands.ahead k i n a m in omega arith
+        ];
+        behind = λ k i h l is. elim (cases_eq k s.depth) [
+          | inl same ↦ let x : (t.frame k).next ≡ b = next_new k same in let a : i < b = omega arith in
+              let y : caller_at edges i ≡ p = is ∙ proc_new k same in let z : caller_at edges i < p = before i a in absurd (omega arith)
+          | inr ne ↦ let n : k < s.depth = omega arith in let x : (t.frame k).next ≡ (s.frame k).next = next k n in let a : i < (s.frame k).next = omega arith in
+              rw (low k n) (settled (s.frame k).low (callee_at edges i) (kept.stands.behind k i n a (is ∙ proc k n)))
+        ];
+        shut = λ k j i c h l is. elim (cases_eq k s.depth) [
+          | inl same ↦ let x : j ≡ s.size = covers_new k j same c in let y : (t.frame k).place ≡ s.size = place_new k same in absurd (omega arith)
+          | inr ne ↦ let on : k < t.depth = c.on in let n : k < s.depth = omega arith in let x : (t.frame k).place ≡ (s.frame k).place = place k n in let a : (s.frame k).place < j = omega arith in
+              rw (low k n) (settled (s.frame k).low (callee_at edges i) (kept.stands.shut k j i (covers k j n c) a l (is ∙ met_same k j n c)))
+        ];
+      };
+      leads = record {
+        forth = λ k j c. elim (cases_eq k s.depth) [
+          | inl same ↦ let x : j ≡ (t.frame k).place = covers_new k j same c ∙ sym (place_new k same) in subst (λ y. Reaches edges (t.met (t.frame k).place) (t.met y)) (sym x) (reaches_self edges (t.met (t.frame k).place))
+          | inr ne ↦ let on : k < t.depth = c.on in let n : k < s.depth = omega arith in rw (proc k n, met_same k j n c) (kept.leads.forth k j (covers k j n c))
+        ];
+        round = λ k j c. elim (cases_eq k s.depth) [
+          | inl same ↦ let x : j ≡ (t.frame k).place = covers_new k j same c ∙ sym (place_new k same) in subst (λ y. Reaches edges (t.met y) (t.met (t.frame k).place)) (sym x) (reaches_self edges (t.met (t.frame k).place))
+          | inr ne ↦ let on : k < t.depth = c.on in let n : k < s.depth = omega arith in rw (proc k n, met_same k j n c) (kept.leads.round k j (covers k j n c))
+        ];
+        back = λ k h. elim (cases_eq k s.depth) [
+          | inl same ↦ let x : (t.frame k).low ≡ (t.frame k).place = low_new k same ∙ sym (place_new k same) in subst (λ y. Reaches edges (t.met (t.frame k).place) (t.met y)) (sym x) (reaches_self edges (t.met (t.frame k).place))
+          | inr ne ↦ let n : k < s.depth = omega arith in
+              let lower : (s.frame k).low ≤ (s.frame k).place = kept.stands.lower k n in let placed : (s.frame k).place < s.size = kept.stands.placed k n in
+              let same_low : t.met (t.frame k).low ≡ s.met (s.frame k).low = ap t.met (low k n) ∙ e.met_old (s.frame k).low (omega arith) in
+              rw (proc k n, same_low) (kept.leads.back k n)
+        ];
+      };
+      ordered = rw (e.done, e.order) (ordered_same edges s.mark t.mark s.done s.order done_mark was_done kept.ordered);
     }
 
-pub leave_kept : {Known : ℕ → Type 0} {count : ℕ} {caller callee : ℕ → ℕ} {mark : ℕ → Mark} {depth : ℕ} {proc next : ℕ → ℕ} {size : ℕ} {place : ℕ → ℕ} →
-    Kept Known count caller callee mark depth proc next size place → (n : ℕ) → n + 1 ≡ depth → Known (proc n) →
-    ((i : ℕ) → i < count → caller i ≡ proc n → i < next n) →
-    (mark' : ℕ → Mark) (proc' next' place' : ℕ → ℕ) → Marked mark mark' (proc n) (Ordered size) →
-    ((k : ℕ) → k < n → proc' k ≡ proc k) → ((k : ℕ) → k < n → next' k ≡ next k) →
-    ((k : ℕ) → k < size → place' k ≡ place k) → place' size ≡ proc n →
-    Kept Known count caller callee mark' n proc' next' (size + 1) place'
-leave_kept {Known = Known} {count = count} {caller = caller} {callee = callee} {mark = mark} {depth = depth} {proc = proc} {next = next} {size = size} {place = place}
-    kept n last known done mark' proc' next' place' marked procs nexts places place_new =
-    let on_path : mark (proc n) ≡ OnPath n = kept.path_at n (omega arith) in
-    let not_ordered : (k : ℕ) → mark (proc n) ≢ Ordered k = λ k e. cc in
-    let ordered : (q k : ℕ) → mark q ≡ Ordered k → mark' q ≡ Ordered k = λ q k e. kept_mark mark mark' (proc n) (Ordered size) marked q (Ordered k) (not_ordered k) e in
+-- the last frame on the path goes past its edge
+pub advance_kept : (edges : List Edge) (s : State) (n to : ℕ) (frame' : ℕ → Frame) → Kept edges s → n + 1 ≡ s.depth → (s.frame n).next < length edges →
+    Settled s.mark to (callee_at edges (s.frame n).next) → Reaches edges (s.met (s.frame n).place) (s.met to) → ((k : ℕ) → k ≢ n → frame' k ≡ s.frame k) →
+    frame' n ≡ record { place = (s.frame n).place; next = (s.frame n).next + 1; low = min (s.frame n).low to } → Kept edges (record s { frame = frame' })
+advance_kept edges s n to frame' kept last edge settled reaches other new =
+    let t : State = record s { frame = frame' } in
+    let place : (k : ℕ) → (frame' k).place ≡ (s.frame k).place = λ k. elim (cases_eq k n) [
+      | inl e ↦ ap (λ x. (frame' x).place) e ∙ (ap (λ f. f.place) new ∙ ap (λ x. (s.frame x).place) (sym e))
+      | inr ne ↦ ap (λ f. f.place) (other k ne)
+    ] in
+    let next_new : (k : ℕ) → k ≡ n → (frame' k).next ≡ (s.frame k).next + 1 = λ k e. ap (λ x. (frame' x).next) e ∙ (ap (λ f. f.next) new ∙ ap (λ x. (s.frame x).next + 1) (sym e)) in
+    let next_old : (k : ℕ) → k ≢ n → (frame' k).next ≡ (s.frame k).next = λ k ne. ap (λ f. f.next) (other k ne) in
+    let low_new : (k : ℕ) → k ≡ n → (frame' k).low ≡ min (s.frame k).low to = λ k e. ap (λ x. (frame' x).low) e ∙ (ap (λ f. f.low) new ∙ ap (λ x. min (s.frame x).low to) (sym e)) in
+    let low_old : (k : ℕ) → k ≢ n → (frame' k).low ≡ (s.frame k).low = λ k ne. ap (λ f. f.low) (other k ne) in
+    let under : (k : ℕ) → (frame' k).low ≤ (s.frame k).low = λ k. elim (cases_eq k n) [
+      | inl e ↦ let x : (frame' k).low ≡ min (s.frame k).low to = low_new k e in omega arith
+      | inr ne ↦ let x : (frame' k).low ≡ (s.frame k).low = low_old k ne in omega arith
+    ] in
+    let weak : (k q : ℕ) → Settled s.mark (s.frame k).low q → Settled s.mark (frame' k).low q = λ k q x. settled_low s.mark (s.frame k).low (frame' k).low q (under k) x in
+    let covers : (k j : ℕ) → Covers t k j → Covers s k j = λ k j c. record {
+      on = c.on;
+      from = let x : (frame' k).place ≡ (s.frame k).place = place k in let y : (frame' k).place ≤ j = c.from in omega arith;
+      inside = c.inside;
+      below = λ l. let x : (frame' (k + 1)).place ≡ (s.frame (k + 1)).place = place (k + 1) in let y : j < (frame' (k + 1)).place = c.below l in omega arith;
+    } in
+    let proc : (k : ℕ) → s.met (frame' k).place ≡ s.met (s.frame k).place = λ k. ap s.met (place k) in
     record {
-      known = λ q. elim (cases_eq q (proc n)) [ inl e ↦ inr (subst Known (sym e) known) | inr ne ↦ elim (kept.known q) [ inl u ↦ inl (marked.other q ne ∙ u) | inr k ↦ inr k ] ];
-      ordered_at = below_more (λ k. mark' (place' k) ≡ Ordered k) size
-          (λ k h. ap mark' (places k h) ∙ ordered (place k) k (kept.ordered_at k h))
-          (ap mark' place_new ∙ marked.same);
-      ordered_is = λ q k e. elim (cases_eq q (proc n)) [
-        | inl x ↦ let at : k ≡ size = cc (marked.same, ap mark' x) in (omega arith, ap place' at ∙ place_new ∙ sym x)
-        | inr ne ↦ let z = kept.ordered_is q k (sym (marked.other q ne) ∙ e) in (let l : k < size = z.0 in omega arith, places k z.0 ∙ z.1)
-      ];
-      path_at = λ k h. let here : mark (proc k) ≡ OnPath k = kept.path_at k (omega arith) in
-          let differs : mark (proc n) ≢ OnPath k = λ e. let same : k ≡ n = cc in omega arith in
-          ap mark' (procs k h) ∙ kept_mark mark mark' (proc n) (Ordered size) marked (proc k) (OnPath k) differs here;
-      path_is = λ q k e.
-          let had = had_mark mark mark' (proc n) (Ordered size) marked q (OnPath k) (λ x. cc) e in
-          let z = kept.path_is q k had.0 in
-          let differs : k ≢ n = λ same. had.1 (sym z.1 ∙ ap proc same) in
-          let l : k < depth = z.0 in let below : k < n = omega arith in
-          (below, procs k below ∙ z.1);
-      in_range = λ k h. let z : next k ≤ count = kept.in_range k (omega arith) in let w : next' k ≡ next k = nexts k h in omega arith;
-      calls = λ k h. let old : k < n = omega arith in let z = kept.calls k (omega arith) in
-          rw (nexts k old) (z.0, z.1 ∙ sym (procs k old), z.2 ∙ sym (procs (k + 1) h));
-      behind = λ k i h l e. let w : next' k ≡ next k = nexts k h in
-          let z = kept.behind k i (omega arith) (omega arith) (e ∙ procs k h) in (z.0, ordered (callee i) z.0 z.1);
-      ahead = λ k i h l e. let w : next' k ≡ next k = nexts k h in let y : proc' k ≡ proc k = procs k h in let v : next k ≤ i = omega arith in
-          let z : proc k ≤ caller i = kept.ahead k i (omega arith) v e in omega arith;
-      callees_first = λ i k h e. elim (cases_eq (caller i) (proc n)) [
-        | inl x ↦ let at : k ≡ size = cc (marked.same, ap mark' x) in
-            let z = kept.behind n i (omega arith) (done i h x) x in
-            let l : z.0 < size = (kept.ordered_is (callee i) z.0 z.1).0 in
-            (z.0, ordered (callee i) z.0 z.1, omega arith)
-        | inr ne ↦ let z = kept.callees_first i k h (sym (marked.other (caller i) ne) ∙ e) in (z.0, ordered (callee i) z.0 z.1, z.2)
-      ];
-    }
-
-pub advance_lists : (edges : List Edge) (marks : List Mark) (path : List Frame) (list : List ℕ) (n j : ℕ) (f : Frame) →
-    KeptBy edges marks path list → n + 1 ≡ length path → next_at path n < length edges → mark_at marks (callee_at edges (next_at path n)) ≡ Ordered j →
-    f.proc ≡ proc_at path n → f.next ≡ next_at path n + 1 → KeptBy edges marks (set path n f) list
-advance_lists edges marks path list n j f kept last edge ordered proc next =
-    let inside : n < length path = omega arith in
-    let start : Frame = record { proc = 0; next = 0 } in
-    let here : get_or (set path n f) n start ≡ f = get_or-set_same path n f start inside in
-    rw length-set (advance_kept kept n last edge j ordered (proc_at (set path n f)) (next_at (set path n f))
-    (λ k h. elim (cases_eq k n) [
-      | inl e ↦ ap (proc_at (set path n f)) e ∙ ap (λ x. x.proc) here ∙ proc ∙ ap (proc_at path) (sym e)
-      | inr ne ↦ ap (λ x. x.proc) (get_or-set_other path n k f start ne)
-    ])
-    (λ k ne. ap (λ x. x.next) (get_or-set_other path n k f start ne))
-    (ap (λ x. x.next) here ∙ next))
-
-pub leave_lists : (edges : List Edge) (marks : List Mark) (path : List Frame) (list : List ℕ) (n : ℕ) →
-    KeptBy edges marks path list → n + 1 ≡ length path → proc_at path n < length marks →
-    ((i : ℕ) → i < length edges → caller_at edges i ≡ proc_at path n → i < next_at path n) →
-    KeptBy edges (set marks (proc_at path n) (Ordered (length list))) (take n path) (list ++ proc_at path n ∷ [])
-leave_lists edges marks path list n kept last inside done =
-    let start : Frame = record { proc = 0; next = 0 } in
-    let shorter : length (take n path) ≡ n = length-take-le n path (omega arith) in
-    let longer : length (list ++ proc_at path n ∷ []) ≡ length list + 1 = length-append list (proc_at path n ∷ []) in
-    let on_path : mark_at marks (proc_at path n) ≡ OnPath n = kept.path_at n (omega arith) in
-    let known : Occurs edges (proc_at path n) = elim (kept.known (proc_at path n)) [ inl e ↦ absurd cc | inr k ↦ k ] in
-    rw (shorter, longer) (leave_kept kept n last known done (mark_at (set marks (proc_at path n) (Ordered (length list))))
-    (proc_at (take n path)) (next_at (take n path)) (λ k. get_or (list ++ proc_at path n ∷ []) k 0)
-    (marked_set marks (proc_at path n) (Ordered (length list)) inside)
-    (λ k h. ap (λ x. x.proc) (get_or-take n path k start h))
-    (λ k h. ap (λ x. x.next) (get_or-take n path k start h))
-    (λ k h. get_or-append list (proc_at path n ∷ []) 0 k h)
-    (get_or-append_seam list (proc_at path n) [] 0))
-
--- a procedure that leaves the path leaves less of the walk
-pub leave_less : (count n p m : ℕ) (marks : List Mark) (path : List Frame) → n + 1 ≡ length path → next_at path n ≤ count → p < length marks →
-    sum_by (mark_work count) (set marks p (Ordered m)) + sum_by (frame_work count) (take n path) < sum_by (mark_work count) marks + sum_by (frame_work count) path
-leave_less count n p m marks path last fits inside =
-    let written : sum_by (mark_work count) (set marks p (Ordered m)) + mark_work count (get_or marks p Unseen) ≡ sum_by (mark_work count) marks + 0 = sum_by-set (mark_work count) marks p (Ordered m) Unseen inside in
-    let here : n < length path = omega arith in
-    let left : sum_by (frame_work count) (take n path) + ((count + 1) - next_at path n) ≤ sum_by (frame_work count) path = sum_by_more_le (frame_work count) path n (record { proc = 0; next = 0 }) here in
-    omega arith
-
--- the edge of a number is a call
-pub calls_at : (edges : List Edge) (k p q : ℕ) → k < length edges → caller_at edges k ≡ p → callee_at edges k ≡ q → Calls edges p q
-calls_at edges k p q h caller callee = (
-  k,
-  h,
-  get_or_default edges k (record { caller = p; callee = q }) (record { caller = 0; callee = 0 }) h
-      ∙ (ap (λ v. record { caller = v; callee = callee_at edges k }) caller ∙ ap (λ v. record { caller = p; callee = v }) callee),
-)
-
--- the path from a depth on is a circle, where the last procedure on it calls the one at this depth
-pub cycle_lists : (edges : List Edge) (marks : List Mark) (path : List Frame) (list : List ℕ) (n start p : ℕ) →
-    KeptBy edges marks path list → n + 1 ≡ length path → next_at path n < length edges → caller_at edges (next_at path n) ≡ proc_at path n →
-    callee_at edges (next_at path n) ≡ p → mark_at marks p ≡ OnPath start →
-    IsCycle edges (map (λ f. f.proc) (drop start path))
-cycle_lists edges marks path list n start p kept last edge caller callee mark =
-    let there = kept.path_is p start mark in
-    let below : start < length path = there.0 in
-    let procs = map (λ (f : Frame). f.proc) (drop start path) in
-    let long : length procs ≡ length path - start = length-map (drop start path) (λ (f : Frame). f.proc) ∙ length-drop start path in
-    let at : (i : ℕ) → start + i < length path → get_or procs i 0 ≡ proc_at path (start + i) =
-    λ i h. get_or-map (λ (f : Frame). f.proc) (drop start path) i (record { proc = 0; next = 0 }) 0 (rw (length-drop start path) (omega arith))
-    ∙ ap (λ f. f.proc) (get_or-drop start path i (record { proc = 0; next = 0 })) in
-    let end : start + (length procs - 1) ≡ n = omega arith in
-    let first : get_or procs 0 0 ≡ p = at 0 (omega arith) ∙ (ap (proc_at path) (omega arith) ∙ there.1) in
-    let final : get_or procs (length procs - 1) 0 ≡ proc_at path n = at (length procs - 1) (omega arith) ∙ ap (proc_at path) end in
-    record {
-      some = omega arith;
-      next = λ i h.
-          let here = at i (omega arith) in let after = at (i + 1) (omega arith) in
-          let deeper : (start + i) + 1 < length path = omega arith in
-          let z = kept.calls (start + i) deeper in
-          calls_at edges (next_at path (start + i)) _ _ z.0 (z.1 ∙ sym here) (z.2 ∙ (ap (proc_at path) (omega arith) ∙ sym after));
-      back = calls_at edges (next_at path n) _ _ edge (caller ∙ sym final) (callee ∙ sym first);
+      stands = record {
+        known = kept.stands.known;
+        met_at = kept.stands.met_at;
+        met_is = kept.stands.met_is;
+        root = λ h. place 0 ∙ kept.stands.root h;
+        none = kept.stands.none;
+        placed = λ k h. let x : (frame' k).place ≡ (s.frame k).place = place k in let y : (s.frame k).place < s.size = kept.stands.placed k h in omega arith;
+        rising = λ k h. let x : (frame' k).place ≡ (s.frame k).place = place k in let y : (frame' (k + 1)).place ≡ (s.frame (k + 1)).place = place (k + 1) in
+            let z : (s.frame k).place < (s.frame (k + 1)).place = kept.stands.rising k h in omega arith;
+        lower = λ k h. let x : (frame' k).place ≡ (s.frame k).place = place k in let y : (frame' k).low ≤ (s.frame k).low = under k in
+            let z : (s.frame k).low ≤ (s.frame k).place = kept.stands.lower k h in omega arith;
+        in_range = λ k h. elim (cases_eq k n) [
+          | inl e ↦ let x : (frame' k).next ≡ (s.frame k).next + 1 = next_new k e in let y : (s.frame k).next ≡ (s.frame n).next = ap (λ x. (s.frame x).next) e in omega arith
+          | inr ne ↦ let x : (frame' k).next ≡ (s.frame k).next = next_old k ne in let y : (s.frame k).next ≤ length edges = kept.stands.in_range k h in omega arith
+        ];
+        calls = λ k h. let ne : k ≢ n = omega arith in let z = kept.stands.calls k h in rw (next_old k ne, proc k, proc (k + 1)) z;
+        ahead = λ k i h l m. let x : s.met (frame' k).place ≡ s.met (s.frame k).place = proc k in
+            let y : (s.frame k).next ≤ i = elim (cases_eq k n) [
+              | inl e ↦ let z : (frame' k).next ≡ (s.frame k).next + 1 = next_new k e in omega arith
+              | inr ne ↦ let z : (frame' k).next ≡ (s.frame k).next = next_old k ne in omega arith
+            ] in
+            let z : s.met (s.frame k).place ≤ caller_at edges i = kept.stands.ahead k i h y m in omega arith;
+        behind = λ k i h l is. elim (cases_eq k n) [
+          | inl e ↦ let x : (frame' k).next ≡ (s.frame k).next + 1 = next_new k e in
+              elim (cases_eq i (s.frame k).next) [
+                | inl same ↦ let y : (frame' k).low ≡ min (s.frame k).low to = low_new k e in
+                    let at : i ≡ (s.frame n).next = same ∙ ap (λ x. (s.frame x).next) e in
+                    settled_low s.mark to (frame' k).low (callee_at edges i) (omega arith) (subst (λ x. Settled s.mark to (callee_at edges x)) (sym at) settled)
+                | inr ne ↦ weak k (callee_at edges i) (kept.stands.behind k i h (omega arith) (is ∙ proc k))
+              ]
+          | inr ne ↦ let x : (frame' k).next ≡ (s.frame k).next = next_old k ne in weak k (callee_at edges i) (kept.stands.behind k i h (omega arith) (is ∙ proc k))
+        ];
+        shut = λ k j i c h l is. let x : (frame' k).place ≡ (s.frame k).place = place k in weak k (callee_at edges i) (kept.stands.shut k j i (covers k j c) (omega arith) l is);
+      };
+      leads = record {
+        forth = λ k j c. rw (proc k) (kept.leads.forth k j (covers k j c));
+        round = λ k j c. rw (proc k) (kept.leads.round k j (covers k j c));
+        back = λ k h. elim (cases_eq k n) [
+          | inl e ↦ elim (cases_lt (s.frame k).low to) [
+            | inl l ↦ let x : (frame' k).low ≡ (s.frame k).low = (let y : (frame' k).low ≡ min (s.frame k).low to = low_new k e in omega arith) in rw (proc k, x) (kept.leads.back k h)
+            | inr l ↦ let x : (frame' k).low ≡ to = (let y : (frame' k).low ≡ min (s.frame k).low to = low_new k e in omega arith) in
+                rw (proc k, x) (subst (λ y. Reaches edges (s.met (s.frame y).place) (s.met to)) (sym e) reaches)
+          ]
+          | inr ne ↦ rw (proc k, low_old k ne) (kept.leads.back k h)
+        ];
+      };
+      ordered = kept.ordered;
     }

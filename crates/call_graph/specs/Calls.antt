@@ -1,5 +1,6 @@
 -- What an order of procedures and a circle of calls are.
-use Rattle.std.specs.Prelude.{◌≢◌, ℕ, ◌+◌, ◌-◌, ◌<◌, ◌⊎◌, List, length, Contains, slice_index}
+use Rattle.std.specs.Prelude.{◌≡◌, ◌≢◌, ℕ, ◌+◌, ◌-◌, ◌<◌, ◌≤◌, ◌⊎◌, List, length, Contains, slice_index}
+use Prim.Native.Nat.{zero, suc}
 use Rattle.call_graph.specs.declared.edge.Edge.{Edge}
 use Rattle.call_graph.specs.declared.fault.GraphFault.{GraphFault}
 use Rattle.call_graph.specs.declared.fault.GraphFault.TheVariants.{Cycle, NoMemory}
@@ -11,6 +12,14 @@ Calls edges p q = Contains edges (record { caller = p; callee = q })
 -- p is a procedure of the edges: it calls, or it is called
 abbrev pub Occurs : List Edge → ℕ → Type 0
 Occurs edges p = (q : ℕ) × (Calls edges p q ⊎ Calls edges q p)
+
+-- n calls lead from p to q
+abbrev pub Way : List Edge → ℕ → ℕ → ℕ → Type 0
+Way edges p q zero = p ≡ q
+Way edges p q (suc n) = (r : ℕ) × Way edges p r n × Calls edges r q
+
+abbrev pub Reaches : List Edge → ℕ → ℕ → Type 0
+Reaches edges p q = (n : ℕ) × Way edges p q n
 
 -- the procedures of the edges, each of them once, and each callee before its callers
 pub record IsCallOrder (edges : List Edge) (list : List ℕ) : Type 0 where
@@ -25,7 +34,14 @@ pub record IsCycle (edges : List Edge) (list : List ℕ) : Type 0 where
   pub next : (i : ℕ) → i + 1 < length list → Calls edges (slice_index list i) (slice_index list (i + 1))
   pub back : Calls edges (slice_index list (length list - 1)) (slice_index list 0)
 
--- a circle that is named is one of the edges
+-- a circle through the lowest procedure that lies on any, by a shortest way back to it. It begins with that procedure; a
+-- circle can be begun at any of its procedures, so the others through it are those that begin with it too
+pub record IsLowestCycle (edges : List Edge) (list : List ℕ) : Type 0 where
+  pub cycle : IsCycle edges list
+  pub lowest : (other : List ℕ) → IsCycle edges other → (i : ℕ) → i < length other → slice_index list 0 ≤ slice_index other i
+  pub shortest : (other : List ℕ) → IsCycle edges other → slice_index other 0 ≡ slice_index list 0 → length list ≤ length other
+
+-- the circle that is named is the lowest of the edges, by a shortest way
 abbrev pub IsFaultOf : List Edge → GraphFault → Type 0
-IsFaultOf edges (Cycle list) = IsCycle edges list.items
+IsFaultOf edges (Cycle list) = IsLowestCycle edges list.items
 IsFaultOf edges NoMemory = Unit {0}

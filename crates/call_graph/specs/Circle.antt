@@ -1,24 +1,70 @@
 -- What a search for a shortest circle of calls keeps true.
-use Rattle.std.specs.Prelude.{◌≡◌, ℕ, ◌+◌, ◌-◌, ◌<◌, List, length, slice_index, slice_index_or}
-use Rattle.call_graph.specs.Calls.{Calls}
+use Rattle.std.specs.Prelude.{◌≡◌, ◌≢◌, ℕ, ◌+◌, ◌<◌, ◌≤◌, Bool, true, false, List, length, sum_by, slice_index, slice_index_or}
+use Rattle.call_graph.specs.Calls.{Calls, IsCycle, Way}
 use Rattle.call_graph.specs.declared.circle.Step.{Step}
 use Rattle.call_graph.specs.declared.edge.Edge.{Edge}
 
+-- n calls and one more lead from p back to it
+abbrev pub Returns : List Edge → ℕ → ℕ → Type 0
+Returns edges p n = (q : ℕ) × Way edges p q n × Calls edges q p
+
+-- a shortest of the circles through p
+pub record IsShortestFrom (edges : List Edge) (p : ℕ) (list : List ℕ) : Type 0 where
+  pub cycle : IsCycle edges list
+  pub first : slice_index list 0 ≡ p
+  pub shortest : (n : ℕ) → Returns edges p n → length list ≤ n + 1
+
+abbrev pub step_at : List Step → ℕ → Step
+step_at steps i = slice_index_or steps i (record { proc = 0; from = 0; far = 0 })
+
 abbrev pub step_proc : List Step → ℕ → ℕ
-step_proc steps i = (slice_index_or steps i (record { proc = 0; next = 0 })).proc
+step_proc steps i = (step_at steps i).proc
 
-abbrev pub step_next : List Step → ℕ → ℕ
-step_next steps i = (slice_index_or steps i (record { proc = 0; next = 0 })).next
+abbrev pub step_from : List Step → ℕ → ℕ
+step_from steps i = (step_at steps i).from
 
--- each step but the first calls an earlier one
-pub record Leads (edges : List Edge) (steps : List Step) : Type 0 where
+abbrev pub step_far : List Step → ℕ → ℕ
+step_far steps i = (step_at steps i).far
+
+abbrev pub seen_at : List Bool → ℕ → Bool
+seen_at seen p = slice_index_or seen p false
+
+-- the first step is the start, and each other one is called by an earlier one, one call farther
+pub record Traced (edges : List Edge) (start : ℕ) (steps : List Step) : Type 0 where
   pub some : 0 < length steps
-  pub earlier : (i : ℕ) → 0 < i → i < length steps → step_next steps i < i
-  pub calls : (i : ℕ) → 0 < i → i < length steps → Calls edges (step_proc steps i) (step_proc steps (step_next steps i))
+  pub start_is : step_proc steps 0 ≡ start
+  pub near : step_far steps 0 ≡ 0
+  pub earlier : (i : ℕ) → 0 < i → i < length steps → step_from steps i < i
+  pub called : (i : ℕ) → 0 < i → i < length steps → Calls edges (step_proc steps (step_from steps i)) (step_proc steps i)
+  pub low : (i : ℕ) → i < length steps → step_far steps i ≤ i
+  pub farther : (i : ℕ) → 0 < i → i < length steps → step_far steps i ≡ step_far steps (step_from steps i) + 1
 
--- procedures that begin with the first, of which each calls the next, and the last calls the one that comes
-pub record Chain (edges : List Edge) (list : List ℕ) (first coming : ℕ) : Type 0 where
-  pub some : 0 < length list
-  pub first_is : slice_index list 0 ≡ first
-  pub next : (i : ℕ) → i + 1 < length list → Calls edges (slice_index list i) (slice_index list (i + 1))
-  pub end : Calls edges (slice_index list (length list - 1)) coming
+-- p has a place among the steps, at most so far
+pub record Place (steps : List Step) (p most : ℕ) : Type 0 where
+  pub at : ℕ
+  pub inside : at < length steps
+  pub is : step_proc steps at ≡ p
+  pub near : step_far steps at ≤ most
+
+-- the steps rise by how far they are, up to one more than the step that is next; whoever was seen has a place; and whoever
+-- is called by one of the steps that are done has a place too, one call farther at most, and isn't the start
+pub record Searched (edges : List Edge) (start : ℕ) (seen : List Bool) (steps : List Step) (done : ℕ) : Type 0 where
+  pub room : length seen ≡ 65536
+  pub traced : Traced edges start steps
+  pub rising : (i j : ℕ) → i ≤ j → j < length steps → step_far steps i ≤ step_far steps j
+  pub within : (j : ℕ) → j < length steps → done < length steps → step_far steps j ≤ step_far steps done + 1
+  pub placed : (p : ℕ) → seen_at seen p ≡ true → (i : ℕ) × (i < length steps) × (step_proc steps i ≡ p)
+  pub spread : (i p : ℕ) → i < done → Calls edges (step_proc steps i) p → (p ≢ start) × Place steps p (step_far steps i + 1)
+
+-- how many procedures are unseen, or have a place: it stays the same
+abbrev pub unseen_one : Bool → ℕ
+unseen_one true = 0
+unseen_one false = 1
+
+abbrev pub left : List Bool → List Step → ℕ
+left seen steps = sum_by unseen_one seen + length steps
+
+-- the lowest procedure that lies on a circle
+pub record IsLowestStart (edges : List Edge) (p : ℕ) : Type 0 where
+  pub returns : (n : ℕ) × Returns edges p n
+  pub lowest : (list : List ℕ) → IsCycle edges list → (i : ℕ) → i < length list → p ≤ slice_index list i

@@ -23,29 +23,17 @@ pub record AreDepths (own : List ℕ) (calls : List Held) (list : List ℕ) : Ty
   pub suffice : Suffices own calls (slice_index list)
   pub least : (depth : ℕ → ℕ) → Suffices own calls depth → (p : ℕ) → p < length own → slice_index list p ≤ depth p
 
--- who calls, who is called, and what is held at the call of this number
-abbrev pub caller_of : List Held → ℕ → ℕ
-caller_of calls i = (slice_index_or calls i (record { caller = 0; callee = 0; held = 0 })).caller
-
-abbrev pub callee_of : List Held → ℕ → ℕ
-callee_of calls i = (slice_index_or calls i (record { caller = 0; callee = 0; held = 0 })).callee
-
-abbrev pub held_of : List Held → ℕ → ℕ
-held_of calls i = (slice_index_or calls i (record { caller = 0; callee = 0; held = 0 })).held
+abbrev pub call_at : List Held → ℕ → Held
+call_at calls i = slice_index_or calls i (record { caller = 0; callee = 0; held = 0 })
 
 -- the calls stand by their callers
 abbrev pub ByCaller : List Held → Type 0
 ByCaller calls = IsNonDecreasingBy (λ call. call.caller) calls
 
--- `Suffices` by the numbers of the calls
-pub record SufficesAt (own : List ℕ) (calls : List Held) (depth : ℕ → ℕ) : Type 0 where
-  pub own_bytes : (p : ℕ) → p < length own → slice_index own p ≤ depth p
-  pub held_bytes : (i : ℕ) → i < length calls → held_of calls i + depth (callee_of calls i) ≤ depth (caller_of calls i)
-
 -- an order of procedures with numbers, in which each callee stands before its callers
 pub record Orders (own : List ℕ) (calls : List Held) (list : List ℕ) : Type 0 where
   pub once : (i j : ℕ) → i < j → j < length list → slice_index list i ≢ slice_index list j
   pub numbered : (k : ℕ) → k < length list → slice_index list k < length own
-  pub callees : (i : ℕ) → i < length calls → callee_of calls i < length own
+  pub callees : (i : ℕ) → i < length calls → (call_at calls i).callee < length own
   pub callees_first : (i : ℕ) → i < length calls →
-      (j : ℕ) × ((k : ℕ) × ((j < k) × (k < length list) × (slice_index list j ≡ callee_of calls i) × (slice_index list k ≡ caller_of calls i)))
+      (j : ℕ) × ((k : ℕ) × ((j < k) × (k < length list) × (slice_index list j ≡ (call_at calls i).callee) × (slice_index list k ≡ (call_at calls i).caller)))

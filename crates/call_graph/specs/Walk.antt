@@ -1,12 +1,12 @@
 -- What a walk along the calls keeps true.
 use Rattle.std.specs.Prelude.{◌≡◌, ◌≢◌, ℕ, ◌+◌, ◌-◌, ◌<◌, ◌≤◌, ◌⊎◌, List, length, sum_by, slice_index, slice_index_or, vec_len}
 use Rattle.std.specs.List.Sorted.{IsNonDecreasingBy}
-use Rattle.call_graph.specs.Calls.{Occurs}
+use Rattle.call_graph.specs.Calls.{Occurs, Reaches}
 use Rattle.call_graph.specs.declared.edge.Edge.{Edge}
 use Rattle.call_graph.specs.declared.walk.Frame.{Frame}
 use Rattle.call_graph.specs.declared.walk.Walk.{Walk}
 use Rattle.call_graph.specs.declared.walk.Mark.{Mark}
-use Rattle.call_graph.specs.declared.walk.Mark.TheVariants.{Unseen, OnPath, Ordered}
+use Rattle.call_graph.specs.declared.walk.Mark.TheVariants.{Unseen, Met, Done}
 
 -- who calls, and who is called, at the edge of this number
 abbrev pub caller_at : List Edge → ℕ → ℕ
@@ -22,44 +22,91 @@ ByCaller edges = IsNonDecreasingBy (λ e. e.caller) edges
 abbrev pub mark_at : List Mark → ℕ → Mark
 mark_at marks p = slice_index_or marks p Unseen
 
--- the procedure at this depth of the path, and the edge of its that the walk follows
-abbrev pub proc_at : List Frame → ℕ → ℕ
-proc_at path k = (slice_index_or path k (record { proc = 0; next = 0 })).proc
+abbrev pub frame_at : List Frame → ℕ → Frame
+frame_at path k = slice_index_or path k (record { place = 0; next = 0; low = 0 })
 
-abbrev pub next_at : List Frame → ℕ → ℕ
-next_at path k = (slice_index_or path k (record { proc = 0; next = 0 })).next
+-- where the walk stands: the marks; the procedures that are met and not in order; the path; and the order
+pub record State : Type 0 where
+  pub mark : ℕ → Mark
+  pub size : ℕ
+  pub met : ℕ → ℕ
+  pub depth : ℕ
+  pub frame : ℕ → Frame
+  pub done : ℕ
+  pub order : ℕ → ℕ
 
--- marks, path and order agree; each procedure on the path calls the next; of each, the edges before the one
--- that is followed lead to procedures in order; and a procedure in order has its callees before it
-pub record Kept (Known : ℕ → Type 0) (count : ℕ) (caller callee : ℕ → ℕ) (mark : ℕ → Mark)
-    (depth : ℕ) (proc next : ℕ → ℕ) (size : ℕ) (place : ℕ → ℕ) : Type 0 where
-  pub known : (p : ℕ) → (mark p ≡ Unseen) ⊎ Known p
-  pub ordered_at : (k : ℕ) → k < size → mark (place k) ≡ Ordered k
-  pub ordered_is : (p k : ℕ) → mark p ≡ Ordered k → (k < size) × (place k ≡ p)
-  pub path_at : (k : ℕ) → k < depth → mark (proc k) ≡ OnPath k
-  pub path_is : (p k : ℕ) → mark p ≡ OnPath k → (k < depth) × (proc k ≡ p)
-  pub in_range : (k : ℕ) → k < depth → next k ≤ count
-  pub calls : (k : ℕ) → k + 1 < depth → (next k < count) × (caller (next k) ≡ proc k) × (callee (next k) ≡ proc (k + 1))
-  pub behind : (k i : ℕ) → k < depth → i < next k → caller i ≡ proc k → (j : ℕ) × (mark (callee i) ≡ Ordered j)
-  pub ahead : (k i : ℕ) → k < depth → next k ≤ i → i < count → proc k ≤ caller i
-  pub callees_first : (i k : ℕ) → i < count → mark (caller i) ≡ Ordered k → (j : ℕ) × (mark (callee i) ≡ Ordered j) × (j < k)
+-- q is in order, or met at this place or later
+abbrev pub Settled : (ℕ → Mark) → ℕ → ℕ → Type 0
+Settled mark low q = ((a : ℕ) × (mark q ≡ Done a)) ⊎ ((j : ℕ) × (mark q ≡ Met j) × (low ≤ j))
 
--- the same of lists of marks, of a path and of an order
-abbrev pub KeptBy : List Edge → List Mark → List Frame → List ℕ → Type 0
-KeptBy edges marks path list =
-    Kept (Occurs edges) (length edges) (caller_at edges) (callee_at edges) (mark_at marks)
-    (length path) (proc_at path) (next_at path) (length list) (slice_index list)
+-- the procedure met at j stands with the procedure at depth k of the path: it is met with or after that, and before the next
+pub record Covers (s : State) (k j : ℕ) : Type 0 where
+  pub on : k < s.depth
+  pub from : (s.frame k).place ≤ j
+  pub inside : j < s.size
+  pub below : k + 1 < s.depth → j < (s.frame (k + 1)).place
+
+-- the marks are those of what is met; each procedure on the path calls the next; and of each, the edges before the one that
+-- is followed lead to no procedure that was met before its low place, nor do any of those that stand with it
+pub record Stands (edges : List Edge) (s : State) : Type 0 where
+  pub known : (p : ℕ) → (s.mark p ≡ Unseen) ⊎ Occurs edges p
+  pub met_at : (i : ℕ) → i < s.size → s.mark (s.met i) ≡ Met i
+  pub met_is : (p i : ℕ) → s.mark p ≡ Met i → (i < s.size) × (s.met i ≡ p)
+  pub root : 0 < s.depth → (s.frame 0).place ≡ 0
+  pub none : s.depth ≡ 0 → s.size ≡ 0
+  pub placed : (k : ℕ) → k < s.depth → (s.frame k).place < s.size
+  pub rising : (k : ℕ) → k + 1 < s.depth → (s.frame k).place < (s.frame (k + 1)).place
+  pub lower : (k : ℕ) → k < s.depth → (s.frame k).low ≤ (s.frame k).place
+  pub in_range : (k : ℕ) → k < s.depth → (s.frame k).next ≤ length edges
+  pub calls : (k : ℕ) → k + 1 < s.depth →
+      ((s.frame k).next < length edges) × (caller_at edges (s.frame k).next ≡ s.met (s.frame k).place) × (callee_at edges (s.frame k).next ≡ s.met (s.frame (k + 1)).place)
+  pub ahead : (k i : ℕ) → k < s.depth → (s.frame k).next ≤ i → i < length edges → s.met (s.frame k).place ≤ caller_at edges i
+  pub behind : (k i : ℕ) → k < s.depth → i < (s.frame k).next → caller_at edges i ≡ s.met (s.frame k).place → Settled s.mark (s.frame k).low (callee_at edges i)
+  pub shut : (k j i : ℕ) → Covers s k j → (s.frame k).place < j → i < length edges → caller_at edges i ≡ s.met j → Settled s.mark (s.frame k).low (callee_at edges i)
+
+-- calls lead from a procedure on the path to those that stand with it and back, and to the one at its low place
+pub record Leads (edges : List Edge) (s : State) : Type 0 where
+  pub forth : (k j : ℕ) → Covers s k j → Reaches edges (s.met (s.frame k).place) (s.met j)
+  pub round : (k j : ℕ) → Covers s k j → Reaches edges (s.met j) (s.met (s.frame k).place)
+  pub back : (k : ℕ) → k < s.depth → Reaches edges (s.met (s.frame k).place) (s.met (s.frame k).low)
+
+-- the order has the procedures with a group, each once, by rising groups; no call leads to a higher group; and calls lead
+-- from each procedure of a group to each other one
+pub record Ordered (edges : List Edge) (mark : ℕ → Mark) (done : ℕ) (order : ℕ → ℕ) : Type 0 where
+  pub below : (p a : ℕ) → mark p ≡ Done a → a < done
+  pub listed : (p a : ℕ) → mark p ≡ Done a → (k : ℕ) × (k < done) × (order k ≡ p)
+  pub listed_at : (k : ℕ) → k < done → (a : ℕ) × (mark (order k) ≡ Done a)
+  pub once : (i j : ℕ) → i < j → j < done → order i ≢ order j
+  pub upward : (i j a b : ℕ) → i ≤ j → j < done → mark (order i) ≡ Done a → mark (order j) ≡ Done b → a ≤ b
+  pub falls : (i a : ℕ) → i < length edges → mark (caller_at edges i) ≡ Done a → (b : ℕ) × (mark (callee_at edges i) ≡ Done b) × (b ≤ a)
+  pub joined : (p q a : ℕ) → mark p ≡ Done a → mark q ≡ Done a → Reaches edges p q
+
+pub record Kept (edges : List Edge) (s : State) : Type 0 where
+  pub stands : Stands edges s
+  pub leads : Leads edges s
+  pub ordered : Ordered edges s.mark s.done s.order
+
+abbrev pub state_of : List Mark → List ℕ → List Frame → List ℕ → State
+state_of marks met path order = record {
+  mark = mark_at marks;
+  size = length met;
+  met = slice_index met;
+  depth = length path;
+  frame = frame_at path;
+  done = length order;
+  order = slice_index order;
+}
 
 -- the same of a walk along these edges, with a mark for each of the 65,536 numbers
 pub record Holds (edges : List Edge) (w : Walk) : Type 0 where
-  pub kept : KeptBy edges w.marks.items w.path.items w.order.items
+  pub kept : Kept edges (state_of w.marks.items w.met.items w.path.items w.order.items)
   pub room : vec_len w.marks ≡ 65536
 
 -- how much of the walk is left at most: an unseen procedure may bring a path one longer, and each procedure on the path has edges left
 abbrev pub mark_work : ℕ → Mark → ℕ
 mark_work count Unseen = count + 2
-mark_work count (OnPath k) = 0
-mark_work count (Ordered k) = 0
+mark_work count (Met k) = 0
+mark_work count (Done k) = 0
 
 abbrev pub frame_work : ℕ → Frame → ℕ
 frame_work count f = (count + 1) - f.next
@@ -70,3 +117,13 @@ work edges w = sum_by (mark_work (length edges)) w.marks.items + sum_by (frame_w
 -- what was seen stays seen
 abbrev pub StaysSeen : Walk → Walk → Type 0
 StaysSeen v w = (p : ℕ) → mark_at v.marks.items p ≢ Unseen → mark_at w.marks.items p ≢ Unseen
+
+-- the edge of this number stays within a group
+abbrev pub Within : List Edge → List Mark → ℕ → Type 0
+Within edges marks i = (a : ℕ) × (mark_at marks (caller_at edges i) ≡ Done a) × (mark_at marks (callee_at edges i) ≡ Done a)
+
+-- a walk that is over and has seen each caller
+pub record AreGrouped (edges : List Edge) (w : Walk) : Type 0 where
+  pub holds : Holds edges w
+  pub empty : length w.path.items ≡ 0
+  pub seen : (i : ℕ) → i < length edges → mark_at w.marks.items (caller_at edges i) ≢ Unseen

@@ -1,122 +1,117 @@
-ghost use Rattle.std.specs.Prelude.{◌≡◌, ℕ, ◌+◌, ◌<◌, ◌≤◌, List, IfOk, IfSome, OnOk, IsTrue, length, vec_len};
-ghost use Rattle.std.specs.Bool.{OnTrue};
+ghost use Rattle.std.specs.Prelude.{◌≡◌, ℕ, ◌+◌, ◌<◌, List, IfNone, IfOk, IfSome, OnOk, false, length, slice_index, vec_len};
+ghost use Rattle.std.specs.Bool.{OnFalse, OnTrue};
 ghost use Rattle.call_graph.specs.Calls.{Calls, IsCycle};
-ghost use Rattle.call_graph.specs.Circle.{Chain, Leads, step_next, step_proc};
+ghost use Rattle.call_graph.specs.Circle.{IsShortestFrom, Returns, Searched, Traced, left, seen_at, step_far, step_from, step_proc};
+ghost use Rattle.call_graph.specs.Walk.{ByCaller};
 
-use crate::edge::{Edge, ProcId};
+use crate::edge::{Edge, ProcId, first_call};
 use std::alloc::{AllocError, Global};
 
 /// How many numbers a procedure may have.
 const NUMBERS: usize = 65_536;
 
-/// A procedure that leads to the start of a search, and the place in the search of the one that it calls on
-/// a shortest way there.
+/// A procedure that the start of a search leads to, the place in the search of the one that calls it on a
+/// shortest way, and how many calls that way has.
 #[derive(Clone, Copy)]
 pub(crate) struct Step {
     pub(crate) proc: ProcId,
-    pub(crate) next: usize,
+    pub(crate) from: usize,
+    pub(crate) far: usize,
 }
 
-/// A shortest circle of calls through the lowest procedure that lies on any. The edges stand by their callees.
-pub(crate) fn lowest_circle(
+/// A shortest circle through this procedure, if there is one: a search from it, breadth first, along the calls.
+pub(crate) fn circle_through(
     alloc: Global,
-    edges: &[Edge],
+    calls: &[Edge],
+    start: ProcId,
 ) -> Result<Option<Vec<ProcId>>, AllocError>
-    ensures { IfOk result (λ found. IfSome found (λ list. IsCycle edges.now list.items)) }
+    requires { ByCaller calls.now }
+    ensures some { IfOk result (λ found. IfSome found (λ list. IsShortestFrom calls.now start list.items)) }
+    ensures none { IfOk result (λ found. IfNone found ((n : ℕ) → ¬ (Returns calls.now start n))) }
 {
-    let mut seen = none_of(alloc, NUMBERS)?;
-    for edge in edges {
-        seen[usize::from(edge.callee)] = true;
-    }
-    for start in 0..=u16::MAX {
-        if seen[usize::from(start)] {
-            if let Some(circle) = circle_through(alloc, edges, start)? {
-                return Ok(Some(circle));
-            }
+    let (mut seen, mut steps) = begin(alloc, start)?;
+    let mut at = 0;
+    while at < steps.len() {
+        if spread(calls, start, &mut seen, &mut steps, at)? {
+            return Ok(Some(circle_from(alloc, &steps, at)?));
         }
+        at += 1;
     }
     Ok(None)
 }
 
-/// A shortest circle through this procedure, if there is one: a search from it, breadth first, against the calls.
-fn circle_through(
-    alloc: Global,
-    edges: &[Edge],
-    start: ProcId,
-) -> Result<Option<Vec<ProcId>>, AllocError>
-    ensures { IfOk result (λ found. IfSome found (λ list. IsCycle edges.now list.items)) }
+/// No procedure of this many numbers.
+fn none_of(alloc: Global, count: usize) -> Result<Vec<bool>, AllocError>
+    ensures room { IfOk result (λ set. vec_len set ≡ count) }
+    ensures none { IfOk result (λ set. (p : ℕ) → seen_at set.items p ≡ false) }
+{
+    vec![in alloc; false; count]
+}
+
+/// A search that has seen its start alone.
+fn begin(alloc: Global, start: ProcId) -> Result<(Vec<bool>, Vec<Step>), AllocError>
+    ensures { IfOk result (λ x. (calls : List Edge) → Searched calls start x.0.items x.1.items 0) }
 {
     let mut seen = none_of(alloc, NUMBERS)?;
+    seen[usize::from(start)] = true;
     let mut steps = Vec::new(alloc);
     steps.push(Step {
         proc: start,
-        next: 0,
+        from: 0,
+        far: 0,
     })?;
-    for at in 0..NUMBERS {
-        if at >= steps.len() {
-            return Ok(None);
-        }
-        if spread(edges, &mut seen, &mut steps, at)? {
-            return Ok(Some(circle_from(alloc, &steps, at)?));
-        }
-    }
-    Ok(None)
+    Ok((seen, steps))
 }
 
-/// Goes back along the calls of the procedure at this place: to new procedures, or to the start, which is told.
+/// Goes along the calls of the procedure at this place: to new procedures, or to the start, which is told.
 fn spread(
-    edges: &[Edge],
+    calls: &[Edge],
+    start: ProcId,
     seen: &mut [bool],
     steps: &mut Vec<Step>,
     at: usize,
 ) -> Result<bool, AllocError>
-    requires room { length seen.old ≡ 65536 }
-    requires leads { Leads edges.now steps.old.items }
+    requires rising { ByCaller calls.now }
+    requires searched { Searched calls.now start seen.old steps.old.items at }
     requires inside { at < length steps.old.items }
-    ensures leads { OnOk result (Leads edges.now steps.new.items) }
-    ensures inside { OnOk result (at < length steps.new.items) }
-    ensures closed { IfOk result (λ closed. OnTrue closed (Calls edges.now (step_proc steps.new.items 0) (step_proc steps.new.items at))) }
+    ensures goes_on { IfOk result (λ closed. OnFalse closed (Searched calls.now start seen.new steps.new.items (at + 1))) }
+    ensures closed { IfOk result (λ closed. OnTrue closed (Searched calls.now start seen.new steps.new.items at × (at < length steps.new.items) × Calls calls.now (step_proc steps.new.items at) start)) }
+    ensures left { OnOk result (left seen.new steps.new.items ≡ left seen.old steps.old.items) }
 {
-    let start = steps[0].proc;
-    let proc = steps[at].proc;
-    for number in edges.partition_point(|edge| edge.callee < proc)..edges.len() {
-        let edge = edges[number];
-        if edge.callee != proc {
+    let step = steps[at];
+    for number in first_call(calls, step.proc)..calls.len() {
+        let edge = calls[number];
+        if edge.caller != step.proc {
             return Ok(false);
         }
-        if edge.caller == start {
+        if edge.callee == start {
             return Ok(true);
         }
-        if !seen[usize::from(edge.caller)] {
+        if !seen[usize::from(edge.callee)] {
             steps.push(Step {
-                proc: edge.caller,
-                next: at,
+                proc: edge.callee,
+                from: at,
+                far: step.far + 1,
             })?;
-            seen[usize::from(edge.caller)] = true;
+            seen[usize::from(edge.callee)] = true;
         }
     }
     Ok(false)
 }
 
-/// The circle that goes from the start to the procedure at this place, which it calls, and from there back.
+/// The circle that goes from the start to the procedure at this place, which calls the start.
 fn circle_from(alloc: Global, steps: &[Step], at: usize) -> Result<Vec<ProcId>, AllocError>
     requires inside { at < length steps.now }
-    requires earlier { (i : ℕ) → 0 < i → i < length steps.now → step_next steps.now i < i }
-    ensures { IfOk result (λ list. (edges : List Edge) → Leads edges steps.now → Calls edges (step_proc steps.now 0) (step_proc steps.now at) → IsCycle edges list.items) }
+    requires earlier { (i : ℕ) → 0 < i → i < length steps.now → step_from steps.now i < i }
+    ensures { IfOk result (λ list. (calls : List Edge) (start : ℕ) → Traced calls start steps.now → Calls calls (step_proc steps.now at) start → IsCycle calls list.items × (slice_index list.items 0 ≡ start) × (length list.items ≡ step_far steps.now at + 1)) }
 {
     let mut list = Vec::new(alloc);
-    list.push(steps[0].proc)?;
     let mut place = at;
     while place > 0 {
         list.push(steps[place].proc)?;
-        place = steps[place].next;
+        place = steps[place].from;
     }
+    list.push(steps[0].proc)?;
+    list.reverse();
     Ok(list)
-}
-
-/// No procedure of this many numbers.
-fn none_of(alloc: Global, count: usize) -> Result<Vec<bool>, AllocError>
-    ensures { IfOk result (λ set. vec_len set ≡ count) }
-{
-    vec![in alloc; false; count]
 }

@@ -1,8 +1,8 @@
 ghost use Rattle.std.specs.Prelude.{◌≡◌, ◌≢◌, ℕ, ◌+◌, ◌*◌, ◌<◌, ◌≤◌, ◌^◌, Contains, IfErr, IfOk, length, map, slice_index};
 ghost use Rattle.call_graph.specs.Calls.{IsCallOrder, IsFaultOf};
-ghost use Rattle.call_graph.specs.Depths.{AreDepths, AreNumbered, ByCaller, Orders, SufficesAt, callee_of, caller_of, edge_of, held_of};
+ghost use Rattle.call_graph.specs.Depths.{AreDepths, AreNumbered, ByCaller, Orders, call_at, edge_of};
 
-use crate::edge::{Edge, ProcId};
+use crate::edge::{Call, Edge, ProcId, first_call};
 use crate::fault::GraphFault;
 use crate::ordering::order;
 use std::alloc::{AllocError, Global};
@@ -13,6 +13,14 @@ pub struct Held {
     pub caller: ProcId,
     pub callee: ProcId,
     pub held: u32,
+}
+
+impl Call for Held {
+    ghost called_by = { λ call. call.caller };
+
+    fn caller(&self) -> ProcId {
+        self.caller
+    }
 }
 
 /// How many bytes deep the stack gets under each procedure: the least depths by which a procedure has room for
@@ -50,25 +58,15 @@ fn edges_of(alloc: Global, calls: &[Held]) -> Result<Vec<Edge>, AllocError>
         .collect(alloc)
 }
 
-/// The number of the first call whose caller is not before this procedure.
-fn first_call(calls: &[Held], proc: ProcId) -> usize
-    requires { ByCaller calls.now }
-    ensures bound { result ≤ length calls.now }
-    ensures before { (i : ℕ) → i < result → caller_of calls.now i < proc }
-    ensures from { (i : ℕ) → result ≤ i → i < length calls.now → proc ≤ caller_of calls.now i }
-{
-    calls.partition_point(|call| call.caller < proc)
-}
-
 /// The depth under a procedure, where the depths under its callees are known.
 fn depth_of(calls: &[Held], depths: &[u64], own: u32, proc: ProcId) -> u64
     requires rising { ByCaller calls.now }
-    requires callees { (i : ℕ) → i < length calls.now → callee_of calls.now i < length depths.now }
-    requires fits { (i : ℕ) → i < length calls.now → caller_of calls.now i ≡ proc → slice_index depths.now (callee_of calls.now i) < 2 ^ 63 }
+    requires callees { (i : ℕ) → i < length calls.now → (call_at calls.now i).callee < length depths.now }
+    requires fits { (i : ℕ) → i < length calls.now → (call_at calls.now i).caller ≡ proc → slice_index depths.now (call_at calls.now i).callee < 2 ^ 63 }
     ensures own { own ≤ result }
-    ensures held { (i : ℕ) → i < length calls.now → caller_of calls.now i ≡ proc → held_of calls.now i + slice_index depths.now (callee_of calls.now i) ≤ result }
-    ensures least { (most : ℕ) → own ≤ most → ((i : ℕ) → i < length calls.now → caller_of calls.now i ≡ proc → held_of calls.now i + slice_index depths.now (callee_of calls.now i) ≤ most) → result ≤ most }
-    ensures low { (most : ℕ) → ((i : ℕ) → i < length calls.now → caller_of calls.now i ≡ proc → slice_index depths.now (callee_of calls.now i) ≤ most) → result ≤ most + 2 ^ 32 }
+    ensures held { (i : ℕ) → i < length calls.now → (call_at calls.now i).caller ≡ proc → (call_at calls.now i).held + slice_index depths.now (call_at calls.now i).callee ≤ result }
+    ensures least { (most : ℕ) → own ≤ most → ((i : ℕ) → i < length calls.now → (call_at calls.now i).caller ≡ proc → (call_at calls.now i).held + slice_index depths.now (call_at calls.now i).callee ≤ most) → result ≤ most }
+    ensures low { (most : ℕ) → ((i : ℕ) → i < length calls.now → (call_at calls.now i).caller ≡ proc → slice_index depths.now (call_at calls.now i).callee ≤ most) → result ≤ most + 2 ^ 32 }
 {
     let mut depth = u64::from(own);
     for at in first_call(calls, proc)..calls.len() {
@@ -90,9 +88,7 @@ fn depths_along(
 ) -> Result<Vec<u64>, AllocError>
     requires rising { ByCaller calls.now }
     requires orders { Orders own.now calls.now order.now }
-    ensures each { IfOk result (λ list. length list.items ≡ length own.now) }
-    ensures suffices { IfOk result (λ list. SufficesAt own.now calls.now (slice_index list.items)) }
-    ensures least { IfOk result (λ list. (depth : ℕ → ℕ) → SufficesAt own.now calls.now depth → (p : ℕ) → p < length own.now → slice_index list.items p ≤ depth p) }
+    ensures { IfOk result (λ list. AreDepths own.now calls.now list.items) }
 {
     let mut depths = wide(alloc, own)?;
     for proc in order {

@@ -1,3 +1,6 @@
+ghost use Rattle.std.specs.Prelude.{◌≡◌, ℕ, ◌<◌, ◌≤◌, length, slice_index_or};
+ghost use Rattle.std.specs.List.Sorted.{IsNonDecreasingBy};
+
 /// A procedure, by its number: they count from 0 in the order of the certificate.
 pub type ProcId = u16;
 
@@ -6,4 +9,31 @@ pub type ProcId = u16;
 pub struct Edge {
     pub caller: ProcId,
     pub callee: ProcId,
+}
+
+/// What has a caller.
+pub(crate) trait Call {
+    ghost called_by: { Self → ℕ };
+
+    /// The procedure that calls.
+    fn caller(&self) -> ProcId
+        ensures { result ≡ called_by self.now };
+}
+
+impl Call for Edge {
+    ghost called_by = { λ edge. edge.caller };
+
+    fn caller(&self) -> ProcId {
+        self.caller
+    }
+}
+
+/// The number of the first of these calls whose caller is not before this procedure. They stand by their callers.
+pub(crate) fn first_call<C: Call>(calls: &[C], proc: ProcId) -> usize
+    requires { IsNonDecreasingBy C.called_by calls.now }
+    ensures bound { result ≤ length calls.now }
+    ensures before { (i : ℕ) (d : C) → i < result → C.called_by (slice_index_or calls.now i d) < proc }
+    ensures from { (i : ℕ) (d : C) → result ≤ i → i < length calls.now → proc ≤ C.called_by (slice_index_or calls.now i d) }
+{
+    calls.partition_point(|call| call.caller() < proc)
 }

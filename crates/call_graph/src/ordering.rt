@@ -1,12 +1,13 @@
 ghost use Rattle.std.specs.Prelude.{ℕ, List, IfOk, IfErr, OnOk};
 ghost use Rattle.call_graph.specs.Calls.{IsCallOrder, IsCycle, IsFaultOf};
-ghost use Rattle.call_graph.specs.Walk.{ByCaller};
+ghost use Rattle.call_graph.specs.Circle.{IsLowestStart};
+ghost use Rattle.call_graph.specs.Walk.{AreGrouped, ByCaller};
 
-use crate::circle::lowest_circle;
+use crate::circle::circle_through;
 use crate::edge::{Edge, ProcId};
 use crate::fault::GraphFault;
 use crate::walk::Walk;
-use std::alloc::Global;
+use std::alloc::{AllocError, Global};
 
 /// The procedures of these calls, each of them once, and each callee before its callers. `Cycle` comes where
 /// there is no such order, with a shortest circle of calls through the lowest procedure that lies on any;
@@ -20,24 +21,7 @@ pub fn order(alloc: Global, edges: &[Edge]) -> Result<Vec<ProcId>, GraphFault>
         return Err(GraphFault::NoMemory);
     };
     calls.sort_unstable_by_key(|edge| edge.caller);
-    match order_by_caller(alloc, &calls) {
-        Ok(list) => Ok(list),
-        Err(GraphFault::Cycle(found)) => Err(lowest_fault(alloc, calls, found)),
-        Err(GraphFault::NoMemory) => Err(GraphFault::NoMemory),
-    }
-}
-
-/// The circle to name, where there is one: the one that `lowest_circle` finds.
-fn lowest_fault(alloc: Global, mut calls: Vec<Edge>, found: Vec<ProcId>) -> GraphFault
-    requires { IsCycle calls.items found.items }
-    ensures { IsFaultOf calls.items result }
-{
-    calls.sort_unstable_by_key(|edge| edge.callee);
-    match lowest_circle(alloc, &calls) {
-        Ok(Some(circle)) => GraphFault::Cycle(circle),
-        Ok(None) => GraphFault::Cycle(found),
-        Err(_) => GraphFault::NoMemory,
-    }
+    order_by_caller(alloc, &calls)
 }
 
 /// The same of calls that stand by their callers.
@@ -46,9 +30,36 @@ fn order_by_caller(alloc: Global, calls: &[Edge]) -> Result<Vec<ProcId>, GraphFa
     ensures order { IfOk result (λ list. IsCallOrder calls.now list.items) }
     ensures fault { IfErr result (IsFaultOf calls.now) }
 {
+    let Ok(walk) = walk_along(alloc, calls) else {
+        return Err(GraphFault::NoMemory);
+    };
+    match walk.first_within(calls) {
+        Some(start) => Err(circle_fault(alloc, calls, start)),
+        None => Ok(walk.order),
+    }
+}
+
+/// A walk from each procedure of these calls, which stand by their callers.
+fn walk_along(alloc: Global, calls: &[Edge]) -> Result<Walk, AllocError>
+    requires { ByCaller calls.now }
+    ensures { IfOk result (AreGrouped calls.now) }
+{
     let mut walk = Walk::new(alloc)?;
     for edge in calls {
-        walk.visit(alloc, calls, edge.caller)?;
+        walk.visit(calls, edge.caller)?;
     }
-    Ok(walk.order)
+    Ok(walk)
+}
+
+/// The fault that names a shortest circle through this procedure, the lowest that lies on any.
+fn circle_fault(alloc: Global, calls: &[Edge], start: ProcId) -> GraphFault
+    requires rising { ByCaller calls.now }
+    requires lowest { IsLowestStart calls.now start }
+    ensures { IsFaultOf calls.now result }
+{
+    match circle_through(alloc, calls, start) {
+        Ok(Some(circle)) => GraphFault::Cycle(circle),
+        Ok(None) => unreachable!(),
+        Err(_) => GraphFault::NoMemory,
+    }
 }

@@ -62,6 +62,38 @@ fn the_lowest_circle_the_shortest_way(rt: HostRuntime) -> Result<(), Fail> {
     Ok(())
 }
 
+/// The walk meets the circle 8 9 first, then 4 5 6 of which 4 is the lowest, and 4 6 is a shorter way round; 1, 2 and 3
+/// lie between.
+#[test]
+fn a_lower_circle_after_the_first(rt: HostRuntime) -> Result<(), Fail> {
+    let list = circle_of(
+        rt.alloc(),
+        &[
+            edge(1, 8),
+            edge(8, 9),
+            edge(9, 8),
+            edge(1, 2),
+            edge(2, 3),
+            edge(3, 6),
+            edge(6, 4),
+            edge(4, 5),
+            edge(5, 6),
+            edge(4, 6),
+        ],
+    )?;
+    assert_eq!(rt; list.as_slice(), [4, 6].as_slice());
+    Ok(())
+}
+
+#[test]
+fn the_highest_number(rt: HostRuntime) -> Result<(), Fail> {
+    let list = order(rt.alloc(), &[edge(65_535, 0)])?;
+    assert_eq!(rt; list.as_slice(), [0, 65_535].as_slice());
+    let circle = circle_of(rt.alloc(), &[edge(65_535, 0), edge(0, 65_535)])?;
+    assert_eq!(rt; circle.as_slice(), [0, 65_535].as_slice());
+    Ok(())
+}
+
 #[test]
 fn a_chain(rt: HostRuntime) -> Result<(), Fail> {
     let mut edges = Vec::new(rt.alloc());
@@ -111,21 +143,64 @@ fn least_depths(rt: HostRuntime) -> Result<(), Fail> {
     Ok(())
 }
 
+/// Procedure 1 calls itself, with 2 bytes held.
+fn held_circle() -> [Held; 1]
+    ensures { (call : Held) → Contains result call → (call.caller < 4) × (call.callee < 4) }
+{
+    [Held {
+        caller: 1,
+        callee: 1,
+        held: 2,
+    }]
+}
+
+#[test]
+fn no_depths_on_a_circle(rt: HostRuntime) -> Result<(), Fail> {
+    match depths(rt.alloc(), &[1, 3, 5, 9], &held_circle()) {
+        Err(GraphFault::Cycle(list)) => assert_eq!(rt; list.as_slice(), [1].as_slice()),
+        _ => assert!(rt; false),
+    }
+    Ok(())
+}
+
 /// With one allocation refused (`rt try --test --fail-alloc N`) the call answers `NoMemory`, and the next one as
 /// if nothing had been.
 #[test]
-fn refused_memory(rt: HostRuntime) -> Result<(), Fail> {
+fn refused_memory_in_order(rt: HostRuntime) -> Result<(), Fail> {
+    let mut refused = 0u8;
+    for _ in 0..3 {
+        match order(rt.alloc(), &[edge(2, 3), edge(3, 1)]) {
+            Ok(list) => assert_eq!(rt; list.as_slice(), [1, 3, 2].as_slice()),
+            Err(GraphFault::NoMemory) => refused = refused.wrapping_add(1),
+            Err(GraphFault::Cycle(list)) => assert_eq!(rt; list.len(), 0),
+        }
+    }
+    assert!(rt; refused <= 1);
+    Ok(())
+}
+
+#[test]
+fn refused_memory_on_a_circle(rt: HostRuntime) -> Result<(), Fail> {
+    let mut refused = 0u8;
+    for _ in 0..3 {
+        match order(rt.alloc(), &[edge(2, 3), edge(3, 2)]) {
+            Ok(list) => assert_eq!(rt; list.len(), 0),
+            Err(GraphFault::NoMemory) => refused = refused.wrapping_add(1),
+            Err(GraphFault::Cycle(list)) => assert_eq!(rt; list.as_slice(), [2, 3].as_slice()),
+        }
+    }
+    assert!(rt; refused <= 1);
+    Ok(())
+}
+
+#[test]
+fn refused_memory_in_depths(rt: HostRuntime) -> Result<(), Fail> {
     let mut refused = 0u8;
     for _ in 0..3 {
         match depths(rt.alloc(), &[1, 3, 5, 9], &held_calls()) {
             Ok(list) => assert_eq!(rt; list.as_slice(), [15, 11, 5, 9].as_slice()),
             Err(GraphFault::NoMemory) => refused = refused.wrapping_add(1),
             Err(GraphFault::Cycle(list)) => assert_eq!(rt; list.len(), 0),
-        }
-        match order(rt.alloc(), &[edge(2, 3), edge(3, 2)]) {
-            Ok(list) => assert_eq!(rt; list.len(), 0),
-            Err(GraphFault::NoMemory) => refused = refused.wrapping_add(1),
-            Err(GraphFault::Cycle(list)) => assert_eq!(rt; list.as_slice(), [2, 3].as_slice()),
         }
     }
     assert!(rt; refused <= 1);

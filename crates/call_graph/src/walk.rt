@@ -1,53 +1,38 @@
-use crate::edge::{Edge, ProcId};
-use crate::fault::GraphFault;
+use crate::edge::{Edge, ProcId, first_call};
 use std::alloc::{AllocError, Global};
 
 /// Where a procedure stands in the walk.
 #[derive(Clone, Copy)]
 pub(crate) enum Mark {
     Unseen,
-    /// On the path, at this depth.
-    OnPath(usize),
-    /// In the order, at this place.
-    Ordered(usize),
+    /// Met, at this place among those that are met and not in order.
+    Met(usize),
+    /// In order, in the group that begins at this place.
+    Done(usize),
 }
 
-/// A procedure on the path, and the number of the edge that the walk follows from it.
+/// A procedure on the path: its place among those that are met, the number of the edge that the walk follows from
+/// it, and the lowest place that calls are known to lead to from it.
 #[derive(Clone, Copy)]
 pub(crate) struct Frame {
-    pub(crate) proc: ProcId,
+    pub(crate) place: usize,
     pub(crate) next: usize,
+    pub(crate) low: usize,
 }
 
-/// A walk along the calls, depth first: a procedure is put in order when each of its callees is.
+/// A walk along the calls, depth first. It puts the procedures in order by groups: calls lead from each procedure
+/// of a group to each other one, and from none to a later group.
 #[derive(Drop)]
 pub(crate) struct Walk {
     pub(crate) marks: Vec<Mark>,
+    pub(crate) met: Vec<ProcId>,
     pub(crate) path: Vec<Frame>,
     pub(crate) order: Vec<ProcId>,
 }
 
-ghost use Rattle.std.specs.Prelude.{◌≡◌, ◌≢◌, ℕ, ◌+◌, ◌-◌, ◌<◌, ◌≤◌, List, IfOk, OnOk, OnErr, IfErr, length, map, drop, vec_len};
-ghost use Rattle.call_graph.specs.Calls.{Occurs, IsFaultOf};
-ghost use Rattle.call_graph.specs.Walk.{ByCaller, Holds, StaysSeen, caller_at, callee_at, mark_at, proc_at, next_at, work};
-
-/// The number of the first edge whose caller is not before this procedure.
-fn first_call(calls: &[Edge], proc: ProcId) -> usize
-    requires { ByCaller calls.now }
-    ensures bound { result ≤ length calls.now }
-    ensures before { (i : ℕ) → i < result → caller_at calls.now i < proc }
-    ensures from { (i : ℕ) → result ≤ i → i < length calls.now → proc ≤ caller_at calls.now i }
-{
-    calls.partition_point(|edge| edge.caller < proc)
-}
-
-/// The procedures of the path from this depth on.
-fn procs_from(alloc: Global, path: &[Frame], start: usize) -> Result<Vec<ProcId>, AllocError>
-    requires { start ≤ length path.now }
-    ensures { IfOk result (λ v. v.items ≡ map (λ f. f.proc) (drop start path.now)) }
-{
-    path[start..].iter().map(|frame| frame.proc).collect(alloc)
-}
+ghost use Rattle.std.specs.Prelude.{◌≡◌, ◌≢◌, ℕ, ◌+◌, ◌-◌, ◌<◌, ◌≤◌, ◌↔◌, ◌⊎◌, IsTrue, List, IfNone, IfOk, IfSome, OnOk, length, slice_index, sum_by, vec_len};
+ghost use Rattle.call_graph.specs.Calls.{Occurs, Reaches};
+ghost use Rattle.call_graph.specs.Walk.{ByCaller, Holds, Settled, StaysSeen, Within, caller_at, callee_at, frame_at, mark_at, mark_work, work};
 
 /// How many numbers a procedure may have.
 const NUMBERS: usize = 65_536;
@@ -60,115 +45,160 @@ fn unseen(alloc: Global, count: usize) -> Result<Vec<Mark>, AllocError>
     vec![in alloc; Mark::Unseen; count]
 }
 
+/// Marks these procedures as in order, in this group.
+fn mark_group(marks: &mut [Mark], procs: &[ProcId], group: usize)
+    requires { length marks.old ≡ 65536 }
+    ensures each { (p : ℕ) → ((i : ℕ) × (i < length procs.now) × (slice_index procs.now i ≡ p) × (mark_at marks.new p ≡ Mark.Done group)) ⊎ ((mark_at marks.new p ≡ mark_at marks.old p) × ((i : ℕ) → i < length procs.now → slice_index procs.now i ≢ p)) }
+    ensures less { (count : ℕ) → sum_by (mark_work count) marks.new ≤ sum_by (mark_work count) marks.old }
+{
+    for proc in procs {
+        marks[usize::from(*proc)] = Mark::Done(group);
+    }
+}
+
+/// Whether this call stays within a group.
+fn is_within(marks: &[Mark], edge: Edge) -> bool
+    requires { length marks.now ≡ 65536 }
+    ensures { IsTrue result ↔ ((a : ℕ) × (mark_at marks.now edge.caller ≡ Mark.Done a) × (mark_at marks.now edge.callee ≡ Mark.Done a)) }
+{
+    match (
+        marks[usize::from(edge.caller)],
+        marks[usize::from(edge.callee)],
+    ) {
+        (Mark::Done(one), Mark::Done(other)) => one == other,
+        _ => false,
+    }
+}
+
 impl Walk {
     /// A walk that has seen nothing yet.
-    pub(crate) fn new(alloc: Global) -> Result<Self, GraphFault>
+    pub(crate) fn new(alloc: Global) -> Result<Self, AllocError>
         ensures holds { IfOk result (λ walk. (edges : List Edge) → Holds edges walk) }
         ensures empty { IfOk result (λ walk. length walk.path.items ≡ 0) }
-        ensures err { OnErr result (result ≡ Err GraphFault.NoMemory) }
     {
-        let Ok(marks) = unseen(alloc, NUMBERS) else {
-            return Err(GraphFault::NoMemory);
-        };
         Ok(Walk {
-            marks,
+            marks: unseen(alloc, NUMBERS)?,
+            met: Vec::new(alloc),
             path: Vec::new(alloc),
             order: Vec::new(alloc),
         })
     }
 
     /// Goes on to a procedure that was not seen, which the last one on the path calls, if there is one.
-    fn enter(&mut self, calls: &[Edge], proc: ProcId) -> Result<(), GraphFault>
+    fn enter(&mut self, calls: &[Edge], proc: ProcId) -> Result<(), AllocError>
         requires rising { ByCaller calls.now }
         requires holds { Holds calls.now self.old }
         requires unseen { mark_at self.old.marks.items proc ≡ Mark.Unseen }
         requires known { Occurs calls.now proc }
-        requires called { (k : ℕ) → k + 1 ≡ length self.old.path.items → next_at self.old.path.items k < length calls.now × (caller_at calls.now (next_at self.old.path.items k) ≡ proc_at self.old.path.items k) × (callee_at calls.now (next_at self.old.path.items k) ≡ proc) }
+        requires called { (k : ℕ) → k + 1 ≡ length self.old.path.items → (frame_at self.old.path.items k).next < length calls.now × (caller_at calls.now (frame_at self.old.path.items k).next ≡ slice_index self.old.met.items (frame_at self.old.path.items k).place) × (callee_at calls.now (frame_at self.old.path.items k).next ≡ proc) }
         ensures holds { OnOk result (Holds calls.now self.new) }
         ensures less { OnOk result (work calls.now self.new < work calls.now self.old) }
         ensures seen { OnOk result (mark_at self.new.marks.items proc ≢ Mark.Unseen × StaysSeen self.old self.new) }
-        ensures err { OnErr result (result ≡ Err GraphFault.NoMemory) }
     {
-        let next = first_call(calls, proc);
-        let depth = self.path.len();
-        if self.path.push(Frame { proc, next }).is_err() {
-            return Err(GraphFault::NoMemory);
-        }
-        self.marks[usize::from(proc)] = Mark::OnPath(depth);
+        let place = self.met.len();
+        self.met.push(proc)?;
+        self.path.push(Frame {
+            place,
+            next: first_call(calls, proc),
+            low: place,
+        })?;
+        self.marks[usize::from(proc)] = Mark::Met(place);
         Ok(())
     }
 
-    /// Goes past the edge that is followed, whose callee is in order.
-    fn advance(&mut self, calls: &[Edge])
+    /// Goes past the edge that is followed. Its callee is in order, or met at this place or later; and calls lead
+    /// from the last procedure on the path to the one that is met at this place.
+    fn advance(&mut self, calls: &[Edge], place: usize)
         requires holds { Holds calls.now self.old }
         requires some { 0 < length self.old.path.items }
-        requires edge { next_at self.old.path.items (length self.old.path.items - 1) < length calls.now }
-        requires ordered { (j : ℕ) × (mark_at self.old.marks.items (callee_at calls.now (next_at self.old.path.items (length self.old.path.items - 1))) ≡ Mark.Ordered j) }
+        requires edge { (frame_at self.old.path.items (length self.old.path.items - 1)).next < length calls.now }
+        requires settled { Settled (mark_at self.old.marks.items) place (callee_at calls.now (frame_at self.old.path.items (length self.old.path.items - 1)).next) }
+        requires reaches { Reaches calls.now (slice_index self.old.met.items (frame_at self.old.path.items (length self.old.path.items - 1)).place) (slice_index self.old.met.items place) }
         ensures holds { Holds calls.now self.new }
         ensures less { work calls.now self.new < work calls.now self.old }
         ensures marks { self.new.marks ≡ self.old.marks }
     {
         let last = self.path.len() - 1;
-        self.path[last].next += 1;
+        let top = self.path[last];
+        self.path[last] = Frame {
+            place: top.place,
+            next: top.next + 1,
+            low: top.low.min(place),
+        };
     }
 
-    /// Puts the last procedure on the path in order, whose edges all lead to procedures in order.
-    fn leave(&mut self, calls: &[Edge]) -> Result<(), GraphFault>
+    /// Takes the last procedure off the path, whose edges were all followed, and from which calls lead to one that
+    /// was met before it: it stands with the one before it on the path from now on.
+    fn merge(&mut self, calls: &[Edge])
         requires holds { Holds calls.now self.old }
         requires some { 0 < length self.old.path.items }
-        requires done { (i : ℕ) → i < length calls.now → caller_at calls.now i ≡ proc_at self.old.path.items (length self.old.path.items - 1) → i < next_at self.old.path.items (length self.old.path.items - 1) }
+        requires done { (i : ℕ) → i < length calls.now → caller_at calls.now i ≡ slice_index self.old.met.items (frame_at self.old.path.items (length self.old.path.items - 1)).place → i < (frame_at self.old.path.items (length self.old.path.items - 1)).next }
+        requires low { (frame_at self.old.path.items (length self.old.path.items - 1)).low < (frame_at self.old.path.items (length self.old.path.items - 1)).place }
+        ensures holds { Holds calls.now self.new }
+        ensures less { work calls.now self.new < work calls.now self.old }
+        ensures marks { self.new.marks ≡ self.old.marks }
+    {
+        let last = self.path.len() - 1;
+        let low = self.path[last].low;
+        let before = self.path[last - 1];
+        self.path.truncate(last);
+        self.path[last - 1] = Frame {
+            place: before.place,
+            next: before.next,
+            low: before.low.min(low),
+        };
+    }
+
+    /// Takes the last procedure off the path, whose edges were all followed, and puts it in order as a group with
+    /// those that stand with it, from which calls lead to no procedure that was met before.
+    fn close(&mut self, calls: &[Edge]) -> Result<(), AllocError>
+        requires holds { Holds calls.now self.old }
+        requires some { 0 < length self.old.path.items }
+        requires done { (i : ℕ) → i < length calls.now → caller_at calls.now i ≡ slice_index self.old.met.items (frame_at self.old.path.items (length self.old.path.items - 1)).place → i < (frame_at self.old.path.items (length self.old.path.items - 1)).next }
+        requires low { (frame_at self.old.path.items (length self.old.path.items - 1)).place ≤ (frame_at self.old.path.items (length self.old.path.items - 1)).low }
         ensures holds { OnOk result (Holds calls.now self.new) }
         ensures less { OnOk result (work calls.now self.new < work calls.now self.old) }
         ensures seen { OnOk result (StaysSeen self.old self.new) }
-        ensures err { OnErr result (result ≡ Err GraphFault.NoMemory) }
     {
         let last = self.path.len() - 1;
-        let proc = self.path[last].proc;
-        let place = self.order.len();
-        if self.order.push(proc).is_err() {
-            return Err(GraphFault::NoMemory);
-        }
-        self.marks[usize::from(proc)] = Mark::Ordered(place);
+        let place = self.path[last].place;
+        let group = self.order.len();
+        self.order.extend_from_slice(&self.met[place..])?;
+        mark_group(&mut self.marks, &self.met[place..], group);
+        self.met.truncate(place);
         self.path.truncate(last);
         Ok(())
     }
 
-    /// One step from the last procedure on the path: its next callee is gone into or gone past, or closes a
-    /// circle; after the last callee it is put in order.
-    fn step(&mut self, alloc: Global, calls: &[Edge]) -> Result<(), GraphFault>
+    /// One step from the last procedure on the path: its next callee is gone into or gone past; after the last
+    /// callee it leaves the path.
+    fn step(&mut self, calls: &[Edge]) -> Result<(), AllocError>
         requires rising { ByCaller calls.now }
         requires holds { Holds calls.now self.old }
         requires some { 0 < length self.old.path.items }
         ensures holds { OnOk result (Holds calls.now self.new) }
         ensures less { OnOk result (work calls.now self.new < work calls.now self.old) }
         ensures seen { OnOk result (StaysSeen self.old self.new) }
-        ensures fault { IfErr result (IsFaultOf calls.now) }
     {
         let top = self.path[self.path.len() - 1];
-        if top.next == calls.len() || calls[top.next].caller != top.proc {
-            return self.leave(calls);
+        if top.next >= calls.len() || calls[top.next].caller != self.met[top.place] {
+            if top.low == top.place {
+                return self.close(calls);
+            }
+            self.merge(calls);
+            return Ok(());
         }
         let callee = calls[top.next].callee;
         match self.marks[usize::from(callee)] {
-            Mark::Unseen => self.enter(calls, callee),
-            Mark::OnPath(start) => match procs_from(alloc, &self.path, start) {
-                Ok(procs) => Err(GraphFault::Cycle(procs)),
-                Err(_) => Err(GraphFault::NoMemory),
-            },
-            Mark::Ordered(_) => {
-                self.advance(calls);
-                Ok(())
-            }
+            Mark::Unseen => return self.enter(calls, callee),
+            Mark::Met(place) => self.advance(calls, place),
+            Mark::Done(_) => self.advance(calls, top.place),
         }
+        Ok(())
     }
 
     /// Walks from a procedure until it is in order, with all that it leads to.
-    pub(crate) fn visit(
-        &mut self,
-        alloc: Global,
-        calls: &[Edge],
-        proc: ProcId,
-    ) -> Result<(), GraphFault>
+    pub(crate) fn visit(&mut self, calls: &[Edge], proc: ProcId) -> Result<(), AllocError>
         requires rising { ByCaller calls.now }
         requires holds { Holds calls.now self.old }
         requires known { Occurs calls.now proc }
@@ -176,14 +206,27 @@ impl Walk {
         ensures holds { OnOk result (Holds calls.now self.new) }
         ensures empty { OnOk result (length self.new.path.items ≡ 0) }
         ensures seen { OnOk result (mark_at self.new.marks.items proc ≢ Mark.Unseen × StaysSeen self.old self.new) }
-        ensures fault { IfErr result (IsFaultOf calls.now) }
     {
         if let Mark::Unseen = self.marks[usize::from(proc)] {
             self.enter(calls, proc)?;
             while !self.path.is_empty() {
-                self.step(alloc, calls)?;
+                self.step(calls)?;
             }
         }
         Ok(())
+    }
+
+    /// The caller of the first call that stays within a group.
+    pub(crate) fn first_within(&self, calls: &[Edge]) -> Option<ProcId>
+        requires { vec_len self.now.marks ≡ 65536 }
+        ensures some { IfSome result (λ p. (i : ℕ) × (i < length calls.now) × (caller_at calls.now i ≡ p) × Within calls.now self.now.marks.items i × ((j : ℕ) → j < i → Within calls.now self.now.marks.items j → ⊥)) }
+        ensures none { IfNone result ((j : ℕ) → j < length calls.now → Within calls.now self.now.marks.items j → ⊥) }
+    {
+        for edge in calls {
+            if is_within(&self.marks, *edge) {
+                return Some(edge.caller);
+            }
+        }
+        None
     }
 }

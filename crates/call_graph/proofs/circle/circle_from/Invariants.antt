@@ -1,13 +1,14 @@
-use Rattle.std.proofs.Common.{◌<◌, List, length}
-use Rattle.call_graph.specs.Calls.{Calls}
-use Rattle.call_graph.specs.Circle.{Leads, Chain, step_proc}
+use Rattle.std.proofs.Common.{◌≡◌, ℕ, ◌+◌, ◌<◌, List, length, reverse}
+use Rattle.call_graph.specs.Circle.{Traced, step_proc, step_far}
 use Rattle.call_graph.specs.declared.edge.Edge.{Edge}
+use Rattle.call_graph.proofs.CircleLemmas.{Trail}
 use Rattle.call_graph.proofs.circle.circle_from.Given as goal
 
 abbrev pub invariant-loop-place : goal.invariant-loop-place
 invariant-loop-place l = record {
   inside : l.place < length l.steps;
-  chain : (edges : List Edge) → Leads edges l.steps → Calls edges (step_proc l.steps 0) (step_proc l.steps l.at) → Chain edges l.list.items (step_proc l.steps 0) (step_proc l.steps l.place);
+  trail : (calls : List Edge) (start : ℕ) → Traced calls start l.steps → Trail calls (step_proc l.steps l.place) (reverse l.list.items) (step_proc l.steps l.at);
+  long : (calls : List Edge) (start : ℕ) → Traced calls start l.steps → length l.list.items + step_far l.steps l.place ≡ step_far l.steps l.at;
 }
 
 abbrev pub decreases-loop-place : goal.decreases-loop-place

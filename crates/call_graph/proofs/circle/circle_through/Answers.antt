@@ -1,19 +1,15 @@
-use Rattle.std.proofs.Common.{rules, ◌≡◌, ◌∷◌, [], arith}
-use Rattle.std.proofs.lemmas.Grind.{common_steps}
+use Rattle.std.proofs.Common.{rules, ◌≤◌, length}
 use Rattle.std.proofs.lemmas.Bool.{MatchBool-at_true}
-use Rattle.call_graph.proofs.CircleLemmas.{leads_one}
+use Rattle.call_graph.proofs.CircleLemmas.{search_none, search_shortest}
 use Rattle.call_graph.proofs.circle.circle_through.Goals as goal
 
-pub loop-at-init : goal.loop-at-init
-loop-at-init c =
-    let pushed : c.push.new.self.items ≡ (record { proc = c.args.start; next = 0 }) ∷ [] = grind (arith, common_steps) in
-    record { room = search rules; leads = rw pushed (leads_one c.args.edges.now (record { proc = c.args.start; next = 0 })) }
-
-pub circle_from-requires-clause-earlier : goal.circle_from-requires-clause-earlier
-circle_from-requires-clause-earlier c = rw c.deref.ensures.value c.in_ok-spread.ensures.leads.earlier
-
-pub returns-then-branch : goal.returns-then-branch
-returns-then-branch c =
+pub returns-then-branch-clause-some : goal.returns-then-branch-clause-some
+returns-then-branch-clause-some c =
     let closed = MatchBool-at_true _ _ c.if-branch.true c.in_ok-spread.ensures.closed in
-    let steps = rw c.deref.ensures.value at c.in_ok-circle_from.ensures in
-    steps c.args.edges.now c.in_ok-spread.ensures.leads closed
+    let made = (rw c.deref.ensures.value at c.in_ok-circle_from.ensures) c.args.calls.now c.args.start closed.0.traced closed.2 in
+    search_shortest c.args.calls.now c.args.start c.spread.new.seen c.spread.new.steps.items c.loop-at.at c.in_ok-circle_from.field-0.items closed.0 made.0 made.1 made.2
+
+pub returns-clause-none : goal.returns-clause-none
+returns-clause-none c =
+    let all : length c.loop-at.steps.items ≤ c.loop-at.at = search rules in
+    search_none c.args.calls.now c.args.start c.loop-at.seen.items c.loop-at.steps.items c.loop-at.at c.loop-at.invariant all

@@ -1,12 +1,14 @@
-use Rattle.std.proofs.Common.{◌≡◌, ◌<◌, length}
-use Rattle.call_graph.specs.Circle.{Leads, step_proc}
+use Rattle.std.proofs.Common.{◌≡◌, ◌≢◌, ℕ, ◌+◌, ◌<◌, length}
+use Rattle.call_graph.specs.Walk.{caller_at, callee_at}
+use Rattle.call_graph.specs.Circle.{Searched, Place, left, step_proc, step_far}
 use Rattle.call_graph.proofs.circle.spread.Given as goal
 
 abbrev pub invariant-loop-number : goal.invariant-loop-number
 invariant-loop-number l = record {
-  room : length l.seen ≡ 65536;
-  leads : Leads l.edges l.steps.items;
+  searched : Searched l.calls l.start l.seen l.steps.items l.at;
   inside : l.at < length l.steps.items;
-  start_is : step_proc l.steps.items 0 ≡ l.start;
-  proc_is : step_proc l.steps.items l.at ≡ l.proc;
+  proc_is : step_proc l.steps.items l.at ≡ l.step.proc;
+  far_is : step_far l.steps.items l.at ≡ l.step.far;
+  so_far : (i : ℕ) → i < l.number → i < length l.calls → caller_at l.calls i ≡ l.step.proc → (callee_at l.calls i ≢ l.start) × Place l.steps.items (callee_at l.calls i) (step_far l.steps.items l.at + 1);
+  same : left l.seen l.steps.items ≡ left l.initial.seen l.initial.steps.items;
 }

@@ -3,7 +3,7 @@ use Rattle.std.specs.List.Sorted.{IsPermutation}
 use Rattle.std.proofs.lemmas.List.Sorted.{IsNonDecreasingBy-from_sort_by_key}
 use Rattle.call_graph.specs.Calls.{IsCallOrder}
 use Rattle.call_graph.specs.Depths.{edge_of}
-use Rattle.call_graph.proofs.DepthLemmas.{orders_from, depths_from}
+use Rattle.call_graph.proofs.DepthLemmas.{orders_from, depths_same}
 use Rattle.call_graph.proofs.depth.depths.Goals as goal
 
 pub depths_along-requires-clause-rising : goal.depths_along-requires-clause-rising
@@ -23,5 +23,4 @@ pub returns-in-Ok-depths_along-clause-depths : goal.returns-in-Ok-depths_along-c
 returns-in-Ok-depths_along-clause-depths c =
     let copied : c.in-Ok-from_slice.sorted.items ≡ c.args.calls.now = c.in-Ok-from_slice.ensures.items in
     let moved : IsPermutation c.args.calls.now c.deref-3.result.now = rw (c.deref-3.ensures.value, ← copied) c.sort_unstable_by_key.ensures.permutation in
-    depths_from c.args.own.now c.args.calls.now c.deref-3.result.now c.in-Ok-depths_along.depths.items moved
-    c.in-Ok-depths_along.ensures.each c.in-Ok-depths_along.ensures.suffices c.in-Ok-depths_along.ensures.least
+    depths_same c.args.own.now c.args.calls.now c.deref-3.result.now c.in-Ok-depths_along.depths.items moved c.in-Ok-depths_along.ensures

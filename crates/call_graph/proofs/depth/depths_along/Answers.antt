@@ -1,5 +1,5 @@
 use Rattle.std.proofs.Common.{rules, ◌≡◌, ℕ, ◌+◌, ◌*◌, ◌<◌, ◌≤◌, length, slice_index, arith, refl, sym}
-use Rattle.call_graph.proofs.DepthLemmas.{Settled, settle, few, callee_place}
+use Rattle.call_graph.proofs.DepthLemmas.{settle, settled_all, few, callee_place}
 use Rattle.call_graph.proofs.depth.depths_along.Goals as goal
 
 pub depth_of-requires-clause-fits : goal.depth_of-requires-clause-fits
@@ -14,26 +14,14 @@ depth_of-requires-clause-fits c = λ i h is.
 pub loop-proc-preserved : goal.loop-proc-preserved
 loop-proc-preserved c =
     let inside : c.loop-proc.proc-index < length c.args.order.now = search rules in
-    let kept = c.loop-proc.invariant in
-    let settled : Settled c.args.own.now c.args.calls.now c.args.order.now c.loop-proc.proc-index c.loop-proc.depths.items = record {
-      each = kept.each;
-      own_bytes = kept.own_bytes;
-      held_bytes = kept.held_bytes;
-      least = kept.least;
-      low = kept.low;
-    } in
     let p : ℕ = slice_index c.args.order.now c.loop-proc.proc-index in
-    let next = settle c.args.own.now c.args.calls.now c.args.order.now c.loop-proc.proc-index c.loop-proc.depths.items p c.depth_of.result c.requires.orders settled inside refl
+    rw c.from-at.ensures (settle c.args.own.now c.args.calls.now c.args.order.now c.loop-proc.proc-index c.loop-proc.depths.items p c.depth_of.result c.requires.orders c.loop-proc.invariant inside refl
     (rw c.from-at.ensures at c.depth_of.ensures.own)
     (rw c.deref.ensures.value at c.depth_of.ensures.held)
     (rw (c.from-at.ensures, c.deref.ensures.value) at c.depth_of.ensures.least)
-    (rw c.deref.ensures.value at c.depth_of.ensures.low) in
-    rw c.from-at.ensures (record { each = next.each; own_bytes = next.own_bytes; held_bytes = next.held_bytes; least = next.least; low = next.low })
+    (rw c.deref.ensures.value at c.depth_of.ensures.low))
 
-pub returns-clause-suffices : goal.returns-clause-suffices
-returns-clause-suffices c = record {
-  own_bytes = c.loop-proc.invariant.own_bytes;
-  held_bytes = λ i h. let z = c.requires.orders.callees_first i h in
-      let all : length c.args.order.now ≡ c.loop-proc.proc-index = search rules in
-      c.loop-proc.invariant.held_bytes z.1.0 i (rw (← all) z.1.1.1) h z.1.1.3;
-}
+pub returns : goal.returns
+returns c =
+    let all : length c.args.order.now ≡ c.loop-proc.proc-index = search rules in
+    settled_all c.args.own.now c.args.calls.now c.args.order.now c.loop-proc.proc-index c.loop-proc.depths.items c.requires.orders c.loop-proc.invariant all

@@ -1,4 +1,8 @@
-use Rattle.std.proofs.Common.{rules, ◌≡◌}
+use Rattle.std.proofs.Common.{rules, ◌≡◌, ℕ, List, Vec, Global, Result, Ok, Err}
+use Rattle.std.specs.Result.{IfOk, IfErr, OnOk}
+use Rattle.call_graph.specs.Calls.{IsCallOrder, IsCycle, IsFaultOf}
+use Rattle.call_graph.specs.declared.edge.Edge.{Edge}
+use Rattle.call_graph.specs.declared.fault.GraphFault.{GraphFault}
 use Rattle.std.specs.List.Sorted.{IsPermutation}
 use Rattle.std.proofs.lemmas.List.Sorted.{IsNonDecreasingBy-from_sort_by_key}
 use Rattle.call_graph.proofs.OrderLemmas.{no_circle, order_same, fault_same}
@@ -8,21 +12,16 @@ pub order_by_caller-requires : goal.order_by_caller-requires
 order_by_caller-requires c =
     rw c.deref.ensures.value (IsNonDecreasingBy-from_sort_by_key (λ e. e.caller) _ c.sort_unstable_by_key.ensures.sorted (λ a r q k. search rules))
 
-pub returns-in-Ok-order_by_caller-clause-order : goal.returns-in-Ok-order_by_caller-clause-order
-returns-in-Ok-order_by_caller-clause-order c =
+-- what the sorted calls say, the calls say
+outcome : (edges sorted : List Edge) → IsPermutation edges sorted → (result : Result (Vec ℕ Global) GraphFault) → IfOk result (λ list. IsCallOrder sorted list.items) → IfErr result (IsFaultOf sorted) →
+    IfOk result (λ list. IsCallOrder edges list.items) × OnOk result ((list : List ℕ) → IsCycle edges list → ⊥) × IfErr result (IsFaultOf edges)
+outcome edges sorted moved (Ok list) order fault =
+    let same = order_same edges sorted list.items moved order in (same, λ circle. no_circle edges list.items circle same, tt)
+outcome edges sorted moved (Err fault) order named = (tt, tt, fault_same edges sorted moved fault named)
+
+pub returns : goal.returns
+returns c =
     let copied : c.in-Ok.calls.items ≡ c.args.edges.now = c.in-Ok.ensures.items in
     let moved : IsPermutation c.args.edges.now c.deref.result.now = rw (c.deref.ensures.value, ← copied) c.sort_unstable_by_key.ensures.permutation in
-    order_same c.args.edges.now c.deref.result.now c.in-Ok-order_by_caller.list.items moved c.in-Ok-order_by_caller.ensures.order
-
-pub returns-in-Ok-order_by_caller-clause-acyclic : goal.returns-in-Ok-order_by_caller-clause-acyclic
-returns-in-Ok-order_by_caller-clause-acyclic c = λ circle.
-    let copied : c.in-Ok.calls.items ≡ c.args.edges.now = c.in-Ok.ensures.items in
-    let moved : IsPermutation c.args.edges.now c.deref.result.now = rw (c.deref.ensures.value, ← copied) c.sort_unstable_by_key.ensures.permutation in
-    no_circle c.args.edges.now c.in-Ok-order_by_caller.list.items circle
-    (order_same c.args.edges.now c.deref.result.now c.in-Ok-order_by_caller.list.items moved c.in-Ok-order_by_caller.ensures.order)
-
-pub returns-in-Err-Cycle-clause-fault : goal.returns-in-Err-Cycle-clause-fault
-returns-in-Err-Cycle-clause-fault c =
-    let copied : c.in-Ok.calls.items ≡ c.args.edges.now = c.in-Ok.ensures.items in
-    let moved : IsPermutation c.args.edges.now c.sort_unstable_by_key.new.self.items = rw (← copied) c.sort_unstable_by_key.ensures.permutation in
-    fault_same c.args.edges.now c.sort_unstable_by_key.new.self.items moved c.lowest_fault.result c.lowest_fault.ensures
+    let z = outcome c.args.edges.now c.deref.result.now moved c.order_by_caller.result c.order_by_caller.ensures.order c.order_by_caller.ensures.fault in
+    record { order = z.0; acyclic = z.1; fault = z.2 }

@@ -1,16 +1,15 @@
-use Rattle.std.proofs.Common.{rules, ◌≡◌, ◌<◌, length, inl, refl}
-use Rattle.call_graph.specs.Walk.{callee_at}
-use Rattle.call_graph.proofs.OrderLemmas.{order_lists}
-use Rattle.call_graph.proofs.WalkLemmas.{calls_at}
+use Rattle.call_graph.proofs.OrderLemmas.{order_of, lowest_start}
 use Rattle.call_graph.proofs.ordering.order_by_caller.Goals as goal
 
-pub visit-requires-clause-known : goal.visit-requires-clause-known
-visit-requires-clause-known c =
-    let inside : c.loop-edge.edge-index < length c.args.calls.now = search rules in
-    (callee_at c.args.calls.now c.loop-edge.edge-index, inl (calls_at c.args.calls.now c.loop-edge.edge-index _ _ inside refl refl))
+pub circle_fault-requires-clause-lowest : goal.circle_fault-requires-clause-lowest
+circle_fault-requires-clause-lowest c =
+    let w = c.in-Ok.walk in
+    let g = c.in-Ok.ensures in
+    let z = c.in-Some.ensures.some in
+    lowest_start c.args.calls.now w.marks.items w.met.items w.path.items w.order.items c.in-Some.start z.0 g.holds.kept g.empty g.seen c.requires z.1 z.2 z.3 z.4
 
-pub returns-clause-order : goal.returns-clause-order
-returns-clause-order c =
-    let all : length c.args.calls.now ≡ c.loop-edge.edge-index = search rules in
-    order_lists c.args.calls.now c.loop-edge.walk.marks.items c.loop-edge.walk.path.items c.loop-edge.walk.order.items
-    c.loop-edge.invariant.holds.kept c.loop-edge.invariant.empty (λ i h. c.loop-edge.invariant.seen i (rw (← all) h))
+pub returns-in-None-clause-order : goal.returns-in-None-clause-order
+returns-in-None-clause-order c =
+    let w = c.in-Ok.walk in
+    let g = c.in-Ok.ensures in
+    order_of c.args.calls.now w.marks.items w.met.items w.path.items w.order.items g.holds.kept g.empty g.seen c.in-None.ensures.none

@@ -1,15 +1,18 @@
-use Rattle.std.proofs.Common.{◌≡◌, ◌<◌, ◌++◌, [], ◌∷◌, length, arith}
+use Rattle.std.proofs.Common.{◌≡◌, ◌<◌, ◌++◌, [], ◌∷◌, length, arith, rules}
 use Rattle.std.proofs.lemmas.Grind.{common_steps}
-use Rattle.std.proofs.Common.{rules}
-use Rattle.call_graph.proofs.WalkLemmas.{enter_lists}
+use Rattle.call_graph.proofs.StateLemmas.{enter_lists}
 use Rattle.call_graph.proofs.walk.Walk.enter.Goals as goal
 
 pub returns-clause-holds : goal.returns-clause-holds
 returns-clause-holds c =
-    let in_room : c.args.proc < length c.args.self.now.marks.items = search rules in
-    let pushed : c.push.new.self.items ≡ c.args.self.now.path.items ++ (record { proc = c.args.proc; next = c.first_call-next.result }) ∷ [] = grind (arith, common_steps) in
-    let kept = enter_lists c.args.calls.now c.args.self.now.marks.items c.args.self.now.path.items c.args.self.now.order.items c.args.proc c.first_call-next.result
-    c.requires.holds.kept in_room c.requires.unseen c.requires.known c.requires.called
-    c.first_call-next.ensures.bound c.first_call-next.ensures.before c.first_call-next.ensures.from in
-    let depth_is : c.len-depth.result ≡ length c.args.self.now.path.items = search rules in
-    record { kept = rw (pushed, c.from.ensures, depth_is) kept; room = c.requires.holds.room }
+    let w = c.args.self.now in
+    let in_room : c.args.proc < length w.marks.items = search rules in
+    let place : c.len-place.result ≡ length w.met.items = search rules in
+    let met : c.push.new.self.items ≡ w.met.items ++ c.args.proc ∷ [] = grind (arith, common_steps) in
+    let path : c.push-2.new.self.items ≡ w.path.items ++ (record { place = c.len-place.result; next = c.first_call.result; low = c.len-place.result }) ∷ [] = grind (arith, common_steps) in
+    record {
+      kept = rw (met, path, c.from.ensures, place) (enter_lists c.args.calls.now w.marks.items w.met.items w.path.items w.order.items c.args.proc c.first_call.result
+          c.requires.holds.kept in_room c.requires.unseen c.requires.known c.requires.called
+          c.first_call.ensures.bound (λ i. c.first_call.ensures.before i (record { caller = 0; callee = 0 })) (λ i. c.first_call.ensures.from i (record { caller = 0; callee = 0 })));
+      room = c.requires.holds.room;
+    }

@@ -1,31 +1,12 @@
-use Rattle.std.proofs.Common.{rules, List, ◌≡◌, ◌≢◌, ℕ, ◌+◌, ◌-◌, ◌<◌, ◌≤◌, ap, sym, ◌∙◌, arith, length, map, drop, inr, get_or, refl}
+use Rattle.std.proofs.Common.{List, ◌≡◌, ℕ, ◌-◌, ◌<◌, ap, sym, ◌∙◌, arith, rules, length, slice_index, inr, get_or, refl, subst}
 use Rattle.std.proofs.lemmas.List.{get_or_default}
-use Rattle.call_graph.specs.Calls.{IsCycle}
-use Rattle.call_graph.specs.Walk.{KeptBy, caller_at, callee_at, proc_at, next_at, mark_at}
-use Rattle.call_graph.specs.declared.edge.Edge.{Edge}
-use Rattle.call_graph.specs.declared.walk.Frame.{Frame}
+use Rattle.call_graph.specs.Calls.{Reaches}
+use Rattle.call_graph.specs.Walk.{caller_at, callee_at, frame_at, mark_at}
 use Rattle.call_graph.specs.declared.walk.Mark.{Mark}
-use Rattle.call_graph.specs.declared.walk.Mark.TheVariants.{Unseen, OnPath}
-use Rattle.call_graph.proofs.WalkLemmas.{calls_at, cycle_lists}
+use Rattle.call_graph.specs.declared.walk.Mark.TheVariants.{Unseen, Met}
+use Rattle.call_graph.proofs.CallLemmas.{calls_at, reaches_self, reaches_call}
+use Rattle.call_graph.proofs.StateLemmas.{frame_read}
 use Rattle.call_graph.proofs.walk.Walk.step.Goals as goal
-
--- the last procedure on the path, as it was read
-record Top (edges : List Edge) (path : List Frame) (top : Frame) : Type 0 where
-  last : length path - 1 + 1 ≡ length path
-  proc : top.proc ≡ proc_at path (length path - 1)
-  next : top.next ≡ next_at path (length path - 1)
-  inside : top.next < length edges
-
-top_is : (edges : List Edge) (marks : List Mark) (path : List Frame) (list : List ℕ) (top : Frame) (depth : ℕ) → KeptBy edges marks path list → 0 < length path →
-    depth ≡ length path → top ≡ get_or path (depth - 1) top → top.next ≢ length edges → Top edges path top
-top_is edges marks path list top depth kept some is read more =
-    let n : ℕ = length path - 1 in
-    let here : n < length path = omega arith in
-    let value : top ≡ get_or path n (record { proc = 0; next = 0 }) =
-    read ∙ (ap (λ d. get_or path (d - 1) top) is ∙ get_or_default path n top (record { proc = 0; next = 0 }) here) in
-    let next : top.next ≡ next_at path n = ap (λ f. f.next) value in
-    let fits : next_at path n ≤ length edges = kept.in_range n here in
-    record { last = omega arith; proc = ap (λ f. f.proc) value; next = next; inside = omega arith }
 
 mark_read : (marks : List Mark) (p q : ℕ) (x m : Mark) → p < length marks → q ≡ p → x ≡ get_or marks q x → x ≡ m → mark_at marks p ≡ m
 mark_read marks p q x m inside same read is =
@@ -33,32 +14,36 @@ mark_read marks p q x m inside same read is =
 
 pub enter-requires-clause-known : goal.enter-requires-clause-known
 enter-requires-clause-known c =
-    let depth : c.len.result ≡ length c.args.self.now.path.items = search rules in
-    let top = top_is c.args.calls.now c.args.self.now.marks.items c.args.self.now.path.items c.args.self.now.order.items c.index-top.result.now c.len.result
-    c.requires.holds.kept c.requires.some depth c.index-top.ensures c.if-top-calls.false in
-    (caller_at c.args.calls.now c.index-top.result.now.next, inr (calls_at c.args.calls.now c.index-top.result.now.next _ _ top.inside refl refl))
+    let next : ℕ = c.index-top.result.now.next in
+    (caller_at c.args.calls.now next, inr (calls_at c.args.calls.now next _ _ (omega arith) refl refl))
 
-pub procs_from-requires : goal.procs_from-requires
-procs_from-requires c =
-    let callee : ℕ = callee_at c.args.calls.now c.index-top.result.now.next in
-    let inside : callee < length c.args.self.now.marks.items = search rules in
-    let mark : mark_at c.args.self.now.marks.items callee ≡ OnPath c.in-OnPath.start =
-    mark_read c.args.self.now.marks.items callee c.from.result c.index.result.now (OnPath c.in-OnPath.start) inside c.from.ensures c.index.ensures c.in-OnPath.is in
-    let there : c.in-OnPath.start < length c.args.self.now.path.items = (c.requires.holds.kept.path_is callee c.in-OnPath.start mark).0 in
-    rw c.deref.ensures.value (omega arith)
-
-pub returns-in-Ok-clause-fault : goal.returns-in-Ok-clause-fault
-returns-in-Ok-clause-fault c =
-    let edges = c.args.calls.now in
-    let path = c.args.self.now.path.items in
-    let callee : ℕ = callee_at edges c.index-top.result.now.next in
-    let inside : callee < length c.args.self.now.marks.items = search rules in
-    let mark : mark_at c.args.self.now.marks.items callee ≡ OnPath c.in-OnPath.start =
-    mark_read c.args.self.now.marks.items callee c.from.result c.index.result.now (OnPath c.in-OnPath.start) inside c.from.ensures c.index.ensures c.in-OnPath.is in
+pub advance-requires-clause-reaches : goal.advance-requires-clause-reaches
+advance-requires-clause-reaches c =
+    let w = c.args.self.now in
+    let path = w.path.items in
+    let n : ℕ = length path - 1 in
+    let some : 0 < length path = c.requires.some in
+    let inside : n < length path = omega arith in
     let depth : c.len.result ≡ length path = search rules in
-    let top = top_is edges c.args.self.now.marks.items path c.args.self.now.order.items c.index-top.result.now c.len.result
-    c.requires.holds.kept c.requires.some depth c.index-top.ensures c.if-top-calls.false in
-    let circle : IsCycle edges (map (λ f. f.proc) (drop c.in-OnPath.start path)) =
-    cycle_lists edges c.args.self.now.marks.items path c.args.self.now.order.items (length path - 1) c.in-OnPath.start callee c.requires.holds.kept top.last
-    (rw (← top.next) top.inside) (ap (caller_at edges) (sym top.next) ∙ (c.if-calls-top.false ∙ top.proc)) (ap (callee_at edges) (sym top.next)) mark in
-    rw (c.in-Ok.ensures, c.deref.ensures.value) circle
+    let top = c.index-top.result.now in
+    let value : top ≡ frame_at path n = frame_read path n (c.len.result - 1) top (ap (λ d. d - 1) depth) inside c.index-top.ensures in
+    let callee : ℕ = callee_at c.args.calls.now top.next in
+    let fits : callee < length w.marks.items = search rules in
+    let mark : mark_at w.marks.items callee ≡ Met c.in-Met.place =
+    mark_read w.marks.items callee c.from.result c.index-2.result.now (Met c.in-Met.place) fits c.from.ensures c.index-2.ensures c.in-Met.is in
+    let there : slice_index w.met.items c.in-Met.place ≡ callee = (c.requires.holds.kept.stands.met_is callee c.in-Met.place mark).1 in
+    let placed : top.place < length w.met.items = rw (← value) at (c.requires.holds.kept.stands.placed n inside) in
+    let caller : caller_at c.args.calls.now top.next ≡ slice_index w.met.items (frame_at path n).place =
+    c.if-calls-top.false ∙ (c.index.ensures ∙ (get_or_default w.met.items top.place c.index.result.now 0 placed ∙ ap (λ f. slice_index w.met.items f.place) value)) in
+    reaches_call c.args.calls.now _ _ (calls_at c.args.calls.now top.next _ _ (omega arith) caller (sym there))
+
+pub advance-requires-in-Done-clause-reaches : goal.advance-requires-in-Done-clause-reaches
+advance-requires-in-Done-clause-reaches c =
+    let path = c.args.self.now.path.items in
+    let met = c.args.self.now.met.items in
+    let n : ℕ = length path - 1 in
+    let some : 0 < length path = c.requires.some in
+    let depth : c.len.result ≡ length path = search rules in
+    let top = c.index-top.result.now in
+    let value : top ≡ frame_at path n = frame_read path n (c.len.result - 1) top (ap (λ d. d - 1) depth) (omega arith) c.index-top.ensures in
+    subst (λ v. Reaches c.args.calls.now (slice_index met (frame_at path n).place) (slice_index met v.place)) (sym value) (reaches_self c.args.calls.now (slice_index met (frame_at path n).place))

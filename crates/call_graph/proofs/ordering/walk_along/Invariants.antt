@@ -1,7 +1,7 @@
 use Rattle.std.proofs.Common.{◌≡◌, ◌≢◌, ℕ, ◌<◌, length}
 use Rattle.call_graph.specs.Walk.{Holds, caller_at, mark_at}
 use Rattle.call_graph.specs.declared.walk.Mark.TheVariants.{Unseen}
-use Rattle.call_graph.proofs.ordering.order_by_caller.Given as goal
+use Rattle.call_graph.proofs.ordering.walk_along.Given as goal
 
 abbrev pub invariant-loop-edge : goal.invariant-loop-edge
 invariant-loop-edge l = record {

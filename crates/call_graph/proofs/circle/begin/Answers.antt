@@ -1,0 +1,19 @@
+use Rattle.std.proofs.Common.{rules, ◌≡◌, ℕ, [], ◌∷◌, true, false, set, inl, inr, arith, sym, ◌∙◌, refl, length-set, get_or-set_other}
+use Rattle.std.proofs.lemmas.Bool.{cases_eq}
+use Rattle.std.proofs.lemmas.Grind.{common_steps}
+use Rattle.call_graph.specs.Circle.{seen_at}
+use Rattle.call_graph.proofs.CircleLemmas.{search_begun}
+use Rattle.call_graph.proofs.circle.begin.Goals as goal
+
+pub returns : goal.returns
+returns c = λ calls.
+    let start : ℕ = c.args.start in
+    let seen = c.in_ok-seen.seen.items in
+    let pushed : c.push.new.self.items ≡ (record { proc = start; from = 0; far = 0 }) ∷ [] = grind (arith, common_steps) in
+    let written : (p : ℕ) → seen_at (set seen start true) p ≡ true → p ≡ start =
+    λ p yes. elim (cases_eq p start) [
+      | inl e ↦ e
+      | inr ne ↦ absurd (let x = sym (get_or-set_other seen start p true false ne) ∙ yes in let y = c.in_ok-seen.ensures.none p in cc)
+    ] in
+    rw (c.from.ensures, pushed) (search_begun calls start (set seen start true) (record { proc = start; from = 0; far = 0 })
+    (length-set seen start true ∙ search rules) refl refl written)
