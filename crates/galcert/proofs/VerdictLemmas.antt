@@ -8,7 +8,7 @@ use Rattle.cert_checker.specs.Profile.{profile_of}
 use Rattle.certificate.specs.Contents.{Contents}
 use Rattle.certificate.specs.Device.{Gives, Takes}
 use Rattle.certificate.specs.Text.{IsInForm, text_of}
-use Rattle.galcert.specs.Verdict.{IsAccepted, PrintsRefusal, ROM_READ_LEN, TellsAccepted, TellsRefusal, accepted_text}
+use Rattle.galcert.specs.Verdict.{IsAccepted, OnAccepted, PlaysToBadLine, PrintsRefusal, ROM_READ_LEN, TellsAccepted, TellsRefusal, accepted_text}
 
 pub accepted_of : (rom text : List ℕ) (read kept : Contents) → kept ≡ read → IsInForm read → text ≡ text_of read → Accepts rom read → Safe (profile_of rom read) None → IsAccepted rom text kept
 accepted_of rom text read kept same form is accepts safe =
@@ -69,3 +69,18 @@ tells_refusal rom after text old new m n items bytes line_items lines most print
     told (Some r) None p q = tt
     told (Some r) (Some t) p q =
         (printed, takes, subst (λ (x : List ℕ). PrintsRefusal x t printed) p (subst (λ (y : List ℕ). PrintsRefusal bytes y printed) q refusal))
+
+pub on_accepted : (rom text : Option (List ℕ)) (m n : ℕ) (items bytes line_items lines : List ℕ) (most : ℕ) (certificate : Contents) (Holds : List ℕ → Type 0) →
+    WasRead rom ROM_READ_LEN m items bytes → WasRead text most n line_items lines → n < most → IsAccepted bytes lines certificate → Holds bytes → OnAccepted rom text Holds
+on_accepted rom text m n items bytes line_items lines most certificate Holds was_rom was_text few accepted holds =
+    told rom text (all_bytes rom _ m items bytes was_rom (omega (arith, was_rom.len_is, accepted.accepts.fits_rom.fits))) (all_bytes text most n line_items lines was_text few)
+  where
+    told : (rom text : Option (List ℕ)) → IfSome rom (λ all. bytes ≡ all) → IfSome text (λ all. lines ≡ all) → OnAccepted rom text Holds
+    told None text p q = tt
+    told (Some r) None p q = tt
+    told (Some r) (Some t) p q =
+        (certificate, subst (λ (x : List ℕ). IsAccepted x t certificate) p (subst (λ (y : List ℕ). IsAccepted bytes y certificate) q accepted), subst Holds p holds)
+
+-- the same from a sink that is the same
+pub bad_line_from : {X : Type 0} (taken : X → Option (List ℕ)) (steps : ℕ) (input new : Option (List ℕ)) (before same : X) → before ≡ same → PlaysToBadLine steps input (taken before) new → PlaysToBadLine steps input (taken same) new
+bad_line_from {X} taken steps input new before same e told = subst (λ (x : X). PlaysToBadLine steps input (taken x) new) e told

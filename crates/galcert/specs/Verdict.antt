@@ -14,6 +14,9 @@ use Rattle.certificate.specs.Contents.{Contents}
 use Rattle.certificate.specs.Device.{Takes}
 use Rattle.certificate.specs.Text.{HasTooManyRows, IsFirstBadLine, IsInForm, text_of}
 use Rattle.certificate.specs.Fields.{hex4}
+use Rattle.runner.specs.Output.{summary_text}
+use Rattle.runner.specs.Playing.{IsBadLine, OfBytes, Played}
+use Rattle.runner.specs.declared.machine.Summary.{Summary}
 use Rattle.z80_decode.specs.declared.fault.DecodeFault.TheVariants as decoding
 
 -- a number in decimal, right in five places
@@ -93,3 +96,23 @@ TellsAccepted rom text old new =
 abbrev pub TellsRefusal : Option (List ℕ) → Option (List ℕ) → Option (List ℕ) → Option (List ℕ) → Type 0
 TellsRefusal rom text old new =
     IfSome rom (λ bytes. IfSome text (λ lines. (printed : List ℕ) × Takes old printed new × PrintsRefusal (take ROM_READ_LEN bytes) lines printed))
+
+-- at most so many events of an input were played on a ROM, and the summary was written
+abbrev pub PlaysTo : List ℕ → ℕ → Option (List ℕ) → Option (List ℕ) → Option (List ℕ) → Type 0
+PlaysTo rom steps input old new = (summary : Summary) × OfBytes input (Played rom steps summary) × Takes old (summary_text summary) new
+
+-- a line of an input that is needed for so many events is out of form, and its number was written
+abbrev pub PlaysToBadLine : ℕ → Option (List ℕ) → Option (List ℕ) → Option (List ℕ) → Type 0
+PlaysToBadLine steps input old new = (line : ℕ) × OfBytes input (IsBadLine steps line) × Takes old (bad_line_text (codes "bad input") line) new
+
+-- the files hold a ROM and a certificate that is accepted for it, and this holds of the ROM
+abbrev pub OnAccepted : Option (List ℕ) → Option (List ℕ) → (List ℕ → Type 0) → Type 0
+OnAccepted rom text Holds = IfSome rom (λ bytes. IfSome text (λ lines. (certificate : Contents) × IsAccepted bytes lines certificate × Holds bytes))
+
+-- the files hold a ROM and a certificate that is accepted for it, and an input was played on the ROM
+abbrev pub TellsRun : ℕ → Option (List ℕ) → Option (List ℕ) → Option (List ℕ) → Option (List ℕ) → Option (List ℕ) → Type 0
+TellsRun steps rom text input old new = OnAccepted rom text (λ bytes. PlaysTo bytes steps input old new)
+
+-- or the input has a bad line
+abbrev pub TellsBadInput : ℕ → Option (List ℕ) → Option (List ℕ) → Option (List ℕ) → Option (List ℕ) → Option (List ℕ) → Type 0
+TellsBadInput steps rom text input old new = OnAccepted rom text (λ _. PlaysToBadLine steps input old new)

@@ -1,6 +1,6 @@
 ghost use Rattle.std.specs.Prelude.{◌≡◌, ◌≤◌, ◌<◌, ◌⊎◌, List, ℕ, IsErr, IsOk, IfErr, IfOk, OnOk};
 ghost use Rattle.galcert.specs.Devices.{SomeFailed};
-ghost use Rattle.galcert.specs.Verdict.{IsAccepted, PrintsRefusal, TellsAccepted, TellsRefusal};
+ghost use Rattle.galcert.specs.Verdict.{IsAccepted, PlaysTo, PlaysToBadLine, PrintsRefusal, TellsAccepted, TellsBadInput, TellsRefusal, TellsRun};
 ghost use Rattle.certificate.specs.Device.{HasGrown, Takes};
 
 use crate::reading::{Stop, read_up_to};
@@ -60,6 +60,8 @@ pub fn run_on<A: Source, B: Source, C: Source, W: Sink>(
     steps: u32,
     out: &mut W,
 ) -> u8
+    ensures run { result ≡ 0 → TellsRun steps (A.rest rom.old) (B.rest cert.old) (C.rest input.old) (W.taken out.old) (W.taken out.new) }
+    ensures refused { result ≡ 1 → TellsRefusal (A.rest rom.old) (B.rest cert.old) (W.taken out.old) (W.taken out.new) ⊎ TellsBadInput steps (A.rest rom.old) (B.rest cert.old) (C.rest input.old) (W.taken out.old) (W.taken out.new) }
     ensures device { result ≡ 3 → HasGrown (C.failure_count input.old) (C.failure_count input.new) ⊎ SomeFailed (A.failure_count rom.old) (A.failure_count rom.new) (B.failure_count cert.old) (B.failure_count cert.new) (W.failure_count out.old) (W.failure_count out.new) }
     ensures known { result ≤ 4 }
 {
@@ -115,6 +117,8 @@ fn judge<'r, W: Sink>(
 }
 
 fn play_on<C: Source, W: Sink>(accepted: &Accepted, input: &mut C, steps: u32, out: &mut W) -> u8
+    ensures run { result ≡ 0 → PlaysTo accepted.now.rom steps (C.rest input.old) (W.taken out.old) (W.taken out.new) }
+    ensures bad { result ≡ 1 → PlaysToBadLine steps (C.rest input.old) (W.taken out.old) (W.taken out.new) }
     ensures device { result ≡ 3 → HasGrown (C.failure_count input.old) (C.failure_count input.new) ⊎ HasGrown (W.failure_count out.old) (W.failure_count out.new) }
     ensures known { result ≤ 4 }
 {
