@@ -4,11 +4,8 @@ ghost use Rattle.call_graph.specs.Calls.{Calls, IsCycle};
 ghost use Rattle.call_graph.specs.Circle.{IsShortestFrom, Returns, Searched, Traced, left, seen_at, step_far, step_from, step_proc};
 ghost use Rattle.call_graph.specs.Walk.{ByCaller};
 
-use crate::edge::{Edge, ProcId, first_call};
+use crate::edge::{Edge, NUMBERS, ProcId, first_call};
 use std::alloc::{AllocError, Global};
-
-/// How many numbers a procedure may have.
-const NUMBERS: usize = 65_536;
 
 /// A procedure that the start of a search leads to, the place in the search of the one that calls it on a
 /// shortest way, and how many calls that way has.

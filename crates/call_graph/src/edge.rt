@@ -4,6 +4,9 @@ ghost use Rattle.std.specs.List.Sorted.{IsNonDecreasingBy};
 /// A procedure, by its number: they count from 0 in the order of the certificate.
 pub type ProcId = u16;
 
+/// How many numbers a procedure may have.
+pub(crate) const NUMBERS: usize = 65_536;
+
 /// A call: the procedure that calls, and the one that it calls.
 #[derive(Clone, Copy, Debug, PartialEq, Eq)]
 pub struct Edge {

@@ -156,10 +156,11 @@ fn held_circle() -> [Held; 1]
 
 #[test]
 fn no_depths_on_a_circle(rt: HostRuntime) -> Result<(), Fail> {
-    match depths(rt.alloc(), &[1, 3, 5, 9], &held_circle()) {
-        Err(GraphFault::Cycle(list)) => assert_eq!(rt; list.as_slice(), [1].as_slice()),
-        _ => assert!(rt; false),
+    let mut named = Vec::new(rt.alloc());
+    if let Err(GraphFault::Cycle(list)) = depths(rt.alloc(), &[1, 3, 5, 9], &held_circle()) {
+        named = list;
     }
+    assert_eq!(rt; named.as_slice(), [1].as_slice());
     Ok(())
 }
 

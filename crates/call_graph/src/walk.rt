@@ -1,4 +1,8 @@
-use crate::edge::{Edge, ProcId, first_call};
+ghost use Rattle.std.specs.Prelude.{◌≡◌, ◌≢◌, ℕ, ◌+◌, ◌-◌, ◌<◌, ◌≤◌, ◌↔◌, ◌⊎◌, IsTrue, List, IfNone, IfOk, IfSome, OnOk, length, slice_index, sum_by, vec_len};
+ghost use Rattle.call_graph.specs.Calls.{Occurs, Reaches};
+ghost use Rattle.call_graph.specs.Walk.{ByCaller, Holds, Settled, StaysSeen, Within, caller_at, callee_at, frame_at, mark_at, mark_work, work};
+
+use crate::edge::{Edge, NUMBERS, ProcId, first_call};
 use std::alloc::{AllocError, Global};
 
 /// Where a procedure stands in the walk.
@@ -29,13 +33,6 @@ pub(crate) struct Walk {
     pub(crate) path: Vec<Frame>,
     pub(crate) order: Vec<ProcId>,
 }
-
-ghost use Rattle.std.specs.Prelude.{◌≡◌, ◌≢◌, ℕ, ◌+◌, ◌-◌, ◌<◌, ◌≤◌, ◌↔◌, ◌⊎◌, IsTrue, List, IfNone, IfOk, IfSome, OnOk, length, slice_index, sum_by, vec_len};
-ghost use Rattle.call_graph.specs.Calls.{Occurs, Reaches};
-ghost use Rattle.call_graph.specs.Walk.{ByCaller, Holds, Settled, StaysSeen, Within, caller_at, callee_at, frame_at, mark_at, mark_work, work};
-
-/// How many numbers a procedure may have.
-const NUMBERS: usize = 65_536;
 
 /// This many marks, of procedures that were not seen.
 fn unseen(alloc: Global, count: usize) -> Result<Vec<Mark>, AllocError>
