@@ -13,3 +13,8 @@ Gives None bytes new = Unit {0}
 abbrev pub Takes : Option (List ℕ) → List ℕ → Option (List ℕ) → Type 0
 Takes (Some old) bytes new = new ≡ Some (old ++ bytes)
 Takes None bytes new = Unit {0}
+
+-- what a sink that tells its bytes has taken is a beginning of these
+abbrev pub TakesPart : Option (List ℕ) → List ℕ → Option (List ℕ) → Type 0
+TakesPart (Some old) bytes new = (part : List ℕ) × (rest : List ℕ) × (new ≡ Some (old ++ part)) × (bytes ≡ part ++ rest)
+TakesPart None bytes new = Unit {0}

@@ -1,5 +1,5 @@
 ghost use Rattle.std.specs.Prelude.{◌≡◌, ◌<◌, ◌≤◌, ℕ, List, Option, Ok, IfOk, IfSome, OnErr, length, take, ◌++◌, []};
-ghost use Rattle.certificate.specs.Device.{HasGrown, Gives, Takes};
+ghost use Rattle.certificate.specs.Device.{HasGrown, Gives, Takes, TakesPart};
 
 /// A device failed. Its count of failures tells that it did.
 #[derive(Clone, Copy, Debug, PartialEq, Eq)]
@@ -36,10 +36,11 @@ pub trait Sink {
     ghost failure_count: { Self → ℕ };
 
     /// Writes a beginning of the bytes and gives its length; 0 for bytes that are not empty is a failure too,
-    /// and is counted. Each fault raises the count of failures.
+    /// and is counted. Each fault raises the count of failures; what was taken at a fault is a beginning too.
     fn write(&mut self, bytes: &[u8]) -> Result<usize, DeviceFault>
         ensures within { IfOk result (λ n. n ≤ length bytes.now) }
         ensures taken { IfOk result (λ n. Takes (taken self.old) (take n bytes.now) (taken self.new)) }
+        ensures part { OnErr result (TakesPart (taken self.old) bytes.now (taken self.new)) }
         ensures kept { IfOk result (λ n. 0 < n → failure_count self.new ≡ failure_count self.old) }
         ensures stuck { result ≡ Ok 0 → 0 < length bytes.now → HasGrown (failure_count self.old) (failure_count self.new) }
         ensures failed { OnErr result (HasGrown (failure_count self.old) (failure_count self.new)) };

@@ -4,9 +4,10 @@ use Rattle.board_step.specs.Reset.{reset_state}
 use Rattle.board_step.specs.State.{State}
 use Rattle.board_step.specs.declared.board.Reset.{Reset}
 use Rattle.board_step.specs.declared.env.Env.{Env}
-use Rattle.certificate.specs.Device.{Gives}
+use Rattle.certificate.specs.Device.{Gives, TakesPart}
 use Rattle.runner.specs.Input.{IsResetLine, IsEnvLine, reset_text, env_text, env_of}
 use Rattle.runner.specs.Machine.{RunsTo}
+use Rattle.runner.specs.Output.{summary_text}
 use Rattle.runner.specs.declared.input.EnvLine.{EnvLine}
 use Rattle.runner.specs.declared.input.ResetLine.{ResetLine}
 use Rattle.runner.specs.declared.machine.Summary.{Summary}
@@ -96,6 +97,12 @@ IsBadLine steps number bytes = IsBadFirst number bytes ⊎ IsBadLater steps numb
 abbrev pub OfBytes : Option (List ℕ) → (List ℕ → Type 0) → Type 0
 OfBytes (Some bytes) Holds = Holds bytes
 OfBytes None Holds = (bytes : List ℕ) × Holds bytes
+
+-- what was written is a beginning of the text of this input's run
+pub record BeginsText (input : Option (List ℕ)) (rom : List ℕ) (steps : ℕ) (old new : Option (List ℕ)) : Type 0 where
+  pub summary : Summary
+  pub played : OfBytes input (Played rom steps summary)
+  pub begins : TakesPart old (summary_text summary) new
 
 -- this line was taken off, with its line feed
 abbrev pub TakesReset : Option (List ℕ) → ResetLine → Option (List ℕ) → Type 0

@@ -1,5 +1,5 @@
 ghost use Rattle.std.specs.Prelude.{◌≡◌, ◌<◌, ◌∷◌, OnOk, OnErr, decimal};
-ghost use Rattle.certificate.specs.Device.{HasGrown, Takes};
+ghost use Rattle.certificate.specs.Device.{HasGrown, Takes, TakesPart};
 ghost use Rattle.certificate.specs.Fields.{hex_digit, hex4};
 ghost use Rattle.runner.specs.Output.{done_line, regs_line, sum_line, summary_text};
 
@@ -10,6 +10,7 @@ use itoa::Buffer;
 /// Writes all of the bytes.
 pub fn put<W: Sink>(out: &mut W, bytes: &[u8]) -> Result<(), DeviceFault>
     ensures written { OnOk result (Takes (W.taken out.old) bytes.now (W.taken out.new)) }
+    ensures part { OnErr result (TakesPart (W.taken out.old) bytes.now (W.taken out.new)) }
     ensures kept { OnOk result (W.failure_count out.new ≡ W.failure_count out.old) }
     ensures failed { OnErr result (HasGrown (W.failure_count out.old) (W.failure_count out.new)) }
 {
@@ -30,6 +31,7 @@ pub fn put<W: Sink>(out: &mut W, bytes: &[u8]) -> Result<(), DeviceFault>
 /// Writes a number in decimal.
 pub fn put_decimal<W: Sink>(out: &mut W, number: u128) -> Result<(), DeviceFault>
     ensures written { OnOk result (Takes (W.taken out.old) (decimal number) (W.taken out.new)) }
+    ensures part { OnErr result (TakesPart (W.taken out.old) (decimal number) (W.taken out.new)) }
     ensures kept { OnOk result (W.failure_count out.new ≡ W.failure_count out.old) }
     ensures failed { OnErr result (HasGrown (W.failure_count out.old) (W.failure_count out.new)) }
 {
@@ -41,6 +43,7 @@ pub fn put_decimal<W: Sink>(out: &mut W, number: u128) -> Result<(), DeviceFault
 #[tactic(auto, unfolding(certificate::specs::Fields::hex4))]
 pub fn put_hex4<W: Sink>(out: &mut W, word: u16) -> Result<(), DeviceFault>
     ensures written { OnOk result (Takes (W.taken out.old) (hex4 word) (W.taken out.new)) }
+    ensures part { OnErr result (TakesPart (W.taken out.old) (hex4 word) (W.taken out.new)) }
     ensures kept { OnOk result (W.failure_count out.new ≡ W.failure_count out.old) }
     ensures failed { OnErr result (HasGrown (W.failure_count out.old) (W.failure_count out.new)) }
 {
@@ -67,6 +70,7 @@ fn digit_of(value: u16) -> u8
 /// Writes a space and a number in decimal.
 fn put_decimal_field<W: Sink>(out: &mut W, number: u128) -> Result<(), DeviceFault>
     ensures written { OnOk result (Takes (W.taken out.old) (32 ∷ decimal number) (W.taken out.new)) }
+    ensures part { OnErr result (TakesPart (W.taken out.old) (32 ∷ decimal number) (W.taken out.new)) }
     ensures kept { OnOk result (W.failure_count out.new ≡ W.failure_count out.old) }
     ensures failed { OnErr result (HasGrown (W.failure_count out.old) (W.failure_count out.new)) }
 {
@@ -77,6 +81,7 @@ fn put_decimal_field<W: Sink>(out: &mut W, number: u128) -> Result<(), DeviceFau
 /// Writes a space and a word as four upper-case hexadecimal digits.
 fn put_hex4_field<W: Sink>(out: &mut W, word: u16) -> Result<(), DeviceFault>
     ensures written { OnOk result (Takes (W.taken out.old) (32 ∷ hex4 word) (W.taken out.new)) }
+    ensures part { OnErr result (TakesPart (W.taken out.old) (32 ∷ hex4 word) (W.taken out.new)) }
     ensures kept { OnOk result (W.failure_count out.new ≡ W.failure_count out.old) }
     ensures failed { OnErr result (HasGrown (W.failure_count out.old) (W.failure_count out.new)) }
 {
@@ -87,6 +92,7 @@ fn put_hex4_field<W: Sink>(out: &mut W, word: u16) -> Result<(), DeviceFault>
 /// Writes the line of a summary's events, T-states, program counter and stack pointer.
 fn put_done<W: Sink>(out: &mut W, summary: &Summary) -> Result<(), DeviceFault>
     ensures written { OnOk result (Takes (W.taken out.old) (done_line summary.now) (W.taken out.new)) }
+    ensures part { OnErr result (TakesPart (W.taken out.old) (done_line summary.now) (W.taken out.new)) }
     ensures kept { OnOk result (W.failure_count out.new ≡ W.failure_count out.old) }
     ensures failed { OnErr result (HasGrown (W.failure_count out.old) (W.failure_count out.new)) }
 {
@@ -101,6 +107,7 @@ fn put_done<W: Sink>(out: &mut W, summary: &Summary) -> Result<(), DeviceFault>
 /// Writes the line of a summary's register pairs.
 fn put_regs<W: Sink>(out: &mut W, pairs: &[u16]) -> Result<(), DeviceFault>
     ensures written { OnOk result (Takes (W.taken out.old) (regs_line pairs.now) (W.taken out.new)) }
+    ensures part { OnErr result (TakesPart (W.taken out.old) (regs_line pairs.now) (W.taken out.new)) }
     ensures kept { OnOk result (W.failure_count out.new ≡ W.failure_count out.old) }
     ensures failed { OnErr result (HasGrown (W.failure_count out.old) (W.failure_count out.new)) }
 {
@@ -114,6 +121,7 @@ fn put_regs<W: Sink>(out: &mut W, pairs: &[u16]) -> Result<(), DeviceFault>
 /// Writes the line of a summary's sums.
 fn put_sums<W: Sink>(out: &mut W, sums: &[u32]) -> Result<(), DeviceFault>
     ensures written { OnOk result (Takes (W.taken out.old) (sum_line sums.now) (W.taken out.new)) }
+    ensures part { OnErr result (TakesPart (W.taken out.old) (sum_line sums.now) (W.taken out.new)) }
     ensures kept { OnOk result (W.failure_count out.new ≡ W.failure_count out.old) }
     ensures failed { OnErr result (HasGrown (W.failure_count out.old) (W.failure_count out.new)) }
 {
@@ -127,6 +135,7 @@ fn put_sums<W: Sink>(out: &mut W, sums: &[u32]) -> Result<(), DeviceFault>
 /// Writes the lines of a summary.
 pub(crate) fn put_summary<W: Sink>(out: &mut W, summary: &Summary) -> Result<(), DeviceFault>
     ensures written { OnOk result (Takes (W.taken out.old) (summary_text summary.now) (W.taken out.new)) }
+    ensures part { OnErr result (TakesPart (W.taken out.old) (summary_text summary.now) (W.taken out.new)) }
     ensures kept { OnOk result (W.failure_count out.new ≡ W.failure_count out.old) }
     ensures failed { OnErr result (HasGrown (W.failure_count out.old) (W.failure_count out.new)) }
 {

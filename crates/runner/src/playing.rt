@@ -3,7 +3,7 @@ ghost use Rattle.certificate.specs.Device.{HasGrown, Takes};
 ghost use Rattle.runner.specs.Input.{IsResetLine, IsEnvLine, reset_text, env_text};
 ghost use Rattle.runner.specs.Output.{summary_text};
 ghost use Rattle.runner.specs.Pending.{left_of};
-ghost use Rattle.runner.specs.Playing.{BeginsWithNo, IsBadLine, OfBytes, Played, TakesEnv, TakesReset, regs_of, reset_of};
+ghost use Rattle.runner.specs.Playing.{BeginsText, BeginsWithNo, IsBadLine, OfBytes, Played, TakesEnv, TakesReset, regs_of, reset_of};
 
 use crate::fault::PlayFault;
 use crate::input::{EnvLine, ResetLine};
@@ -38,6 +38,9 @@ pub fn play<R: Source, W: Sink>(
     ensures told { result ≢ Err PlayFault.Read → R.failure_count input.new ≡ R.failure_count input.old }
     ensures write { result ≡ Err PlayFault.Write → HasGrown (W.failure_count out.old) (W.failure_count out.new) }
     ensures line { (line : ℕ) → result ≡ Err (PlayFault.Line line) → W.failure_count out.new ≡ W.failure_count out.old }
+    ensures kept { OnOk result (W.failure_count out.new ≡ W.failure_count out.old) }
+    // What was written before the output failed is a beginning of the text.
+    ensures part { result ≡ Err PlayFault.Write → BeginsText (R.rest input.old) accepted.now.rom steps (W.taken out.old) (W.taken out.new) }
 {
     let summary = play_input(accepted, steps, input)?;
     match put_summary(out, &summary) {
