@@ -49,13 +49,14 @@ pub fn depths(alloc: Global, own: &[u32], calls: &[Held]) -> Result<Vec<u64>, Gr
 fn edges_of(alloc: Global, calls: &[Held]) -> Result<Vec<Edge>, AllocError>
     ensures { IfOk result (λ edges. edges.items ≡ map edge_of calls.now) }
 {
-    calls
-        .iter()
-        .map(|call| Edge {
+    let mut edges = Vec::new(alloc);
+    for call in calls {
+        edges.push(Edge {
             caller: call.caller,
             callee: call.callee,
-        })
-        .collect(alloc)
+        })?;
+    }
+    Ok(edges)
 }
 
 /// The depth under a procedure, where the depths under its callees are known.
