@@ -85,6 +85,21 @@ fn six_bytes_are_accepted_and_run(rt: HostRuntime) -> Result<(), Fail> {
     Ok(())
 }
 
+/// A line of 30 bytes has its line feed as the 31st.
+#[test]
+fn the_longest_line_is_good(rt: HostRuntime) -> Result<(), Fail> {
+    let alloc = rt.alloc();
+    let cert = certificate(alloc, 6, 0x4380, 0x4400, &[(0, 'u'), (3, 's')])?;
+    let input = "reset 0 00\n4294967295 00 00 00 00 00 00 0\n";
+    let (text, status) = played(alloc, JUMP, cert.as_str(), input, 3)?;
+    assert_eq!(rt; status, 0);
+    assert_eq!(rt;
+        text.as_slice(),
+        b"done 3 30 0003 4400\nregs 0000 0000 0000 0000 0000 0000\nsum 0 0 0\n".as_slice()
+    );
+    Ok(())
+}
+
 #[test]
 fn a_store_reaches_work_ram(rt: HostRuntime) -> Result<(), Fail> {
     let alloc = rt.alloc();
