@@ -77,6 +77,8 @@ fn decoded(first: u8, second: u8, third: u8, fourth: u8) -> Option<Instr>
 }
 
 /// The instruction behind the prefix of an index register. With CB, d stands before the opcode.
+// Out of line, its result would go through memory, and with it that of every other instruction.
+#[inline(always)]
 fn indexed(index: Index, second: u8, third: u8, fourth: u8) -> Option<Instr>
     ensures { result ≡ indexed index second third fourth }
 {

@@ -1,29 +1,27 @@
 ghost use Rattle.std.specs.Prelude.{◌≡◌, ◌+◌, ◌≤◌, length};
-ghost use Rattle.board_step.specs.Effect.{effect_on, moved, drafted, goes_on};
+ghost use Rattle.board_step.specs.Effect.{moved, drafted, goes_on};
 ghost use Rattle.board_step.specs.Room.{writes_by, accesses_by, writes_in, accesses_in};
 
 use crate::context::Context;
 use crate::draft::Draft;
 use crate::draft::memory::displace;
 use crate::moves::{Move, Moves};
-use z80_alu::{Regs, ccf, dec16, inc16, scf};
+use z80_alu::{ccf, dec16, inc16, scf};
 
 impl Draft {
-    /// The moves, one after another, from nothing but the registers.
+    /// The moves, one after another, where there is room for their accesses.
     #[tactic(auto, unfolding(crate::specs::Effect::drafted))]
-    pub fn made(context: &Context, regs: Regs, moves: &Moves) -> Draft
-        requires writes { writes_in moves.now ≤ 2 }
-        requires stack { accesses_in moves.now ≤ 2 }
-        ensures { result ≡ drafted context.now moves.now (effect_on regs) }
+    pub fn make_all(&mut self, context: &Context, moves: &Moves)
+        requires writes { length self.old.writes + writes_in moves.now ≤ 2 }
+        requires stack { length self.old.stack + accesses_in moves.now ≤ 2 }
+        ensures { self.new ≡ drafted context.now moves.now self.old }
     {
-        let mut draft = Draft::new(regs);
         for step in moves.as_slice() {
-            draft.make(context, *step);
-            if !draft.goes_on(*step) {
-                return draft;
+            self.make(context, *step);
+            if !self.goes_on(*step) {
+                return;
             }
         }
-        draft
     }
 
     fn goes_on(&self, step: Move) -> bool

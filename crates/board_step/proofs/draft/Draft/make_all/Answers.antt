@@ -2,7 +2,7 @@ use Rattle.std.proofs.Common.{sym, ◌∙◌}
 use Rattle.board_step.specs.declared.moves.Move.TheVariants.{SetByte}
 use Rattle.board_step.specs.declared.registers.ByteRegister.TheVariants.{A}
 use Rattle.board_step.proofs.EffectLemmas.{made_more, room_for_writes, room_for_stack, room_after_write, room_after_stack, split_at}
-use Rattle.board_step.proofs.draft.Draft.made.Goals as goal
+use Rattle.board_step.proofs.draft.Draft.make_all.Goals as goal
 
 pub make-requires-clause-writes : goal.make-requires-clause-writes
 make-requires-clause-writes c =
