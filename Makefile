@@ -1,4 +1,6 @@
 PREFIX ?= /usr/local
+# How many crates are proved at a time; each takes 1 to 2 GB.
+JOBS ?= 4
 SIX = examples/six-bytes/six
 
 .PHONY: all test install clean
@@ -11,7 +13,7 @@ all: galcert
 # Each crate is proved before the program is built from what was proved.
 galcert: crates.txt $(shell find crates -name '*.rt' -o -name '*.antt' | grep -v /out/)
 	@echo "== proving every crate, which takes some minutes the first time"
-	rt all check
+	rt all check --jobs $(JOBS)
 	@echo "== building ./galcert"
 	cd crates/galcert && rt run -- verify ../../$(SIX).rom ../../$(SIX).cert
 	cp crates/galcert/out/galcert galcert

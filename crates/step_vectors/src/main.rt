@@ -1,5 +1,5 @@
-// Compares single steps of the board with what Debian's libz80ex 1.1.21 makes of them: a throw-away C program wrote the
-// lines that come in, from random registers.
+// Compares single steps of the board with what Debian's libz80ex 1.1.21 makes of them, at random registers. The lines of
+// the stored run were written by a throw-away C program, one instruction each; bench/steps.c writes any number.
 //
 // A line has 58 bytes in hexadecimal and then the instruction's name. The bytes are the ROM (4), the mask of the bits of F
 // that are compared, the registers AF BC DE HL IX IY SP AF' BC' DE' HL', after the instruction the same and I with IFF1 and

@@ -1,0 +1,10 @@
+#!/bin/sh
+# Compares single steps at random states with what Debian's libz80ex (apt-get install libz80ex-dev) makes of them:
+# bench/steps.sh [COUNT] [SEED], a million where no count is given.
+set -eu
+here=$(cd "$(dirname "$0")" && pwd)
+work=$(mktemp -d)
+trap 'rm -rf "$work"' EXIT
+cc -O2 -o "$work/steps" "$here/steps.c" -lz80ex
+(cd "$here/../crates/step_vectors" && rt run > /dev/null < /dev/null)
+"$work/steps" "${1:-1000000}" "${2:-1}" | "$here/../crates/step_vectors/out/step_vectors"
