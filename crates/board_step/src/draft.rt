@@ -1,5 +1,5 @@
 ghost use Rattle.std.specs.Prelude.{◌≡◌};
-ghost use Rattle.board_step.specs.Effect.{effect_on, byte_in, with_byte, word_in, with_word, flags_in, with_result, with_word_result};
+ghost use Rattle.board_step.specs.Effect.{effect_on, byte_in, with_byte, word_in, with_word, flags_in};
 
 mod direct;
 mod memory;

@@ -1,5 +1,5 @@
-ghost use Rattle.std.specs.Prelude.{◌≡◌, ◌≢◌, ℕ, ◌+◌, ◌*◌, ◌<◌, ◌≤◌, ◌^◌, Contains, IfErr, IfOk, length, map, slice_index};
-ghost use Rattle.call_graph.specs.Calls.{IsCallOrder, IsFaultOf};
+ghost use Rattle.std.specs.Prelude.{◌≡◌, ℕ, ◌+◌, ◌*◌, ◌<◌, ◌≤◌, ◌^◌, IfErr, IfOk, length, map, slice_index};
+ghost use Rattle.call_graph.specs.Calls.{IsFaultOf};
 ghost use Rattle.call_graph.specs.Depths.{AreDepths, AreNumbered, ByCaller, Orders, call_at, edge_of};
 
 use crate::edge::{Call, Edge, ProcId, first_call};

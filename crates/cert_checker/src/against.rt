@@ -2,7 +2,7 @@ ghost use Rattle.std.specs.Prelude.{◌≡◌, ◌<◌, Bool, IfNone, length};
 ghost use Rattle.board_step.specs.Trap.{is_rom, is_unmapped};
 ghost use Rattle.address_map.specs.declared.map.WriteClass.{WriteClass};
 ghost use Rattle.z80_decode.specs.Spelling.{spelling};
-ghost use Rattle.cert_checker.specs.Row.{RowReason, is_known, written_by, has_class, passes, may_enable, target_of, mode_after, is_covered_after, sets_sp_wrongly, is_unset, reason_of};
+ghost use Rattle.cert_checker.specs.Row.{RowReason, is_known, written_by, has_class, passes, may_enable, target_of, mode_after, is_covered_after, sets_sp_wrongly, reason_of};
 
 use crate::covering::covers;
 use crate::reason::Reason;

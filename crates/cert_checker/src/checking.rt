@@ -1,8 +1,7 @@
-ghost use Rattle.std.specs.Prelude.{◌≡◌, ◌≤◌, ◌<◌, ◌-◌, ◌↔◌, ℕ, All, IsOk, IfOk, IfErr, OnOk, IsTrue, None, Some, take, length};
+ghost use Rattle.std.specs.Prelude.{◌≡◌, ◌<◌, ◌-◌, ◌↔◌, ℕ, All, IsOk, IfOk, IfErr, OnOk, IsTrue, None, Some, take};
 ghost use Rattle.address_map.specs.Starts.{is_start};
 ghost use Rattle.board_step.specs.Safe.{Safe};
-ghost use Rattle.certificate.specs.Contents.{RowsRise};
-ghost use Rattle.cert_checker.specs.Accepts.{Accepts, Applies, FitsRom, FitsWorkRam, NothingBefore};
+ghost use Rattle.cert_checker.specs.Accepts.{Accepts, Applies, FitsWorkRam, NothingBefore};
 ghost use Rattle.cert_checker.specs.Profile.{profile_of, has_row};
 ghost use Rattle.cert_checker.specs.Row.{IsConsistent};
 ghost use Rattle.cert_checker.specs.declared.checking.Refused.{Refused};

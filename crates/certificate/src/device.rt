@@ -1,4 +1,4 @@
-ghost use Rattle.std.specs.Prelude.{◌≡◌, ◌<◌, ◌≤◌, ℕ, List, Option, Ok, IfOk, IfSome, OnErr, length, take, ◌++◌, []};
+ghost use Rattle.std.specs.Prelude.{◌≡◌, ◌<◌, ◌≤◌, ℕ, List, Option, Ok, IfOk, IfSome, OnErr, length, take, []};
 ghost use Rattle.certificate.specs.Device.{HasGrown, Gives, Takes, TakesPart};
 
 /// A device failed. Its count of failures tells that it did.

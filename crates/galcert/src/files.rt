@@ -1,4 +1,4 @@
-ghost use Rattle.std.specs.Prelude.{◌≡◌, ◌^◌, ◌<◌, ◌-◌, None};
+ghost use Rattle.std.specs.Prelude.{◌<◌, ◌-◌, None};
 ghost use Rattle.certificate.specs.Device.{HasGrown};
 
 use certificate::{DeviceFault, Sink, Source};

@@ -1,7 +1,6 @@
 // Devices in memory that can fail at a chosen call, for the tests.
 
-ghost use Rattle.std.specs.Prelude.{◌≡◌, Some};
-ghost use Rattle.certificate.specs.Device.{HasGrown};
+ghost use Rattle.std.specs.Prelude.{Some};
 
 use certificate::{DeviceFault, Sink, Source};
 

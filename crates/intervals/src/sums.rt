@@ -1,5 +1,5 @@
 ghost use Rattle.std.specs.Prelude.{◌≡◌, ℕ, ◌+◌, ◌-◌, ◌%◌, ◌≤◌};
-ghost use Rattle.intervals.specs.Range.{Within, single, TakesInto, TakesBothInto};
+ghost use Rattle.intervals.specs.Range.{single, TakesInto, TakesBothInto};
 ghost use Rattle.intervals.specs.Sums.{window, sum, sum_with_carry, difference, difference_with_carry, increment, decrement, negation, displacement_of, displacement};
 
 use crate::range::{Bounds, ByteRange, WordRange};

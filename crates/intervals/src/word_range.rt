@@ -1,4 +1,4 @@
-ghost use Rattle.std.specs.Prelude.{◌≡◌, ℕ, ◌≤◌, ◌≢◌, ◌↔◌, IsTrue, SomeIff, IsSomeAnd};
+ghost use Rattle.std.specs.Prelude.{◌≡◌, ℕ, ◌≢◌, ◌↔◌, IsTrue, SomeIff, IsSomeAnd};
 ghost use Rattle.std.proofs.Common.{rules};
 ghost use Rattle.intervals.specs.Range.{Within, Covers, Meets, single, full, between, hull, intersection, without};
 

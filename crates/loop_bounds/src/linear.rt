@@ -1,4 +1,4 @@
-ghost use Rattle.std.specs.Prelude.{◌≡◌, ◌↔◌, IsTrue, ℕ, ◌≤◌, ◌<◌, List, [], ◌∷◌, ◌++◌, length, take, drop, replicate, ℤ, pos, neg_ℤ, unsigned_abs, SomeIff, All, slice_set};
+ghost use Rattle.std.specs.Prelude.{◌≡◌, ◌↔◌, IsTrue, ◌≤◌, ◌<◌, [], length, take, pos, unsigned_abs, SomeIff, All};
 ghost use Rattle.loop_bounds.specs.Variable.{place_of};
 
 use crate::variable::Variable;
@@ -65,7 +65,7 @@ fn all_before(terms: &[Term], variable: Variable) -> bool
 }
 
 impl Linear {
-    ghost use Rattle.loop_bounds.specs.Linear.{Sum, IsLinear, extended, padding, padded};
+    ghost use Rattle.loop_bounds.specs.Linear.{Sum, IsLinear, extended, padded};
 
     /// 0.
     pub fn zero() -> Linear

@@ -1,6 +1,6 @@
 //! Values worked by hand.
 
-ghost use Rattle.std.specs.Prelude.{◌≡◌, ℕ, ◌≤◌, Option, Some, None, option_map};
+ghost use Rattle.std.specs.Prelude.{◌≡◌, Option, Some, None, option_map};
 ghost use Rattle.std.proofs.Common.{rules, subst, sym};
 ghost use Rattle.intervals.specs.Range.{Interval, Within, full, intersection};
 ghost use Rattle.loop_bounds.specs.declared.variable.Variable.TheVariants.{A, B, C, Hl};

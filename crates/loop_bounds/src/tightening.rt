@@ -1,8 +1,7 @@
-ghost use Rattle.std.specs.Prelude.{◌≡◌, ℕ, ◌+◌, ◌*◌, ◌<◌, ◌≤◌, ◌^◌, length, take, drop, All, ℤ, pos, ◌+ℤ◌, ◌-ℤ◌, ◌*ℤ◌, unsigned_abs, Some, None, IsTrue, MatchBool, slice_index_or, if◌then◌else◌};
-ghost use Rattle.intervals.specs.Range.{Interval};
-ghost use Rattle.loop_bounds.specs.Linear.{IsLinear, value};
+ghost use Rattle.std.specs.Prelude.{◌≡◌, ◌+◌, ◌*◌, ◌<◌, ◌≤◌, ◌^◌, length, All, ℤ, pos, ◌+ℤ◌, ◌-ℤ◌, ◌*ℤ◌, unsigned_abs, Some, None, IsTrue, MatchBool, slice_index_or, if◌then◌else◌};
+ghost use Rattle.loop_bounds.specs.Linear.{value};
 ghost use Rattle.loop_bounds.specs.Effect.{Valuation, whole};
-ghost use Rattle.loop_bounds.specs.Form.{least_total, weight};
+ghost use Rattle.loop_bounds.specs.Form.{least_total};
 ghost use Rattle.loop_bounds.specs.Tighten.{greatest_total, top_of, quotient_up, multiples_between, balancing, share_left, tightened};
 
 use crate::form::{least_multiple, multiple};

@@ -1,5 +1,5 @@
-ghost use Rattle.std.specs.Prelude.{◌≡◌, ◌+◌, ◌≤◌, length};
-ghost use Rattle.board_step.specs.Effect.{word_in, displaced, read_byte, read_word, word_read, written, word_written, pushed, popped, exchanged, stack_read, stack_written};
+ghost use Rattle.std.specs.Prelude.{◌≡◌, ◌≤◌, length};
+ghost use Rattle.board_step.specs.Effect.{displaced, read_byte, read_word, word_read, written, word_written, pushed, popped, exchanged, stack_read, stack_written};
 
 use crate::access::{StackAccess, Write};
 use crate::context::Context;

@@ -1,4 +1,4 @@
-use Rattle.std.proofs.Common.{◌≡◌, ◌^◌, ◌-◌, List, ℕ, vec_len, inl, inr, sym, subst, arith}
+use Rattle.std.proofs.Common.{◌^◌, ◌-◌, vec_len, inl, inr, arith}
 use Rattle.galcert.proofs.VerdictLemmas.{WasRead, bad_line_from, on_accepted, tells_refusal}
 use Rattle.galcert.proofs.commands.run_on.Goals as goal
 
