@@ -12,7 +12,7 @@ all: galcert
 
 # Each crate is proved before the program is built from what was proved.
 galcert: crates.txt $(shell find crates -name '*.rt' -o -name '*.antt' | grep -v /out/)
-	@echo "== proving every crate, which takes some minutes the first time"
+	@echo "== proving every crate, which takes a quarter of an hour the first time"
 	rt all check --jobs $(JOBS)
 	@echo "== building ./galcert"
 	cd crates/galcert && rt run -- verify ../../$(SIX).rom ../../$(SIX).cert
