@@ -1,16 +1,14 @@
-pub mod Arithmetic
+-- The machine's definitions. The first line of each file says whether the word "safe" reaches it (Trusted) or not (Helper).
 pub mod Context
 pub mod Decoded
-pub mod Effect
 pub mod Env
+pub mod Hardware
 pub mod Kind
 pub mod Known
 pub mod Memory
-pub mod Moves
-pub mod Operands
+pub mod Profile
 pub mod Reads
 pub mod Reset
-pub mod Room
 pub mod Run
 pub mod Safe
 pub mod State

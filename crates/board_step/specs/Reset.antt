@@ -1,3 +1,4 @@
+-- Trusted: the state that a reset leaves (docs/BOARD.md, "Reset").
 use Rattle.std.specs.Prelude.{◌≡◌, false}
 use Rattle.board_step.specs.State.{State, IsState}
 use Rattle.board_step.specs.declared.board.Reset.{Reset}

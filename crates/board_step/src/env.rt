@@ -1,8 +1,10 @@
+// What one event takes from outside the machine.
+
 ghost use Rattle.board_step.specs.Env.{IsEnv, IsInputs};
 
 /// The bytes that the board's inputs give to one read: the three input ports, and the byte of an
 /// address that nothing drives.
-#[derive(Clone, Copy, Debug, PartialEq, Eq)]
+#[derive(Clone, Copy, PartialEq, Eq)]
 pub struct Inputs {
     pub in0: u8,
     pub in1: u8,
@@ -11,7 +13,7 @@ pub struct Inputs {
 }
 
 /// What one event takes from outside the machine (docs/BOARD.md, "Environment").
-#[derive(Clone, Copy, Debug, PartialEq, Eq)]
+#[derive(Clone, Copy, PartialEq, Eq)]
 pub struct Env {
     /// What the first and the second data byte read of the event find.
     pub inputs: [Inputs; 2],

@@ -1,5 +1,7 @@
+// What the machine does in one event.
+
 /// What the machine does in one event.
-#[derive(Clone, Copy, Debug, PartialEq, Eq)]
+#[derive(Clone, Copy, PartialEq, Eq)]
 pub enum Kind {
     /// It accepts an NMI.
     Accept,
@@ -10,7 +12,7 @@ pub enum Kind {
 }
 
 /// One event of the machine.
-#[derive(Clone, Copy, Debug, PartialEq, Eq)]
+#[derive(Clone, Copy, PartialEq, Eq)]
 pub struct Event {
     pub kind: Kind,
     /// The program counter before the event.

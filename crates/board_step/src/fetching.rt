@@ -1,3 +1,5 @@
+// What stands at an address of the ROM.
+
 ghost use Rattle.std.specs.Prelude.{◌≡◌, Ok, Err, IfOk, IfErr, length};
 ghost use Rattle.board_step.specs.Decoded.{StandsAt};
 ghost use Rattle.z80_decode.specs.Spelling.{spelling};

@@ -1,10 +1,13 @@
-use address_map::{Region, Starts};
+// What a board's steps are tested against, and why a step can't be done.
+
+use address_map::{Map, Region, Starts};
 use thiserror::Error;
 
-/// What a board's steps are tested against: where instructions may start, and the bytes that the stack
-/// may use.
-#[derive(Clone, Copy, Debug)]
+/// What a board's steps are tested against, beside the ROM: its address map, where instructions may start, and the
+/// bytes that the stack may use.
+#[derive(Clone, Copy)]
 pub struct Profile<'a> {
+    pub map: &'a Map,
     pub starts: &'a Starts,
     pub region: Region,
 }

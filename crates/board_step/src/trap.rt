@@ -1,15 +1,16 @@
-ghost use Rattle.std.specs.Prelude.{◌≡◌};
-ghost use Rattle.board_step.specs.Trap.{is_rom, is_unmapped, some_write, some_outside, trap_of_effect};
+// The first trap of a draft.
 
-use crate::access::{StackAccess, Write};
-use crate::draft::Draft;
+ghost use Rattle.std.specs.Prelude.{◌≡◌};
+ghost use Rattle.board_step.specs.Trap.{is_rom, is_unmapped, some_write, some_outside, trap_of_draft};
+
 use crate::profile::Trap;
 use address_map::{Map, Region, WriteClass};
+use z80_draft::{Draft, StackAccess, Write};
 
 /// The first trap of a draft, or None where it may reach the board.
-#[tactic(auto, unfolding(crate::specs::Trap::trap_of_effect))]
+#[tactic(auto, unfolding(crate::specs::Trap::trap_of_draft))]
 pub fn trap_of(draft: &Draft, map: &Map, region: Region) -> Option<Trap>
-    ensures { result ≡ trap_of_effect map.now region draft.now }
+    ensures { result ≡ trap_of_draft map.now region draft.now }
 {
     if writes_rom(map, draft.writes()) {
         Some(Trap::WriteRom)

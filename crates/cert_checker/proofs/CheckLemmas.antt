@@ -18,7 +18,7 @@ use Rattle.cert_checker.specs.declared.reason.Reason.TheVariants as reasons
 pub one_reason : (rom : List ℕ) (cert : Contents) (row : Row) (a b : Option Reason) → RowReason rom cert row a → RowReason rom cert row b → a ≡ b
 one_reason rom cert row a b p q =
     let same : p.decoded ≡ q.decoded = decoded_once _ p.decoded q.decoded p.stands q.stands in
-    p.is ∙ ap (reason_given (length rom) cert row) same ∙ sym q.is
+    p.is ∙ ap (reason_given (map_named cert) cert row) same ∙ sym q.is
 
 some_not_none : (told : Reason) → Some told ≡ None → ⊥
 some_not_none told e = cc

@@ -5,24 +5,24 @@ use Rattle.address_map.specs.declared.map.WriteClass.{WriteClass}
 use Rattle.address_map.specs.declared.map.WriteClass.TheVariants as classes
 use Rattle.address_map.specs.declared.region.Region.{Region}
 use Rattle.board_step.specs.Context.{Context}
-use Rattle.board_step.specs.Effect.{drafted, moved, past}
+use Rattle.z80_draft.specs.Draft.{drafted, moved, past}
 use Rattle.board_step.specs.Memory.{stored, stored_in, stored_all, stacked_all}
 use Rattle.board_step.specs.State.{State}
 use Rattle.board_step.specs.Step.{committed, done, ticked, enable_met, sets_line, blanks}
-use Rattle.board_step.specs.Trap.{trap_of_effect, trap_of_instr, is_rom, is_unmapped}
+use Rattle.board_step.specs.Trap.{trap_of_draft, trap_of_instr, is_rom, is_unmapped}
 use Rattle.board_step.specs.declared.env.Env.{Env}
 use Rattle.z80_decode.specs.Spelling.{spelling}
 use Rattle.z80_decode.specs.declared.instr.Instr.{Instr}
 use Rattle.z80_decode.specs.declared.instr.Instr.TheVariants.{StoreA}
 use Rattle.z80_decode.specs.declared.operands.Address.TheVariants.{Direct}
 use Rattle.cert_checker.proofs.RowLemmas.{by_known}
-use Rattle.cert_checker.specs.Row.{is_known, written_by, has_class, is_enable, may_enable, target_of}
+use Rattle.cert_checker.specs.Row.{is_supported, written_by, has_class, is_enable, may_enable, target_of}
 
 -- a known instruction whose write has a class that it may have does not trap
-pub no_trap : (region : Region) (c : Context) (instr : Instr) → is_known instr ≡ true → has_class (length c.rom) is_rom (written_by instr) ≡ false →
-    has_class (length c.rom) is_unmapped (written_by instr) ≡ false → trap_of_instr region c instr ≡ None
-unfolding trap_of_effect drafted moved
-no_trap region c instr known = by_known (λ i. has_class (length c.rom) is_rom (written_by i) ≡ false → has_class (length c.rom) is_unmapped (written_by i) ≡ false → trap_of_instr region c i ≡ None)
+pub no_trap : (region : Region) (c : Context) (instr : Instr) → is_supported instr ≡ true → has_class c.hardware.map is_rom (written_by instr) ≡ false →
+    has_class c.hardware.map is_unmapped (written_by instr) ≡ false → trap_of_instr region c instr ≡ None
+unfolding trap_of_draft drafted moved
+no_trap region c instr known = by_known (λ i. has_class c.hardware.map is_rom (written_by i) ≡ false → has_class c.hardware.map is_unmapped (written_by i) ≡ false → trap_of_instr region c i ≡ None)
     (λ p q. refl) (λ n p q. refl) (λ nn p q. rw (p, q) refl) (λ nn p q. refl) (λ nn p q. refl) (λ d p q. refl) instr known
 
 -- what a board has besides the RAMs, after an instruction that does not set the enable
@@ -56,16 +56,16 @@ stores classes.NmiEnable at byte s e = cc
 stores classes.Pitch at byte s e = unchanged s
 stores classes.Unmapped at byte s e = unchanged s
 
-leaves_store : (c : Context) (nn : ℕ) → may_enable (length c.rom) (StoreA (Direct nn)) ≡ false → Leaves (StoreA (Direct nn)) 3 c.state (done c (StoreA (Direct nn)))
+leaves_store : (c : Context) (nn : ℕ) → may_enable c.hardware.map (StoreA (Direct nn)) ≡ false → Leaves (StoreA (Direct nn)) 3 c.state (done c (StoreA (Direct nn)))
 unfolding committed stored stored_all stacked_all drafted moved
 leaves_store c nn p =
     let before : State = record c.state { regs = past 3 c.state.regs; halted = false } in
-    let h = stores (class_of (length c.rom) nn).write nn (past 3 c.state.regs).main.a before p in
+    let h = stores (class_of c.hardware.map nn).write nn (past 3 c.state.regs).main.a before p in
     record { pc = h.pc; enable = h.enable; line = h.line; latched = h.latched; halted = h.halted; phase = h.phase }
 
-pub leaves : (c : Context) (instr : Instr) → is_known instr ≡ true → may_enable (length c.rom) instr ≡ false → Leaves instr (length (spelling instr)) c.state (done c instr)
+pub leaves : (c : Context) (instr : Instr) → is_supported instr ≡ true → may_enable c.hardware.map instr ≡ false → Leaves instr (length (spelling instr)) c.state (done c instr)
 unfolding committed stored stored_all stacked_all drafted moved
-leaves c instr known = by_known (λ i. may_enable (length c.rom) i ≡ false → Leaves i (length (spelling i)) c.state (done c i))
+leaves c instr known = by_known (λ i. may_enable c.hardware.map i ≡ false → Leaves i (length (spelling i)) c.state (done c i))
     (λ p. record { pc = refl; enable = refl; line = refl; latched = refl; halted = refl; phase = refl })
     (λ n p. record { pc = refl; enable = refl; line = refl; latched = refl; halted = refl; phase = refl })
     (λ nn p. leaves_store c nn p)

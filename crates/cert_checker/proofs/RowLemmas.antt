@@ -16,17 +16,17 @@ use Rattle.z80_decode.specs.declared.operands.Place.TheVariants.{Register}
 use Rattle.z80_decode.specs.declared.operands.Register8.TheVariants.{A}
 use Rattle.z80_decode.specs.declared.operands.Register16.TheVariants.{Sp}
 use Rattle.cert_checker.specs.Covers.{is_covered, row_covers, stands_at}
-use Rattle.cert_checker.specs.Row.{IsConsistent, written_by, has_class, may_enable, target_of, mode_after, is_covered_after, is_known, leads_on, is_unset, reason_of, reason_given}
+use Rattle.cert_checker.specs.Row.{IsConsistent, written_by, has_class, may_enable, target_of, mode_after, is_covered_after, is_supported, leads_on, is_unset, reason_of, reason_given}
 
 -- what holds of a row that nothing is against
 pub record Stands (rom : List ℕ) (cert : Contents) (row : Row) : Type 0 where
   pub instr : Instr
   pub stands : StandsAt rom row.address (Ok instr)
-  pub writes_no_rom : has_class (length rom) is_rom (written_by instr) ≡ false
-  pub writes_no_gap : has_class (length rom) is_unmapped (written_by instr) ≡ false
-  pub known : is_known instr ≡ true
-  pub leads : is_covered_after cert.rows (target_of instr ((row.address + length (spelling instr)) % 65536)) (mode_after (length rom) instr row.mode) ≡ true
-  pub waits : (may_enable (length rom) instr && is_unset row.mode) ≡ false
+  pub writes_no_rom : has_class (map_named cert) is_rom (written_by instr) ≡ false
+  pub writes_no_gap : has_class (map_named cert) is_unmapped (written_by instr) ≡ false
+  pub known : is_supported instr ≡ true
+  pub leads : is_covered_after cert.rows (target_of instr ((row.address + length (spelling instr)) % 65536)) (mode_after (map_named cert) instr row.mode) ≡ true
+  pub waits : (may_enable (map_named cert) instr && is_unset row.mode) ≡ false
 
 -- a choice that gives none
 no_first : {A : Type 0} (b : Bool) (x : A) (rest : Option A) → None ≡ cond b (Some x) rest → (b ≡ false) × (None ≡ rest)
@@ -41,14 +41,14 @@ and_true : (a b : Bool) → (a && b) ≡ true → (a ≡ true) × (b ≡ true)
 and_true true b e = (refl, e)
 and_true false b e = cc
 
-stands_by : (rom : List ℕ) (cert : Contents) (row : Row) (instr : Instr) → StandsAt rom row.address (Ok instr) → None ≡ reason_of (length rom) cert row instr → Stands rom cert row
+stands_by : (rom : List ℕ) (cert : Contents) (row : Row) (instr : Instr) → StandsAt rom row.address (Ok instr) → None ≡ reason_of (map_named cert) cert row instr → Stands rom cert row
 unfolding reason_of
 stands_by rom cert row instr stands e =
-    let rom_free = no_first (has_class (length rom) is_rom (written_by instr)) _ _ e in
-    let mapped = no_first (has_class (length rom) is_unmapped (written_by instr)) _ _ rom_free.1 in
-    let led = no_first (not (leads_on (length rom) cert row instr)) _ _ mapped.1 in
-    let both = and_true (is_known instr) _ (not_false _ led.0) in
-    let waits = no_first (may_enable (length rom) instr && is_unset row.mode) _ _ led.1 in
+    let rom_free = no_first (has_class (map_named cert) is_rom (written_by instr)) _ _ e in
+    let mapped = no_first (has_class (map_named cert) is_unmapped (written_by instr)) _ _ rom_free.1 in
+    let led = no_first (not (leads_on (map_named cert) cert row instr)) _ _ mapped.1 in
+    let both = and_true (is_supported instr) _ (not_false _ led.0) in
+    let waits = no_first (may_enable (map_named cert) instr && is_unset row.mode) _ _ led.1 in
     record {
       instr = instr;
       stands = stands;
@@ -59,7 +59,7 @@ stands_by rom cert row instr stands e =
       waits = waits.0;
     }
 
-by_decoded : (rom : List ℕ) (cert : Contents) (row : Row) (d : Result Instr DecodeFault) → StandsAt rom row.address d → None ≡ reason_given (length rom) cert row d → Stands rom cert row
+by_decoded : (rom : List ℕ) (cert : Contents) (row : Row) (d : Result Instr DecodeFault) → StandsAt rom row.address d → None ≡ reason_given (map_named cert) cert row d → Stands rom cert row
 by_decoded rom cert row (Ok instr) stands e = stands_by rom cert row instr stands e
 by_decoded rom cert row (Err fault) stands e = cc
 
@@ -68,7 +68,7 @@ stands_if_consistent rom cert row c = by_decoded rom cert row c.decoded c.stands
 
 -- what holds of the known instructions holds of each instruction that is known
 pub by_known : (P : Instr → Type 0) → P Nop → ((n : ℕ) → P (LoadImmediate (Register A) n)) → ((nn : ℕ) → P (StoreA (Direct nn))) → ((nn : ℕ) → P (LoadPair Sp nn)) →
-    ((nn : ℕ) → P (Jump nn)) → ((e : ℕ) → P (JumpRelative e)) → (instr : Instr) → is_known instr ≡ true → P instr
+    ((nn : ℕ) → P (Jump nn)) → ((e : ℕ) → P (JumpRelative e)) → (instr : Instr) → is_supported instr ≡ true → P instr
 by_known P nop load store pair jump relative Nop e = nop
 by_known P nop load store pair jump relative (LoadImmediate (Register A) n) e = load n
 by_known P nop load store pair jump relative (StoreA (Direct nn)) e = store nn
@@ -78,17 +78,17 @@ by_known P nop load store pair jump relative (JumpRelative d) e = relative d
 by_known P nop load store pair jump relative _ e = cc
 
 -- an accepted row never sets the enable
-store_in : (rom_len : ℕ) (rows : List Row) (nn : ℕ) (at : ℕ) (mode : Mode) (b : Bool) → may_enable rom_len (StoreA (Direct nn)) ≡ b →
-    is_covered_after rows at (mode_after rom_len (StoreA (Direct nn)) mode) ≡ true → (may_enable rom_len (StoreA (Direct nn)) && is_unset mode) ≡ false → may_enable rom_len (StoreA (Direct nn)) ≡ false
-store_in rom_len rows nn at mode false e leads waits = e
-store_in rom_len rows nn at Unset true e leads waits = let h : (true && true) ≡ false = ap (λ (b : Bool). b && true) (sym e) ∙ waits in cc
-store_in rom_len rows nn at Set true e leads waits =
+store_in : (map : AddressMap) (rows : List Row) (nn : ℕ) (at : ℕ) (mode : Mode) (b : Bool) → may_enable map (StoreA (Direct nn)) ≡ b →
+    is_covered_after rows at (mode_after map (StoreA (Direct nn)) mode) ≡ true → (may_enable map (StoreA (Direct nn)) && is_unset mode) ≡ false → may_enable map (StoreA (Direct nn)) ≡ false
+store_in map rows nn at mode false e leads waits = e
+store_in map rows nn at Unset true e leads waits = let h : (true && true) ≡ false = ap (λ (b : Bool). b && true) (sym e) ∙ waits in cc
+store_in map rows nn at Set true e leads waits =
     let h : is_covered_after rows at (cond true None (Some Set)) ≡ true = ap (λ (b : Bool). is_covered_after rows at (cond b None (Some Set))) (sym e) ∙ leads in cc
 
-pub never_enables : (rom : List ℕ) (cert : Contents) (row : Row) (s : Stands rom cert row) → may_enable (length rom) s.instr ≡ false
+pub never_enables : (rom : List ℕ) (cert : Contents) (row : Row) (s : Stands rom cert row) → may_enable (map_named cert) s.instr ≡ false
 never_enables rom cert row s =
-    by_known (λ instr. (at : ℕ) → is_covered_after cert.rows at (mode_after (length rom) instr row.mode) ≡ true → (may_enable (length rom) instr && is_unset row.mode) ≡ false → may_enable (length rom) instr ≡ false)
-    (λ at p q. refl) (λ n at p q. refl) (λ nn at p q. store_in (length rom) cert.rows nn at row.mode (may_enable (length rom) (StoreA (Direct nn))) refl p q) (λ nn at p q. refl) (λ nn at p q. refl) (λ d at p q. refl)
+    by_known (λ instr. (at : ℕ) → is_covered_after cert.rows at (mode_after (map_named cert) instr row.mode) ≡ true → (may_enable (map_named cert) instr && is_unset row.mode) ≡ false → may_enable (map_named cert) instr ≡ false)
+    (λ at p q. refl) (λ n at p q. refl) (λ nn at p q. store_in (map_named cert) cert.rows nn at row.mode (may_enable (map_named cert) (StoreA (Direct nn))) refl p q) (λ nn at p q. refl) (λ nn at p q. refl) (λ d at p q. refl)
     s.instr s.known _ s.leads s.waits
 
 both_first : (a b : Bool) → (a && b) ≡ true → a ≡ true

@@ -1,9 +1,13 @@
-use Rattle.std.specs.Prelude.{ℕ, ◌<◌, ◌≤◌, ◌-◌, ◌≡◌, true, false, List, Option, Some, None, All, length, slice_get, take}
+-- When a certificate is accepted for a ROM, and what is told where it is not (docs/CHECKER.md).
+use Rattle.std.specs.Prelude.{ℕ, ◌<◌, ◌≤◌, ◌+◌, ◌-◌, ◌≡◌, true, false, List, Option, Some, None, All, length, slice_get, take}
+use Rattle.address_map.specs.AddressMap.{AddressMap}
+use Rattle.address_map.specs.Class.{work_start}
 use Rattle.address_map.specs.declared.region.Region.{Region}
 use Rattle.certificate.specs.Contents.{Contents}
 use Rattle.certificate.specs.declared.contents.Mode.TheVariants.{Unset}
 use Rattle.certificate.specs.declared.contents.Row.{Row}
 use Rattle.cert_checker.specs.Covers.{is_covered}
+use Rattle.cert_checker.specs.Profile.{map_named}
 use Rattle.cert_checker.specs.Row.{RowReason, IsConsistent}
 use Rattle.cert_checker.specs.declared.reason.Reason.{Reason}
 use Rattle.cert_checker.specs.declared.reason.Reason.TheVariants as reasons
@@ -14,16 +18,16 @@ pub record FitsRom (rom : List ℕ) (cert : Contents) : Type 0 where
   pub fits : length rom ≤ 0x4000
   pub same : cert.rom_len ≡ length rom
 
--- the stack's region lies in work RAM and is not empty
-pub record FitsWorkRam (region : Region) : Type 0 where
-  pub low : 0x4000 ≤ region.low
+-- the stack's region lies in the first 400h addresses of work RAM and is not empty
+pub record FitsWorkRam (map : AddressMap) (region : Region) : Type 0 where
+  pub low : work_start map ≤ region.low
   pub some : region.low < region.top
-  pub top : region.top ≤ 0x4400
+  pub top : region.top ≤ work_start map + 0x400
 
 -- A certificate is accepted for a ROM: nothing of the table of reasons applies.
 pub record Accepts (rom : List ℕ) (cert : Contents) : Type 0 where
   pub fits_rom : FitsRom rom cert
-  pub fits_work_ram : FitsWorkRam cert.region
+  pub fits_work_ram : FitsWorkRam (map_named cert) cert.region
   pub entry : is_covered cert.rows 0 Unset ≡ true
   pub rows : All (IsConsistent rom cert) cert.rows
   pub depth : cert.main.depth ≤ cert.region.top - cert.region.low
@@ -31,13 +35,13 @@ pub record Accepts (rom : List ℕ) (cert : Contents) : Type 0 where
 -- reasons 1, 2 and 3 don't apply
 pub record WholeFits (rom : List ℕ) (cert : Contents) : Type 0 where
   pub fits_rom : FitsRom rom cert
-  pub fits_work_ram : FitsWorkRam cert.region
+  pub fits_work_ram : FitsWorkRam (map_named cert) cert.region
   pub entry : is_covered cert.rows 0 Unset ≡ true
 
 -- a reason against the certificate as a whole
 abbrev pub WholeApplies : List ℕ → Contents → Reason → Type 0
 WholeApplies rom cert reasons.Rom = FitsRom rom cert → ⊥
-WholeApplies rom cert reasons.Region = FitsWorkRam cert.region → ⊥
+WholeApplies rom cert reasons.Region = FitsWorkRam (map_named cert) cert.region → ⊥
 WholeApplies rom cert reasons.Entry = is_covered cert.rows 0 Unset ≡ false
 WholeApplies rom cert reasons.StackDepth = cert.region.top - cert.region.low < cert.main.depth
 WholeApplies rom cert _ = ⊥
@@ -52,6 +56,6 @@ Applies rom cert (Some number) address reason =
 abbrev pub NothingBefore : List ℕ → Contents → Option ℕ → Reason → Type 0
 NothingBefore rom cert None reasons.Rom = Unit {0}
 NothingBefore rom cert None reasons.Region = FitsRom rom cert
-NothingBefore rom cert None reasons.Entry = FitsRom rom cert × FitsWorkRam cert.region
+NothingBefore rom cert None reasons.Entry = FitsRom rom cert × FitsWorkRam (map_named cert) cert.region
 NothingBefore rom cert None _ = WholeFits rom cert × All (IsConsistent rom cert) cert.rows
 NothingBefore rom cert (Some number) _ = WholeFits rom cert × All (IsConsistent rom cert) (take number cert.rows)

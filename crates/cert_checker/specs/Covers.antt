@@ -1,3 +1,4 @@
+-- Which rows cover a state.
 use Rattle.std.specs.Prelude.{ℕ, ◌==◌, ◌&&◌, Bool, true, false, List}
 use Rattle.std.specs.List.{list_any}
 use Rattle.certificate.specs.declared.contents.Mode.{Mode}

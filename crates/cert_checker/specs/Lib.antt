@@ -1,6 +1,7 @@
+-- The rules of acceptance.
 pub mod Accepts
+pub mod Certified
 pub mod Covers
 pub mod Profile
 pub mod Reason
 pub mod Row
-pub mod Verdict

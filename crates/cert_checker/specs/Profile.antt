@@ -1,6 +1,10 @@
-use Rattle.std.specs.Prelude.{ℕ, Bool, List}
+-- What a certificate says of the machine that its ROM runs on.
+use Rattle.std.specs.Prelude.{ℕ, Bool, List, Option, None}
 use Rattle.std.specs.List.{list_any}
-use Rattle.board_step.specs.Trap.{Terms, terms_of}
+use Rattle.address_map.specs.AddressMap.{AddressMap}
+use Rattle.address_map.specs.Boards.{galaxian}
+use Rattle.board_step.specs.Hardware.{Hardware, hardware_of}
+use Rattle.board_step.specs.Profile.{Profile, profile_of}
 use Rattle.certificate.specs.Contents.{Contents}
 use Rattle.certificate.specs.declared.contents.Row.{Row}
 use Rattle.cert_checker.specs.Covers.{stands_at}
@@ -9,6 +13,18 @@ use Rattle.cert_checker.specs.Covers.{stands_at}
 abbrev pub has_row : List Row → ℕ → Bool
 has_row rows address = list_any (stands_at address) rows
 
--- what a certificate's runs are tested against: its ROM, its row addresses and its region
-abbrev pub profile_of : List ℕ → Contents → Terms
-profile_of rom cert = terms_of rom (has_row cert.rows) cert.region
+-- the address map that a certificate names: that of the Galaxian board
+abbrev pub map_named : Contents → AddressMap
+map_named cert = galaxian cert.rom_len
+
+-- a ROM with the address map that its certificate names
+abbrev pub hardware_for : List ℕ → Contents → Hardware
+hardware_for rom cert = hardware_of rom (map_named cert)
+
+-- what a certificate's runs are tested against: its ROM and map, its row addresses and its region
+abbrev pub certified_profile : List ℕ → Contents → Profile
+certified_profile rom cert = profile_of (hardware_for rom cert) (has_row cert.rows) cert.region
+
+-- the T-states that a certificate's NMI routine may take: no certificate has one yet
+abbrev pub nmi_time : Contents → Option ℕ
+nmi_time cert = None

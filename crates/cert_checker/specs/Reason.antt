@@ -1,3 +1,4 @@
+-- The table of reasons: numbers and names.
 use Rattle.std.specs.Prelude.{ℕ, List, codes}
 use Rattle.cert_checker.specs.declared.reason.Reason.{Reason}
 use Rattle.cert_checker.specs.declared.reason.Reason.TheVariants as reasons

@@ -1,10 +1,12 @@
-ghost use Rattle.std.specs.Prelude.{◌≡◌, ℕ, None};
+// What the checker accepted.
+
+ghost use Rattle.std.specs.Prelude.{◌≡◌, ℕ, length};
 ghost use Rattle.address_map.specs.Starts.{is_start};
 ghost use Rattle.board_step.specs.Safe.{Safe};
 ghost use Rattle.cert_checker.specs.Accepts.{Accepts};
-ghost use Rattle.cert_checker.specs.Profile.{profile_of, has_row};
+ghost use Rattle.cert_checker.specs.Profile.{certified_profile, has_row, map_named, nmi_time};
 
-use address_map::{Rom, Starts};
+use address_map::{Map, Rom, Starts};
 use certificate::Certificate;
 use std::marker::Model;
 
@@ -13,36 +15,44 @@ use std::marker::Model;
 #[derive(Drop)]
 pub struct Accepted<'r> {
     rom: Rom<'r>,
+    map: Map,
     certificate: Certificate,
     starts: Starts,
 }
 
 impl<'r> Model for Accepted<'r> {
-    ghost use Rattle.std.specs.Prelude.{◌≡◌, ℕ, None};
+    ghost use Rattle.std.specs.Prelude.{◌≡◌, ℕ};
     ghost use Rattle.address_map.specs.Starts.{is_start};
     ghost use Rattle.board_step.specs.Safe.{Safe};
-    ghost use Rattle.cert_checker.specs.Verdict.{Verdict};
+    ghost use Rattle.cert_checker.specs.Certified.{Certified};
     ghost use Rattle.cert_checker.specs.Accepts.{Accepts};
-    ghost use Rattle.cert_checker.specs.Profile.{profile_of, has_row};
+    ghost use Rattle.cert_checker.specs.Profile.{certified_profile, has_row, map_named, nmi_time};
 
-    ghost Value = { Verdict };
+    ghost Value = { Certified };
 
     ghost view = { λ a. record { rom = a.rom; certificate = a.certificate } };
 
-    ghost invariant = { λ a. Accepts a.rom a.certificate × Safe (profile_of a.rom a.certificate) None × ((address : ℕ) → is_start a.starts address ≡ has_row a.certificate.rows address) };
+    ghost invariant = { λ a. Accepts a.rom a.certificate × Safe (certified_profile a.rom a.certificate) (nmi_time a.certificate) × ((address : ℕ) → is_start a.starts address ≡ has_row a.certificate.rows address) × (a.map ≡ map_named a.certificate) };
 }
 
 impl<'r> Accepted<'r> {
-    /// Keeps an accepted certificate with its ROM. The starts are the addresses of its rows.
-    pub(crate) fn new(rom: Rom<'r>, certificate: Certificate, starts: Starts) -> Accepted<'r>
+    /// Keeps an accepted certificate with its ROM and the map that it names. The starts are the addresses of its rows.
+    pub(crate) fn new(
+        rom: Rom<'r>,
+        map: Map,
+        certificate: Certificate,
+        starts: Starts,
+    ) -> Accepted<'r>
         requires accepts { Accepts rom certificate }
         requires starts { (address : ℕ) → is_start starts address ≡ has_row certificate.rows address }
+        requires map { map ≡ map_named certificate }
         ensures rom { result.rom ≡ rom.entry }
         ensures certificate { result.certificate ≡ certificate }
-        ensures safe { Safe (profile_of rom.entry certificate) None }
+        ensures safe { Safe (certified_profile rom.entry certificate) (nmi_time certificate) }
     {
         Accepted {
             rom,
+            map,
             certificate,
             starts,
         }
@@ -66,9 +76,17 @@ impl<'r> Accepted<'r> {
     /// The ROM that the certificate was accepted for.
     pub fn rom(&self) -> &Rom<'r>
         ensures value { result.now ≡ self.now.rom }
-        ensures safe { Safe (profile_of result.now self.now.certificate) None }
+        ensures safe { Safe (certified_profile result.now self.now.certificate) (nmi_time self.now.certificate) }
     {
         &self.rom
+    }
+
+    /// The address map that the certificate names.
+    pub fn map(&self) -> &Map
+        ensures value { result.now ≡ map_named self.now.certificate }
+        ensures length { result.now.rom_len ≡ length self.now.rom }
+    {
+        &self.map
     }
 
     /// The addresses at which the accepted instructions start.

@@ -1,8 +1,11 @@
+// The reasons against one row.
+
 ghost use Rattle.std.specs.Prelude.{◌≡◌, ◌<◌, Bool, IfNone, length};
 ghost use Rattle.board_step.specs.Trap.{is_rom, is_unmapped};
 ghost use Rattle.address_map.specs.declared.map.WriteClass.{WriteClass};
 ghost use Rattle.z80_decode.specs.Spelling.{spelling};
-ghost use Rattle.cert_checker.specs.Row.{RowReason, is_known, written_by, has_class, passes, may_enable, target_of, mode_after, is_covered_after, sets_sp_wrongly, reason_of};
+ghost use Rattle.cert_checker.specs.Profile.{map_named};
+ghost use Rattle.cert_checker.specs.Row.{RowReason, is_supported, written_by, has_class, passes, may_enable, target_of, mode_after, is_covered_after, sets_sp_wrongly, reason_of};
 
 use crate::covering::covers;
 use crate::reason::Reason;
@@ -12,12 +15,13 @@ use certificate::{Certificate, Mode, Row};
 use z80_decode::{Address, Instr, Place, Register8, Register16};
 
 /// The lowest reason of the table of reasons against a row of the certificate, or None.
-pub fn reason_against(rom: &Rom, cert: &Certificate, row: Row) -> Option<Reason>
+pub fn reason_against(rom: &Rom, map: &Map, cert: &Certificate, row: Row) -> Option<Reason>
+    requires { map.now ≡ map_named cert.now }
     ensures reason { RowReason rom.now cert.now row result }
     ensures inside { IfNone result (row.address < 0x4000) }
 {
     match fetch(rom, row.address) {
-        Ok((instr, len)) => reason_for(&Map::galaxian(rom.len()), cert, row, &instr, len),
+        Ok((instr, len)) => reason_for(map, cert, row, &instr, len),
         Err(fault) => Some(Reason::Decode(fault)),
     }
 }
@@ -33,7 +37,7 @@ fn reason_for(map: &Map, cert: &Certificate, row: Row, instr: &Instr, len: u8) -
         Some(Reason::WriteRom)
     } else if writes_unmapped(map, instr) {
         Some(Reason::WriteUnmapped)
-    } else if !(knows(instr)
+    } else if !(supports(instr)
         && leads_to_row(cert, target(instr, behind), next_mode(map, instr, row.mode)))
     {
         Some(Reason::NotCovered)
@@ -46,8 +50,8 @@ fn reason_for(map: &Map, cert: &Certificate, row: Row, instr: &Instr, len: u8) -
     }
 }
 
-fn knows(instr: &Instr) -> bool
-    ensures { result ≡ is_known instr.now }
+fn supports(instr: &Instr) -> bool
+    ensures { result ≡ is_supported instr.now }
 {
     matches!(
         instr,

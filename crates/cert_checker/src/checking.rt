@@ -1,8 +1,10 @@
+// The checker's verdict.
+
 ghost use Rattle.std.specs.Prelude.{◌≡◌, ◌<◌, ◌-◌, ◌↔◌, ℕ, All, IsOk, IfOk, IfErr, OnOk, IsTrue, None, Some, take};
 ghost use Rattle.address_map.specs.Starts.{is_start};
 ghost use Rattle.board_step.specs.Safe.{Safe};
 ghost use Rattle.cert_checker.specs.Accepts.{Accepts, Applies, FitsWorkRam, NothingBefore};
-ghost use Rattle.cert_checker.specs.Profile.{profile_of, has_row};
+ghost use Rattle.cert_checker.specs.Profile.{certified_profile, has_row, map_named, nmi_time};
 ghost use Rattle.cert_checker.specs.Row.{IsConsistent};
 ghost use Rattle.cert_checker.specs.declared.checking.Refused.{Refused};
 
@@ -10,7 +12,7 @@ use crate::accepted::Accepted;
 use crate::against::reason_against;
 use crate::covering::covers;
 use crate::reason::Reason;
-use address_map::{Region, Rom, Starts};
+use address_map::{Map, Region, Rom, Starts};
 use certificate::{Certificate, Mode};
 use thiserror::Error;
 
@@ -40,27 +42,28 @@ pub enum CheckFault {
 pub fn check<'r>(rom: &'r [u8], certificate: Certificate) -> Result<Accepted<'r>, CheckFault>
     ensures exact { IsOk result ↔ Accepts rom.now certificate }
     ensures kept { IfOk result (λ accepted. (accepted.rom ≡ rom.now) × (accepted.certificate ≡ certificate)) }
-    ensures safe { OnOk result (Safe (profile_of rom.now certificate) None) }
+    ensures safe { OnOk result (Safe (certified_profile rom.now certificate) (nmi_time certificate)) }
     ensures refused { IfErr result (λ fault. (r : Refused) × (fault ≡ CheckFault.Refused r) × Applies rom.now certificate r.row r.address r.reason × NothingBefore rom.now certificate r.row r.reason) }
 {
     let rom = match Rom::of(rom) {
         Some(rom) if rom.len() == certificate.rom_len() => rom,
         _ => return Err(against_whole(Reason::Rom)),
     };
-    if !lies_in_work_ram(certificate.region()) {
+    let map = Map::galaxian(certificate.rom_len());
+    if !lies_in_work_ram(&map, certificate.region()) {
         return Err(against_whole(Reason::Region));
     }
     if !covers(certificate.rows(), 0, Mode::Unset) {
         return Err(against_whole(Reason::Entry));
     }
-    let starts = match check_rows(&rom, &certificate) {
+    let starts = match check_rows(&rom, &map, &certificate) {
         Ok(starts) => starts,
         Err(row) => return Err(CheckFault::Refused(row)),
     };
     if certificate.main().depth > stack_size(certificate.region()) {
         return Err(against_whole(Reason::StackDepth));
     }
-    Ok(Accepted::new(rom, certificate, starts))
+    Ok(Accepted::new(rom, map, certificate, starts))
 }
 
 fn against_whole(reason: Reason) -> CheckFault
@@ -73,21 +76,23 @@ fn against_whole(reason: Reason) -> CheckFault
     })
 }
 
-fn lies_in_work_ram(region: Region) -> bool
-    ensures { IsTrue result ↔ FitsWorkRam region }
+fn lies_in_work_ram(map: &Map, region: Region) -> bool
+    ensures { IsTrue result ↔ FitsWorkRam map.now region }
 {
-    0x4000 <= region.low && region.low < region.top && region.top <= 0x4400
+    let start = map.work_start();
+    start <= region.low && region.low < region.top && u32::from(region.top) <= u32::from(start) + 0x400
 }
 
 fn stack_size(region: Region) -> u16
-    requires { FitsWorkRam region }
+    requires { region.low < region.top }
     ensures { result ≡ region.top - region.low }
 {
     region.top - region.low
 }
 
 /// Looks for a reason against each row, in order, and gathers the rows' addresses.
-fn check_rows(rom: &Rom, certificate: &Certificate) -> Result<Starts, Refused>
+fn check_rows(rom: &Rom, map: &Map, certificate: &Certificate) -> Result<Starts, Refused>
+    requires { map.now ≡ map_named certificate.now }
     ensures consistent { OnOk result (All (IsConsistent rom.now certificate.now) certificate.now.rows) }
     ensures starts { IfOk result (λ starts. (address : ℕ) → is_start starts address ≡ has_row certificate.now.rows address) }
     ensures refused { IfErr result (λ r. Applies rom.now certificate.now r.row r.address r.reason) }
@@ -95,7 +100,7 @@ fn check_rows(rom: &Rom, certificate: &Certificate) -> Result<Starts, Refused>
 {
     let mut starts = Starts::new();
     for (number, row) in certificate.rows().iter().enumerate() {
-        match reason_against(rom, certificate, *row) {
+        match reason_against(rom, map, certificate, *row) {
             Some(reason) => {
                 return Err(Refused {
                     row: Some(number as u32),

@@ -1,3 +1,5 @@
+// Which rows cover a state.
+
 ghost use Rattle.std.specs.Prelude.{◌≡◌, ◌<◌, ◌≤◌, ℕ, length, slice_index_or, true};
 ghost use Rattle.cert_checker.specs.Covers.{mode_covers, is_covered};
 ghost use Rattle.certificate.specs.Contents.{RowsRise};

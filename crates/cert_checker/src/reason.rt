@@ -1,3 +1,5 @@
+// Why a certificate is refused.
+
 ghost use Rattle.std.specs.Prelude.{◌≡◌, ◌≤◌};
 ghost use Rattle.cert_checker.specs.Reason.{number_of, name_of};
 

@@ -10,4 +10,4 @@ returns-in-Err-clause-exact c =
     ((λ e. cc), λ a. absurd (refuses _ _ _ _ _ c.in-Err.ensures.refused (subst (λ (rom : List ℕ). Accepts rom c.args.certificate) (sym c.in-Some.ensures.value) a)))
 
 pub returns-clause-safe : goal.returns-clause-safe
-returns-clause-safe c = subst (λ (rom : List ℕ). Safe (profile_of rom c.args.certificate) None) c.in-Some.ensures.value c.new.ensures.safe
+returns-clause-safe c = subst (λ (rom : List ℕ). Safe (certified_profile rom c.args.certificate) (nmi_time c.args.certificate)) c.in-Some.ensures.value c.new.ensures.safe

@@ -1,7 +1,0 @@
-use Rattle.std.specs.Prelude.{ℕ, List}
-use Rattle.certificate.specs.Contents.{Contents}
-
--- a ROM and the certificate that was accepted for it
-pub record Verdict : Type 0 where
-  pub rom : List ℕ
-  pub certificate : Contents

@@ -1,0 +1,18 @@
+// Laws: the numbers that registers hold.
+
+ghost use Rattle.z80_draft.specs.Registers.{IsRegisterSet, IsRegs};
+
+use z80_alu::{RegisterSet, Regs};
+
+/// A law: each register holds a byte.
+pub fn set_is_in_range(set: RegisterSet)
+    ensures { IsRegisterSet set }
+{}
+
+/// A law: each register holds a byte or a word.
+pub fn regs_are_in_range(regs: Regs)
+    ensures { IsRegs regs }
+{
+    set_is_in_range(regs.main);
+    set_is_in_range(regs.alternate);
+}

@@ -1,0 +1,3 @@
+-- The definitions of the moves of instructions.
+pub mod Moves
+pub mod Operands
