@@ -3,7 +3,7 @@ PREFIX ?= /usr/local
 JOBS ?= 4
 SIX = examples/six-bytes/six
 
-.PHONY: all test install clean
+.PHONY: all test edits install clean
 
 all: galcert
 	@echo "== the six-byte example: its verdict, and a run of three events"
@@ -21,6 +21,10 @@ galcert: crates.txt $(shell find crates -name '*.rt' -o -name '*.antt' | grep -v
 # The gate: every proof from nothing, the edits that must be refused, the tests and the stored run.
 test:
 	rt ci
+
+# The edits that the gate leaves out, each of which must be refused too; CRATES="a b" tries those of some crates.
+edits:
+	tools/edits.sh $(CRATES)
 
 install: galcert
 	install -D -m 755 galcert $(DESTDIR)$(PREFIX)/bin/galcert

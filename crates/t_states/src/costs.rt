@@ -1,4 +1,6 @@
-ghost use Rattle.std.specs.Prelude.{◌≡◌, ◌≤◌};
+// What each instruction costs in T-states.
+ghost use Rattle.std.specs.Prelude.{◌≡◌, ◌≤◌, Bool};
+ghost use Rattle.z80_decode.specs.declared.instr.Instr.{Instr};
 ghost use Rattle.t_states.specs.Costs.{cost_of, by_memory, by_place, by_pair, by_stack_pair, by_pointer, by_address, by_direct, by_block};
 
 use z80_decode::{
@@ -77,6 +79,12 @@ pub fn cost(instr: &Instr, taken: bool) -> u8
         Instr::InputRegister(_) | Instr::OutputRegister(_) => 12,
     }
 }
+
+/// Each instruction costs 4 to 23 T-states, taken or not. A law: it does nothing when it is called.
+pub fn cost_range()
+    ensures least { (instr : Instr) (taken : Bool) → 4 ≤ cost_of instr taken }
+    ensures greatest { (instr : Instr) (taken : Bool) → cost_of instr taken ≤ 23 }
+{}
 
 fn by_memory(memory: Memory, at_hl: u8, at_index: u8) -> u8
     ensures { result ≡ by_memory memory at_hl at_index }

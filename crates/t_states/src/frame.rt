@@ -1,5 +1,12 @@
+// The T-states of a frame, and of what no instruction costs.
+ghost use Rattle.std.specs.Prelude.{◌≡◌, ◌-◌, ◌*◌};
+ghost use Rattle.t_states.specs.Frame.{nmi_cost, idle_cost, frame, max_budget};
+
 /// T-states of the acceptance of a non-maskable interrupt (UM0080, "Interrupt Response").
 pub const NMI_COST: u8 = 11;
+
+/// T-states of one turn of the halted machine, which does NOPs (UM0080, "HALT").
+pub const IDLE_COST: u8 = 4;
 
 /// T-states of a frame of the board: 264 lines of 192 T-states each.
 pub const FRAME: u32 = 50_688;
@@ -10,6 +17,13 @@ pub const FRAME: u32 = 50_688;
 /// most, and 50,665 T-states later the next frame has not ended.
 pub const MAX_BUDGET: u32 = 50_665;
 
-const _: () = prove!(FRAME == 264 * 192);
-
-const _: () = prove!(MAX_BUDGET == FRAME - 1 - 22);
+/// The constants are the numbers that the definitions cite. A law: it does nothing when it is
+/// called.
+pub fn fixed_numbers()
+    ensures acceptance { NMI_COST ≡ nmi_cost }
+    ensures idle { IDLE_COST ≡ idle_cost }
+    ensures frame { FRAME ≡ frame }
+    ensures budget { MAX_BUDGET ≡ max_budget }
+    ensures lines { frame ≡ 264 * 192 }
+    ensures remainder { max_budget ≡ frame - 1 - 22 }
+{}

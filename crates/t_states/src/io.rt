@@ -1,3 +1,4 @@
+// The instructions that use a port.
 ghost use Rattle.std.specs.Prelude.{◌≡◌};
 ghost use Rattle.t_states.specs.Io.{is_io};
 

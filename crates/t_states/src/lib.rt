@@ -5,9 +5,6 @@ mod costs;
 mod frame;
 mod io;
 
-pub use costs::cost;
-pub use frame::{FRAME, MAX_BUDGET, NMI_COST};
+pub use costs::{cost, cost_range};
+pub use frame::{FRAME, IDLE_COST, MAX_BUDGET, NMI_COST, fixed_numbers};
 pub use io::is_io;
-
-#[cfg(test)]
-mod tests;

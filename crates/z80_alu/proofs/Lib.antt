@@ -1,3 +1,4 @@
+-- The lemmas: flags bit by bit, carries, and tables of all bytes.
 pub mod BitTests
 pub mod ByteTables
 pub mod Carries

@@ -1,3 +1,4 @@
+-- The definitions: the flag table by its lines, and what stands under them.
 pub mod Add
 pub mod Bits
 pub mod Block

@@ -1,3 +1,4 @@
+// Sums and differences of bytes: ADD, ADC, SUB, SBC, CP, NEG, INC and DEC.
 ghost use Rattle.std.specs.Prelude.{◌≡◌, false};
 ghost use Rattle.z80_alu.specs.Flags.{flags_byte};
 ghost use Rattle.z80_alu.specs.Add.{sum8, sum8_flags, difference8, difference8_flags, increment8_flags, decrement8_flags};

@@ -1,3 +1,4 @@
+// The bits of a byte: BIT, SET and RES.
 ghost use Rattle.std.specs.Prelude.{◌≡◌, ◌%◌};
 ghost use Rattle.z80_alu.specs.Flags.{flags_byte};
 ghost use Rattle.z80_alu.specs.Bits.{test_bit_flags, bit_set, bit_reset};

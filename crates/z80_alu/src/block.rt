@@ -1,3 +1,4 @@
+// The flags of the block instructions LDI and CPI, and of their kin.
 ghost use Rattle.std.specs.Prelude.{◌≡◌};
 ghost use Rattle.z80_alu.specs.Flags.{flags_byte};
 ghost use Rattle.z80_alu.specs.Block.{block_load_flags, block_compare_flags};

@@ -1,3 +1,4 @@
+// Decimal digits: DAA, RLD and RRD.
 ghost use Rattle.std.specs.Prelude.{◌≡◌};
 ghost use Rattle.z80_alu.specs.Flags.{flags_byte, flags_of};
 ghost use Rattle.z80_alu.specs.Digits.{decimal_correction, decimal_adjusted, daa_flags, rld_a, rld_byte, rrd_a, rrd_byte, rotate_digit_flags};

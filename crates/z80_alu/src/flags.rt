@@ -1,7 +1,8 @@
+// The byte F and its eight flags.
 ghost use Rattle.std.specs.Prelude.{◌≡◌};
 
 /// The eight flags of the byte F, each as a truth (UM0080, "Status Indicator Flags").
-#[derive(Clone, Copy, Debug, PartialEq, Eq)]
+#[derive(Clone, Copy)]
 pub struct Flags {
     /// S, bit 7: the result's highest bit.
     pub sign: bool,

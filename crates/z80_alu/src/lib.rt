@@ -15,8 +15,6 @@ mod logic;
 mod regs;
 mod rotate;
 mod shift;
-#[cfg(test)]
-mod tests;
 mod word;
 mod words;
 

@@ -1,3 +1,4 @@
+// The flags of LD A,I and LD A,R.
 ghost use Rattle.std.specs.Prelude.{◌≡◌};
 ghost use Rattle.z80_alu.specs.Flags.{flags_byte};
 ghost use Rattle.z80_alu.specs.Load.{load_a_flags};

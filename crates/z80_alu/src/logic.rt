@@ -1,3 +1,4 @@
+// Logic of bytes, and the flag C: AND, OR, XOR, CPL, SCF and CCF.
 ghost use Rattle.std.specs.Prelude.{◌≡◌, ◌-◌, bit_and, bit_or, bit_xor};
 ghost use Rattle.z80_alu.specs.Flags.{flags_byte};
 ghost use Rattle.z80_alu.specs.Logic.{and8_flags, or8_flags, xor8_flags, cpl_flags, scf_flags, ccf_flags};

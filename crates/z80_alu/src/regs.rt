@@ -1,10 +1,11 @@
+// The register file, and its pairs as words.
 ghost use Rattle.std.specs.Prelude.{◌≡◌};
 ghost use Rattle.z80_alu.specs.Word.{word_of, high_of, low_of};
 
 use crate::word::Word;
 
 /// One set of the accumulator, the flags and the general registers (UM0080, "CPU Registers").
-#[derive(Clone, Copy, Debug, PartialEq, Eq, Default)]
+#[derive(Clone, Copy, PartialEq, Eq, Default)]
 pub struct RegisterSet {
     pub a: u8,
     pub f: u8,
@@ -18,7 +19,7 @@ pub struct RegisterSet {
 
 /// The register file of the Z80 (UM0080, "CPU Registers"): the main set, the alternate set that
 /// EX AF,AF' and EXX exchange it with, the index registers, and the registers of special purpose.
-#[derive(Clone, Copy, Debug, PartialEq, Eq, Default)]
+#[derive(Clone, Copy, PartialEq, Eq, Default)]
 pub struct Regs {
     pub main: RegisterSet,
     pub alternate: RegisterSet,

@@ -1,3 +1,4 @@
+// Shifts and rotates with their flags.
 ghost use Rattle.std.specs.Prelude.{◌≡◌};
 ghost use Rattle.z80_alu.specs.declared.shift.Shift.TheVariants.{Rlc, Rrc, Rl, Rr};
 ghost use Rattle.z80_alu.specs.Flags.{flags_byte, flags_of};

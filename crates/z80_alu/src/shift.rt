@@ -1,7 +1,8 @@
+// The kinds of shift and rotate, and what each makes of a byte.
 ghost use Rattle.std.specs.Prelude.{◌≡◌};
 
 /// The shifts and rotates of a byte (UM0080, "Rotate and Shift Group").
-#[derive(Clone, Copy, Debug, PartialEq, Eq)]
+#[derive(Clone, Copy)]
 pub enum Shift {
     /// Rotates left; bit 7 goes to bit 0 and C.
     Rlc,

@@ -1,8 +1,9 @@
+// A word as two bytes.
 ghost use Rattle.std.specs.Prelude.{◌≡◌};
 ghost use Rattle.z80_alu.specs.Word.{word_of, high_of, low_of};
 
 /// A word of 16 bits as the two bytes that it is stored as (UM0080, "CPU Registers").
-#[derive(Clone, Copy, Debug, PartialEq, Eq)]
+#[derive(Clone, Copy)]
 pub struct Word {
     pub high: u8,
     pub low: u8,

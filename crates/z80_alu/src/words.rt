@@ -1,3 +1,4 @@
+// Sums and differences of words: ADD, ADC, SBC, INC and DEC of pairs.
 ghost use Rattle.std.specs.Prelude.{◌≡◌, false};
 ghost use Rattle.z80_alu.specs.Flags.{flags_byte};
 ghost use Rattle.z80_alu.specs.Words.{sum16, sum16_flags, carried_sum16_flags, difference16, carried_difference16_flags};

@@ -1,3 +1,4 @@
+-- The lemmas: tables of all operands, and that the decoder finds what is spelled.
 pub mod Tables
 pub mod EachOperand
 pub mod Sound

@@ -17,17 +17,13 @@ abbrev pub output_from : Option Register8 → Option Instr
 output_from (Some r) = Some (instrs.OutputRegister r)
 output_from None = None
 
--- 01 yyy 011
-abbrev pub load_or_store_pair : ℕ → ℕ → Instr
-load_or_store_pair y word = if y % 2 == 0 then instrs.StorePairDirect (directs.Pair (word_of (y / 2))) word else instrs.LoadPairDirect (directs.Pair (word_of (y / 2))) word
-
 -- 01 yyy 0zz
 abbrev pub port_or_pair : ℕ → ℕ → ℕ → Option Instr
 port_or_pair y z word =
     if z == 0 then input_to (register_of y) else (
     if z == 1 then output_from (register_of y) else (
     if z == 2 then Some (if y % 2 == 0 then instrs.SbcHl (pair_of (y / 2)) else instrs.AdcHl (pair_of (y / 2))) else
-    Some (load_or_store_pair y word)))
+    Some (if y % 2 == 0 then instrs.StorePairDirect (directs.Pair (word_of (y / 2))) word else instrs.LoadPairDirect (directs.Pair (word_of (y / 2))) word)))
 
 -- 10 1yy 0zz
 abbrev pub block_instr : ℕ → ℕ → Option Instr

@@ -1,3 +1,4 @@
+-- The definitions: the spelling table with its codes, and the steps of the decoder.
 pub mod Operands
 pub mod Kinds
 pub mod Spelling

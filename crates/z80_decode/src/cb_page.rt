@@ -1,3 +1,4 @@
+// The opcodes behind the prefix CB: shifts, and the bits of a byte.
 ghost use Rattle.std.specs.Prelude.{◌≡◌};
 ghost use Rattle.z80_decode.specs.CbPage.{behind_cb};
 
@@ -13,10 +14,7 @@ pub(crate) fn behind_cb(opcode: u8, place: Place) -> Option<Instr>
 {
     let Fields { x, y, .. } = Fields::of(opcode);
     match x {
-        0 => match ShiftKind::of(y) {
-            Some(kind) => Some(Instr::Shift(kind, place)),
-            None => None,
-        },
+        0 => Some(Instr::Shift(ShiftKind::of(y)?, place)),
         1 => Some(Instr::TestBit(Bit::of(y), place)),
         2 => Some(Instr::ResetBit(Bit::of(y), place)),
         _ => Some(Instr::SetBit(Bit::of(y), place)),

@@ -1,3 +1,4 @@
+// The decoder: the instruction that bytes begin with.
 ghost use Rattle.std.specs.Prelude.{◌≡◌, ◌≤◌, ◌↔◌, ℕ, List, ◌++◌, length, take, IfOk};
 ghost use Rattle.z80_decode.specs.declared.instr.Instr.{Instr};
 ghost use Rattle.z80_decode.specs.Spelling.{spelling, IsProperBeginning, IsUndocumented};

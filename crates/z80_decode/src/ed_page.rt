@@ -1,5 +1,6 @@
+// The opcodes behind the prefix ED.
 ghost use Rattle.std.specs.Prelude.{◌≡◌};
-ghost use Rattle.z80_decode.specs.EdPage.{behind_ed, port_or_pair, load_or_store_pair, block_instr, single};
+ghost use Rattle.z80_decode.specs.EdPage.{behind_ed, port_or_pair, block_instr, single};
 
 use crate::fields::Fields;
 use crate::instr::Instr;
@@ -28,19 +29,8 @@ fn port_or_pair(y: u8, z: u8, word: u16) -> Option<Instr>
         1 => Some(Instr::OutputRegister(Register8::of(y)?)),
         2 if y % 2 == 0 => Some(Instr::SbcHl(Pair::of(y / 2))),
         2 => Some(Instr::AdcHl(Pair::of(y / 2))),
-        _ => Some(load_or_store_pair(y, word)),
-    }
-}
-
-/// 01 yyy 011
-fn load_or_store_pair(y: u8, word: u16) -> Instr
-    ensures { result ≡ load_or_store_pair y word }
-{
-    let pair = Direct::Pair(Register16::of(y / 2));
-    if y % 2 == 0 {
-        Instr::StorePairDirect(pair, word)
-    } else {
-        Instr::LoadPairDirect(pair, word)
+        _ if y % 2 == 0 => Some(Instr::StorePairDirect(Direct::Pair(Register16::of(y / 2)), word)),
+        _ => Some(Instr::LoadPairDirect(Direct::Pair(Register16::of(y / 2)), word)),
     }
 }
 

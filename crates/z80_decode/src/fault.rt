@@ -1,3 +1,4 @@
+// Why no instruction was decoded.
 use thiserror::Error;
 
 /// Why no instruction was decoded.

@@ -1,3 +1,4 @@
+// The three fields of an opcode.
 ghost use Rattle.std.specs.Prelude.{◌≡◌, ◌/◌, ◌%◌};
 
 /// The three fields of an opcode, xx yyy zzz, by which UM0080 lays out its tables.

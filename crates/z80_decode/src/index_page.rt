@@ -1,3 +1,4 @@
+// The opcodes behind the prefixes DD and FD, of the index registers.
 ghost use Rattle.std.specs.Prelude.{◌≡◌};
 ghost use Rattle.z80_decode.specs.IndexPage.{behind_index, on_index, on_memory, load_at, as_word, as_stack_pair, as_pointer};
 

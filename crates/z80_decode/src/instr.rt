@@ -1,3 +1,4 @@
+// The documented instructions.
 use crate::kinds::{
     AccumulatorRotate, ArithmeticKind, Bit, BlockKind, Condition, Mode, RestartAddress, ShiftKind,
     ShortCondition,
@@ -14,7 +15,7 @@ use crate::operands::{
 /// eight bits is 0 to 255 and one of sixteen bits 0 to 65,535. The displacement of a relative jump
 /// is the byte as it is spelled: from 128 on it stands for that number less 256, and it counts from
 /// the address of the next instruction.
-#[derive(Clone, Copy, Debug, PartialEq, Eq)]
+#[derive(Clone, Copy)]
 pub enum Instr {
     /// NOP
     Nop,

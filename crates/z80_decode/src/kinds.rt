@@ -1,8 +1,9 @@
+// The kinds that an instruction has in its opcode: conditions, operations, bits.
 ghost use Rattle.std.specs.Prelude.{◌≡◌};
 ghost use Rattle.z80_decode.specs.Kinds.{condition_of, short_condition_of, operation_of, shift_of, block_of, bit_of, restart_of};
 
 /// A condition of JP, CALL and RET: `cc` of the manual.
-#[derive(Clone, Copy, Debug, PartialEq, Eq)]
+#[derive(Clone, Copy)]
 pub enum Condition {
     NotZero,
     Zero,
@@ -15,7 +16,7 @@ pub enum Condition {
 }
 
 /// A condition of JR.
-#[derive(Clone, Copy, Debug, PartialEq, Eq)]
+#[derive(Clone, Copy)]
 pub enum ShortCondition {
     NotZero,
     Zero,
@@ -24,7 +25,7 @@ pub enum ShortCondition {
 }
 
 /// An operation of eight-bit arithmetic or logic on A; `Compare` is CP.
-#[derive(Clone, Copy, Debug, PartialEq, Eq)]
+#[derive(Clone, Copy)]
 pub enum ArithmeticKind {
     Add,
     Adc,
@@ -37,7 +38,7 @@ pub enum ArithmeticKind {
 }
 
 /// A shift or rotation behind the prefix CB.
-#[derive(Clone, Copy, Debug, PartialEq, Eq)]
+#[derive(Clone, Copy)]
 pub enum ShiftKind {
     Rlc,
     Rrc,
@@ -49,7 +50,7 @@ pub enum ShiftKind {
 }
 
 /// A rotation of A that has a code of one byte.
-#[derive(Clone, Copy, Debug, PartialEq, Eq)]
+#[derive(Clone, Copy)]
 pub enum AccumulatorRotate {
     Rlca,
     Rrca,
@@ -59,7 +60,7 @@ pub enum AccumulatorRotate {
 
 /// Which way a block instruction moves its addresses, and whether it repeats: of the loads LDI,
 /// LDD, LDIR and LDDR.
-#[derive(Clone, Copy, Debug, PartialEq, Eq)]
+#[derive(Clone, Copy)]
 pub enum BlockKind {
     Increment,
     Decrement,
@@ -68,7 +69,7 @@ pub enum BlockKind {
 }
 
 /// The number of a bit of a byte, 0 (the lowest) to 7.
-#[derive(Clone, Copy, Debug, PartialEq, Eq)]
+#[derive(Clone, Copy)]
 pub enum Bit {
     Zero,
     One,
@@ -81,7 +82,7 @@ pub enum Bit {
 }
 
 /// The address that RST calls, 00h to 38h.
-#[derive(Clone, Copy, Debug, PartialEq, Eq)]
+#[derive(Clone, Copy)]
 pub enum RestartAddress {
     At00,
     At08,
@@ -94,7 +95,7 @@ pub enum RestartAddress {
 }
 
 /// An interrupt mode of IM.
-#[derive(Clone, Copy, Debug, PartialEq, Eq)]
+#[derive(Clone, Copy)]
 pub enum Mode {
     Zero,
     One,

@@ -25,6 +25,3 @@ pub use operands::{
     Register16, Special, StackPair,
 };
 pub use spelling::one_spelling;
-
-#[cfg(test)]
-mod tests;

@@ -1,8 +1,9 @@
+// The operands of instructions: registers, pairs, places in memory.
 ghost use Rattle.std.specs.Prelude.{◌≡◌};
 ghost use Rattle.z80_decode.specs.Operands.{register_of, place_of, word_of, stack_pair_of, pair_of};
 
 /// A general register of eight bits (UM0080, "Z80 Register Configuration").
-#[derive(Clone, Copy, Debug, PartialEq, Eq)]
+#[derive(Clone, Copy)]
 pub enum Register8 {
     B,
     C,
@@ -15,7 +16,7 @@ pub enum Register8 {
 
 /// A pair of sixteen bits that is loaded, stored, counted up or down: `dd` and `ss` of the
 /// manual, and the two index registers.
-#[derive(Clone, Copy, Debug, PartialEq, Eq)]
+#[derive(Clone, Copy)]
 pub enum Register16 {
     Bc,
     De,
@@ -26,7 +27,7 @@ pub enum Register16 {
 }
 
 /// A pair that is pushed and popped: `qq` of the manual, and the two index registers.
-#[derive(Clone, Copy, Debug, PartialEq, Eq)]
+#[derive(Clone, Copy)]
 pub enum StackPair {
     Bc,
     De,
@@ -37,7 +38,7 @@ pub enum StackPair {
 }
 
 /// The second operand of ADD HL,ss, ADC HL,ss and SBC HL,ss: `ss` of the manual.
-#[derive(Clone, Copy, Debug, PartialEq, Eq)]
+#[derive(Clone, Copy)]
 pub enum Pair {
     Bc,
     De,
@@ -47,7 +48,7 @@ pub enum Pair {
 
 /// The second operand of ADD IX,pp and ADD IY,rr: `pp` and `rr` of the manual. `Own` is the index
 /// register itself.
-#[derive(Clone, Copy, Debug, PartialEq, Eq)]
+#[derive(Clone, Copy)]
 pub enum IndexPair {
     Bc,
     De,
@@ -56,7 +57,7 @@ pub enum IndexPair {
 }
 
 /// What JP (HL), EX (SP),HL and LD SP,HL work on: HL, or an index register in its place.
-#[derive(Clone, Copy, Debug, PartialEq, Eq)]
+#[derive(Clone, Copy)]
 pub enum Pointer {
     Hl,
     Ix,
@@ -64,7 +65,7 @@ pub enum Pointer {
 }
 
 /// An index register.
-#[derive(Clone, Copy, Debug, PartialEq, Eq)]
+#[derive(Clone, Copy)]
 pub enum Index {
     Ix,
     Iy,
@@ -72,21 +73,21 @@ pub enum Index {
 
 /// The byte in memory that an instruction works on: (HL), or (IX+d) and (IY+d). The displacement
 /// is the byte as it is spelled, 0 to 255; from 128 on it stands for that number less 256.
-#[derive(Clone, Copy, Debug, PartialEq, Eq)]
+#[derive(Clone, Copy)]
 pub enum Memory {
     AtHl,
     At(Index, u8),
 }
 
 /// A register or a byte in memory: `r` and `m` of the manual, or `s` without its number.
-#[derive(Clone, Copy, Debug, PartialEq, Eq)]
+#[derive(Clone, Copy)]
 pub enum Place {
     Register(Register8),
     Memory(Memory),
 }
 
 /// The operand of eight-bit arithmetic and logic: `s` of the manual. A number is 0 to 255.
-#[derive(Clone, Copy, Debug, PartialEq, Eq)]
+#[derive(Clone, Copy)]
 pub enum Operand {
     Place(Place),
     Immediate(u8),
@@ -94,7 +95,7 @@ pub enum Operand {
 
 /// Where LD A,(BC), LD A,(DE) and LD A,(nn) load from, and LD (BC),A and the like store to.
 /// An address is 0 to 65,535.
-#[derive(Clone, Copy, Debug, PartialEq, Eq)]
+#[derive(Clone, Copy)]
 pub enum Address {
     Bc,
     De,
@@ -103,14 +104,14 @@ pub enum Address {
 
 /// The pair of a load from (nn) or a store to it. HL has two spellings there: `ShortHl` is the
 /// one without a prefix, and the others have one.
-#[derive(Clone, Copy, Debug, PartialEq, Eq)]
+#[derive(Clone, Copy)]
 pub enum Direct {
     ShortHl,
     Pair(Register16),
 }
 
 /// A register of special purpose that is loaded from A and into it.
-#[derive(Clone, Copy, Debug, PartialEq, Eq)]
+#[derive(Clone, Copy)]
 pub enum Special {
     I,
     R,

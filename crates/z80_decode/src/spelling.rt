@@ -1,6 +1,7 @@
+// How many bytes spell an instruction, and that no two are spelled alike.
 ghost use Rattle.std.specs.Prelude.{◌≡◌, ◌≤◌, ℕ, List, [], ◌++◌, length};
 ghost use Rattle.z80_decode.specs.declared.instr.Instr.{Instr};
-ghost use Rattle.z80_decode.specs.Spelling.{spelling, at, at_behind_cb, at_memory, at_pair, at_stack_pair, at_pointer, at_direct};
+ghost use Rattle.z80_decode.specs.Spelling.{spelling, at, at_behind_cb, at_memory, at_pair, at_direct};
 
 use crate::instr::Instr;
 use crate::operands::{Address, Direct, Memory, Operand, Place, Pointer, Register16, StackPair};
@@ -58,30 +59,6 @@ impl Register16 {
     }
 }
 
-impl StackPair {
-    fn length(self) -> u8
-        ensures exact { (op : ℕ → ℕ) → result ≡ length (at_stack_pair self op) }
-        ensures short { (1 ≤ result) × (result ≤ 2) }
-    {
-        match self {
-            StackPair::Bc | StackPair::De | StackPair::Hl | StackPair::Af => 1,
-            StackPair::Ix | StackPair::Iy => 2,
-        }
-    }
-}
-
-impl Pointer {
-    fn length(self) -> u8
-        ensures exact { (op : ℕ) → result ≡ length (at_pointer self op) }
-        ensures short { (1 ≤ result) × (result ≤ 2) }
-    {
-        match self {
-            Pointer::Hl => 1,
-            Pointer::Ix | Pointer::Iy => 2,
-        }
-    }
-}
-
 impl Direct {
     fn length(self) -> u8
         ensures exact { (short : ℕ) (long : ℕ → ℕ) → result ≡ length (at_direct self short long) }
@@ -101,55 +78,28 @@ impl Instr {
         ensures short { (1 ≤ result) × (result ≤ 4) }
     {
         match self {
-            Instr::Nop
-            | Instr::Halt
-            | Instr::DisableInterrupts
-            | Instr::EnableInterrupts
-            | Instr::LoadA(Address::Bc | Address::De)
-            | Instr::StoreA(Address::Bc | Address::De)
-            | Instr::ExchangeDeHl
-            | Instr::ExchangeAf
-            | Instr::ExchangeSets
-            | Instr::DecimalAdjust
-            | Instr::Complement
-            | Instr::ComplementCarry
-            | Instr::SetCarry
-            | Instr::AddHl(_)
-            | Instr::RotateA(_)
-            | Instr::Restart(_)
-            | Instr::Return
-            | Instr::ReturnIf(_) => 1,
+            Instr::Nop | Instr::Halt | Instr::DisableInterrupts | Instr::EnableInterrupts => 1,
+            Instr::LoadA(Address::Bc | Address::De) | Instr::StoreA(Address::Bc | Address::De) => 1,
+            Instr::ExchangeDeHl | Instr::ExchangeAf | Instr::ExchangeSets => 1,
+            Instr::DecimalAdjust | Instr::Complement => 1,
+            Instr::ComplementCarry | Instr::SetCarry => 1,
+            Instr::AddHl(_) | Instr::RotateA(_) => 1,
+            Instr::Restart(_) | Instr::Return | Instr::ReturnIf(_) => 1,
 
-            Instr::InterruptMode(_)
-            | Instr::LoadASpecial(_)
-            | Instr::StoreASpecial(_)
-            | Instr::BlockLoad(_)
-            | Instr::BlockCompare(_)
-            | Instr::BlockInput(_)
-            | Instr::BlockOutput(_)
-            | Instr::Arithmetic(_, Operand::Immediate(_))
-            | Instr::Negate
-            | Instr::AdcHl(_)
-            | Instr::SbcHl(_)
-            | Instr::AddIndex(_, _)
-            | Instr::RotateDigitsLeft
-            | Instr::RotateDigitsRight
-            | Instr::JumpRelative(_)
-            | Instr::JumpRelativeIf(_, _)
-            | Instr::DecrementJump(_)
-            | Instr::ReturnFromInterrupt
-            | Instr::ReturnFromNonMaskable
-            | Instr::InputImmediate(_)
-            | Instr::InputRegister(_)
-            | Instr::OutputImmediate(_)
-            | Instr::OutputRegister(_) => 2,
+            Instr::InterruptMode(_) | Instr::Negate => 2,
+            Instr::LoadASpecial(_) | Instr::StoreASpecial(_) => 2,
+            Instr::BlockLoad(_) | Instr::BlockCompare(_) => 2,
+            Instr::BlockInput(_) | Instr::BlockOutput(_) => 2,
+            Instr::Arithmetic(_, Operand::Immediate(_)) => 2,
+            Instr::AdcHl(_) | Instr::SbcHl(_) | Instr::AddIndex(_, _) => 2,
+            Instr::RotateDigitsLeft | Instr::RotateDigitsRight => 2,
+            Instr::JumpRelative(_) | Instr::JumpRelativeIf(_, _) | Instr::DecrementJump(_) => 2,
+            Instr::ReturnFromInterrupt | Instr::ReturnFromNonMaskable => 2,
+            Instr::InputImmediate(_) | Instr::InputRegister(_) => 2,
+            Instr::OutputImmediate(_) | Instr::OutputRegister(_) => 2,
 
-            Instr::LoadA(Address::Direct(_))
-            | Instr::StoreA(Address::Direct(_))
-            | Instr::Jump(_)
-            | Instr::JumpIf(_, _)
-            | Instr::Call(_)
-            | Instr::CallIf(_, _) => 3,
+            Instr::LoadA(Address::Direct(_)) | Instr::StoreA(Address::Direct(_)) => 3,
+            Instr::Jump(_) | Instr::JumpIf(_, _) | Instr::Call(_) | Instr::CallIf(_, _) => 3,
 
             Instr::LoadRegister(_, place)
             | Instr::Arithmetic(_, Operand::Place(place))
@@ -166,10 +116,13 @@ impl Instr {
             Instr::LoadPairDirect(direct, _) | Instr::StorePairDirect(direct, _) => {
                 direct.length() + 2
             }
-            Instr::LoadSp(pointer) | Instr::ExchangeStack(pointer) | Instr::JumpTo(pointer) => {
-                pointer.length()
-            }
-            Instr::Push(pair) | Instr::Pop(pair) => pair.length(),
+            Instr::LoadSp(Pointer::Hl) | Instr::ExchangeStack(Pointer::Hl) => 1,
+            Instr::LoadSp(_) | Instr::ExchangeStack(_) => 2,
+            Instr::JumpTo(Pointer::Hl) => 1,
+            Instr::JumpTo(_) => 2,
+            Instr::Push(StackPair::Ix | StackPair::Iy)
+            | Instr::Pop(StackPair::Ix | StackPair::Iy) => 2,
+            Instr::Push(_) | Instr::Pop(_) => 1,
         }
     }
 }

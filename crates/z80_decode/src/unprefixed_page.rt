@@ -1,3 +1,4 @@
+// The opcodes without a prefix.
 ghost use Rattle.std.specs.Prelude.{◌≡◌};
 ghost use Rattle.z80_decode.specs.UnprefixedPage.{unprefixed, first_quarter, relative_jump, indirect_load, on_accumulator, load, last_quarter, pop_or_return, jump_or_exchange, push_or_call};
 

@@ -1,6 +1,10 @@
-// What the manual leaves open is masked out of the vectors: bits 5 and 3, H after DAA, S and P/V after
-// BIT, and P/V after LD A,I. With the noise 0 those bits are 0.
-use super::*;
+// The operations on bytes, words and flags, against vectors. What the manual leaves open is masked out of them: bits 5
+// and 3, H after DAA, S and P/V after BIT, and P/V after LD A,I. With the noise 0 those bits are 0.
+use z80_alu::{
+    Flags, RegisterSet, Regs, Shift, Word, adc16, add8, add16, and8, block_compare_flags,
+    block_load_flags, ccf, cpl, daa, dec8, dec16, inc8, inc16, load_a_flags, or8, reset_bit, rla,
+    rlca, rld, rra, rrca, rrd, sbc16, scf, set_bit, shift8, sub8, test_bit, xor8,
+};
 
 #[derive(Clone, Copy)]
 enum Op {
@@ -99,7 +103,7 @@ fn run_digits(op: DigitOp, a: u8, byte: u8, f: u8) -> (u8, u8, u8) {
 // Worked out by hand from the manual's descriptions: A, operand and F before, A and F after.
 #[test]
 fn agrees_with_the_manual(rt: HostRuntime) {
-    let rows = [
+    let rows: &[(Op, u8, u8, u8, u8, u8)] = &[
         (Op::Add, 0x7F, 0x01, 0x00, 0x80, 0x94),
         (Op::Sub, 0x80, 0x01, 0x00, 0x7F, 0x16),
         (Op::Inc, 0x7F, 0x00, 0x01, 0x80, 0x95),
@@ -109,7 +113,7 @@ fn agrees_with_the_manual(rt: HostRuntime) {
         (Op::Ccf, 0x00, 0x00, 0x01, 0x00, 0x10),
         (Op::Bit(7), 0x00, 0x00, 0x00, 0x00, 0x50),
     ];
-    for (op, a, operand, before, value, after) in rows {
+    for &(op, a, operand, before, value, after) in rows {
         assert_eq!(rt;
             run(op, a, operand, before),
             (value, after),
@@ -123,7 +127,7 @@ fn agrees_with_the_manual(rt: HostRuntime) {
 // From Debian's libz80ex 1.1.21-2, run once by hand: A, operand and F before, A and F after.
 #[test]
 fn agrees_with_z80ex(rt: HostRuntime) {
-    let vectors = [
+    let vectors: &[(Op, u8, u8, u8, u8, u8)] = &[
         (Op::Add, 0x10, 0xAF, 0x45, 0xBF, 0x80),
         (Op::Add, 0x95, 0xAD, 0x81, 0x42, 0x15),
         (Op::Add, 0x66, 0x9A, 0xD5, 0x00, 0x51),
@@ -228,7 +232,7 @@ fn agrees_with_z80ex(rt: HostRuntime) {
         (Op::LdAI, 0x9E, 0xBE, 0x91, 0xBE, 0x81),
         (Op::LdAI, 0xE1, 0x00, 0x80, 0x00, 0x40),
     ];
-    for (op, a, operand, before, value, after) in vectors {
+    for &(op, a, operand, before, value, after) in vectors {
         assert_eq!(rt;
             run(op, a, operand, before),
             (value, after),
@@ -240,7 +244,7 @@ fn agrees_with_z80ex(rt: HostRuntime) {
 // From the same: HL, operand and F before, HL and F after.
 #[test]
 fn agrees_with_z80ex_on_words(rt: HostRuntime) {
-    let vectors = [
+    let vectors: &[(WordOp, u16, u16, u8, u16, u8)] = &[
         (WordOp::Add, 0x8001, 0xCB93, 0xD4, 0x4B94, 0xC5),
         (WordOp::Add, 0x0FFF, 0x0C09, 0x11, 0x1C08, 0x10),
         (WordOp::Adc, 0x3259, 0x9761, 0x43, 0xC9BB, 0x80),
@@ -250,7 +254,7 @@ fn agrees_with_z80ex_on_words(rt: HostRuntime) {
         (WordOp::Sbc, 0x0000, 0xFFFF, 0x43, 0x0000, 0x53),
         (WordOp::Sbc, 0x00FF, 0x8001, 0x14, 0x80FE, 0x87),
     ];
-    for (op, hl, operand, before, value, after) in vectors {
+    for &(op, hl, operand, before, value, after) in vectors {
         assert_eq!(rt;
             run_word(op, hl, operand, before),
             (value, after),
@@ -262,7 +266,7 @@ fn agrees_with_z80ex_on_words(rt: HostRuntime) {
 // From the same: A, byte and F before, A, byte and F after.
 #[test]
 fn agrees_with_z80ex_on_digits(rt: HostRuntime) {
-    let vectors = [
+    let vectors: &[(DigitOp, u8, u8, u8, u8, u8, u8)] = &[
         (DigitOp::Rld, 0xDD, 0x40, 0x46, 0xD4, 0x0D, 0x84),
         (DigitOp::Rld, 0x07, 0x07, 0x07, 0x00, 0x77, 0x45),
         (DigitOp::Rld, 0x2A, 0x32, 0x90, 0x23, 0x2A, 0x00),
@@ -270,11 +274,29 @@ fn agrees_with_z80ex_on_digits(rt: HostRuntime) {
         (DigitOp::Rrd, 0x32, 0x08, 0x47, 0x38, 0x20, 0x01),
         (DigitOp::Rrd, 0x04, 0x00, 0xD6, 0x00, 0x40, 0x44),
     ];
-    for (op, a, byte, before, value, moved, after) in vectors {
+    for &(op, a, byte, before, value, moved, after) in vectors {
         assert_eq!(rt;
             run_digits(op, a, byte, before),
             (value, moved, after),
             "A {a}, byte {byte}, F {before}"
         );
     }
+}
+
+// A word and its two bytes, and the pairs of a set, each set to a word of its own.
+#[test]
+fn pairs_hold_their_words(rt: HostRuntime) {
+    let word = Word::of(0x1234);
+    assert_eq!(rt; (word.high, word.low, word.value()), (0x12, 0x34, 0x1234));
+    let mut set = RegisterSet::default();
+    set.set_af(0x0102);
+    set.set_bc(0x0304);
+    set.set_de(0x0506);
+    set.set_hl(0x0708);
+    assert_eq!(rt; (set.a, set.f, set.b, set.c), (1, 2, 3, 4));
+    assert_eq!(rt; (set.d, set.e, set.h, set.l), (5, 6, 7, 8));
+    assert_eq!(rt; (set.af(), set.bc()), (0x0102, 0x0304));
+    assert_eq!(rt; (set.de(), set.hl()), (0x0506, 0x0708));
+    assert_eq!(rt; Flags::of(0xA5).byte(), 0xA5);
+    assert!(rt; Regs::default() == Regs::default());
 }

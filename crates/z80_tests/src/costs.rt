@@ -1,6 +1,5 @@
-// Expected values are UM0080's: each table was written from the manual's T-states, not from the code.
-use crate::costs::cost;
-use crate::io::is_io;
+// T-states and ports against UM0080: each table was written from the manual's T-states, not from the code.
+use t_states::{FRAME, IDLE_COST, MAX_BUDGET, NMI_COST, cost, cost_range, fixed_numbers, is_io};
 use z80_decode::decode;
 
 /// The T-states behind each first byte, with zeros after it, where no condition holds and nothing
@@ -250,4 +249,13 @@ fn tells_ports(rt: HostRuntime) {
         assert!(rt; !uses_port(&[0xCB, code, 0, 0]), "CB {code:02X}");
         assert!(rt; !uses_port(&[0xDD, code, 0, 0]), "DD {code:02X}");
     }
+}
+
+/// The manual's T-states of what no instruction costs, and the board's frame of 264 lines of 192.
+#[test]
+fn frame_has_its_numbers(rt: HostRuntime) {
+    assert_eq!(rt; (NMI_COST, IDLE_COST), (11, 4));
+    assert_eq!(rt; (FRAME, MAX_BUDGET), (50_688, 50_665));
+    fixed_numbers();
+    cost_range();
 }

@@ -1,0 +1,9 @@
+// The tests of the crates below the board: z80_alu, z80_decode and t_states.
+#![tactic(auto)]
+
+#[cfg(test)]
+mod alu;
+#[cfg(test)]
+mod costs;
+#[cfg(test)]
+mod decode;
