@@ -10,6 +10,7 @@ use Rattle.certificate.specs.declared.contents.Row.{Row}
 use Rattle.cert_checker.specs.Accepts.{Accepts, Applies, WholeApplies}
 use Rattle.cert_checker.specs.Covers.{is_covered, stands_at}
 use Rattle.cert_checker.specs.Profile.{has_row}
+use Rattle.cert_checker.specs.Profile.{map_named}
 use Rattle.cert_checker.specs.Row.{RowReason, IsConsistent, reason_given}
 use Rattle.cert_checker.specs.declared.reason.Reason.{Reason}
 use Rattle.cert_checker.specs.declared.reason.Reason.TheVariants as reasons

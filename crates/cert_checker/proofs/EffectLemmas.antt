@@ -1,3 +1,4 @@
+-- What a supported instruction leaves of the board.
 use Rattle.std.proofs.Common.{◌≡◌, ◌+◌, ◌%◌, ◌&&◌, ◌||◌, ℕ, Bool, true, false, not, length, None, refl, ap, ◌∙◌}
 use Rattle.address_map.specs.Class.{class_of}
 use Rattle.address_map.specs.declared.cell.RamKind.TheVariants.{Work, Video, Object}
@@ -82,16 +83,16 @@ pub record Ticks (old new : State) : Type 0 where
   pub latched : new.latched ≡ old.latched
   pub halted : new.halted ≡ old.halted
 
-never_sets : (before : Bool) (s : State) (t : ℕ) (env : Env) → before ≡ false → s.enable ≡ false → sets_line before s t env ≡ false
+never_sets : (before s : State) (t : ℕ) (env : Env) → before.enable ≡ false → s.enable ≡ false → sets_line before s t env ≡ false
 never_sets before s t env p q =
-    let met : enable_met before s.enable env.latch ≡ false = ap (λ (b : Bool). enable_met b s.enable env.latch) p ∙ ap (λ (b : Bool). enable_met false b env.latch) q in
+    let met : enable_met before.enable s.enable env.latch ≡ false = ap (λ (b : Bool). enable_met b s.enable env.latch) p ∙ ap (λ (b : Bool). enable_met false b env.latch) q in
     ap (λ (b : Bool). blanks s t && b) met ∙ and_false (blanks s t)
   where
     and_false : (b : Bool) → (b && false) ≡ false
     and_false true = refl
     and_false false = refl
 
-pub ticks : (before : Bool) (s : State) (t : ℕ) (env : Env) → before ≡ false → s.enable ≡ false → Ticks s (ticked before s t env)
+pub ticks : (before s : State) (t : ℕ) (env : Env) → before.enable ≡ false → s.enable ≡ false → Ticks s (ticked before s t env)
 unfolding ticked
 ticks before s t env p q =
     let none = never_sets before s t env p q in

@@ -1,3 +1,4 @@
+-- What an accepted row says of its instruction.
 use Rattle.std.proofs.Common.{◌≡◌, ◌+◌, ◌%◌, ◌&&◌, ℕ, Bool, true, false, not, List, length, Option, Some, None, Result, Ok, Err, Contains, refl, sym, ap, ◌∙◌}
 use Rattle.std.proofs.Math.Bool.{cond}
 use Rattle.std.proofs.lemmas.List.Folds.{Any-from_list_any}
@@ -16,6 +17,8 @@ use Rattle.z80_decode.specs.declared.operands.Place.TheVariants.{Register}
 use Rattle.z80_decode.specs.declared.operands.Register8.TheVariants.{A}
 use Rattle.z80_decode.specs.declared.operands.Register16.TheVariants.{Sp}
 use Rattle.cert_checker.specs.Covers.{is_covered, row_covers, stands_at}
+use Rattle.address_map.specs.AddressMap.{AddressMap}
+use Rattle.cert_checker.specs.Profile.{map_named}
 use Rattle.cert_checker.specs.Row.{IsConsistent, written_by, has_class, may_enable, target_of, mode_after, is_covered_after, is_supported, leads_on, is_unset, reason_of, reason_given}
 
 -- what holds of a row that nothing is against

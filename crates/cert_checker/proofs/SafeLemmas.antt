@@ -1,4 +1,5 @@
-use Rattle.std.proofs.Common.{◌≡◌, ◌≤◌, ◌+◌, ◌%◌, ℕ, zero, suc, Bool, true, false, List, length, None, Ok, sym, ap, subst, ◌∙◌, arith}
+-- What the checker accepts is safe.
+use Rattle.std.proofs.Common.{◌≡◌, ◌≤◌, ◌+◌, ◌%◌, ℕ, zero, suc, Bool, true, false, List, length, None, Result, Ok, sym, ap, subst, ◌∙◌, arith}
 use Rattle.std.proofs.Math.Bool.{cond}
 use Rattle.std.proofs.lemmas.Grind.{common_steps}
 use Rattle.std.proofs.lemmas.List.Elements.{All-contains}
@@ -10,21 +11,23 @@ use Rattle.board_step.specs.Reset.{IsReset}
 use Rattle.board_step.specs.Run.{Run}
 use Rattle.board_step.specs.Safe.{Safe}
 use Rattle.board_step.specs.State.{State}
-use Rattle.board_step.specs.Step.{Step, done, ticked, t_of, next_given}
+use Rattle.board_step.specs.Step.{Step, Executes, done, ticked, t_of}
 use Rattle.board_step.specs.Trap.{Traps}
 use Rattle.board_step.specs.declared.env.Env.{Env}
 use Rattle.board_step.specs.declared.event.Event.{Event}
 use Rattle.board_step.specs.declared.event.Kind.{Kind}
 use Rattle.board_step.specs.declared.event.Kind.TheVariants as kinds
 use Rattle.board_step.proofs.DecodedLemmas.{decoded_once}
-use Rattle.board_step.proofs.StepLemmas.{third, traps_executing}
+use Rattle.board_step.proofs.StepLemmas.{traps_executing}
 use Rattle.certificate.specs.Contents.{Contents}
 use Rattle.certificate.specs.declared.contents.Row.{Row}
 use Rattle.certificate.specs.declared.contents.Mode.TheVariants.{Unset}
 use Rattle.z80_decode.specs.Spelling.{spelling}
+use Rattle.z80_decode.specs.declared.instr.Instr.{Instr}
+use Rattle.z80_decode.specs.declared.fault.DecodeFault.{DecodeFault}
 use Rattle.cert_checker.specs.Accepts.{Accepts}
 use Rattle.cert_checker.specs.Covers.{stands_at}
-use Rattle.cert_checker.specs.Profile.{profile_of, has_row}
+use Rattle.cert_checker.specs.Profile.{certified_profile, has_row, hardware_for, nmi_time}
 use Rattle.cert_checker.specs.Row.{IsConsistent, target_of}
 use Rattle.cert_checker.proofs.EffectLemmas.{Leaves, Ticks, no_trap, leaves, ticks}
 use Rattle.cert_checker.proofs.RowLemmas.{Stands, RowAt, stands_if_consistent, never_enables, row_at, row_after}
@@ -63,7 +66,7 @@ reads rom cert s a h =
     record { row = h.row.row; at = at; stands = st; here = subst (λ (n : ℕ). StandsAt rom n (Ok st.instr)) at st.stands }
 
 instr_kind : (a b : Bool) → a ≡ false → b ≡ false → cond a kinds.Accept (cond b kinds.Idle kinds.Instr) ≡ kinds.Instr
-instr_kind a b p q = third a b kinds.Accept kinds.Idle kinds.Instr p q
+instr_kind a b p q = ap (λ (x : Bool). cond x kinds.Accept (cond b kinds.Idle kinds.Instr)) p ∙ ap (λ (y : Bool). cond y kinds.Idle kinds.Instr) q
 
 is_instr : (cert : Contents) (s : State) → Holds cert s → kind_of s ≡ kinds.Instr
 is_instr cert s h = instr_kind s.latched s.halted h.latched h.halted
@@ -74,23 +77,23 @@ starts_here cert s h =
     list_any-from_Any (stands_at s.regs.pc) cert.rows (k, h.row.row, within, is, h.row.at)
 
 -- the next event of such a state never traps
-pub never_traps_at : (rom : List ℕ) (cert : Contents) (s : State) (env : Env) → Accepts rom cert → Holds cert s → Traps (profile_of rom cert) s env None
+pub never_traps_at : (rom : List ℕ) (cert : Contents) (s : State) (env : Env) → Accepts rom cert → Holds cert s → Traps (certified_profile rom cert) s env None
 never_traps_at rom cert s env a h =
     let r = reads rom cert s a h in
-    traps_executing (profile_of rom cert) s env (Ok r.stands.instr) None (is_instr cert s h) (starts_here cert s h) r.here
-    (no_trap cert.region (context_of rom s env) r.stands.instr r.stands.known r.stands.writes_no_rom r.stands.writes_no_gap)
+    traps_executing (certified_profile rom cert) s env (Ok r.stands.instr) None (is_instr cert s h) (starts_here cert s h) r.here
+    (no_trap cert.region (context_of (hardware_for rom cert) s env) r.stands.instr r.stands.known r.stands.writes_no_rom r.stands.writes_no_gap)
 
 -- and leads to such a state again
 next_holds : (rom : List ℕ) (cert : Contents) (s : State) (env : Env) (t : ℕ) → Holds cert s → (r : Reads rom cert s) →
-    Holds cert (ticked s.enable (done (context_of rom s env) r.stands.instr) t env)
+    Holds cert (ticked s (done (context_of (hardware_for rom cert) s env) r.stands.instr) t env)
 next_holds rom cert s env t h r =
     let instr = r.stands.instr in
     let len = length (spelling instr) in
-    let c = context_of rom s env in
+    let c = context_of (hardware_for rom cert) s env in
     let l : Leaves instr len s (done c instr) = leaves c instr r.stands.known (never_enables rom cert r.row r.stands) in
-    let k : Ticks (done c instr) (ticked s.enable (done c instr) t env) = ticks s.enable (done c instr) t env h.enable (l.enable ∙ h.enable) in
+    let k : Ticks (done c instr) (ticked s (done c instr) t env) = ticks s (done c instr) t env h.enable (l.enable ∙ h.enable) in
     let after = row_after cert.rows _ _ r.stands.leads in
-    let pc : target_of instr ((r.row.address + len) % 65536) ≡ (ticked s.enable (done c instr) t env).regs.pc =
+    let pc : target_of instr ((r.row.address + len) % 65536) ≡ (ticked s (done c instr) t env).regs.pc =
     ap (λ (n : ℕ). target_of instr ((n + len) % 65536)) r.at ∙ sym l.pc ∙ ap (λ regs. regs.pc) (sym k.regs) in
     record {
       row = subst (RowAt cert.rows) pc after;
@@ -100,29 +103,33 @@ next_holds rom cert s env t h r =
       halted = k.halted ∙ l.halted;
     }
 
-pub step_holds : (rom : List ℕ) (cert : Contents) (s new : State) (env : Env) (event : Event) → Accepts rom cert → Holds cert s → Step rom s env event new →
+pub step_holds : (rom : List ℕ) (cert : Contents) (s new : State) (env : Env) (event : Event) → Accepts rom cert → Holds cert s → Step (hardware_for rom cert) s env event new →
     Holds cert new × (event.kind ≡ kinds.Instr)
 step_holds rom cert s new env event a h step =
     let r = reads rom cert s a h in
-    let same : step.decoded ≡ Ok r.stands.instr = decoded_once _ step.decoded (Ok r.stands.instr) (step.stands (is_instr cert s h)) r.here in
-    let c = context_of rom s env in
-    let whole : new ≡ ticked s.enable (done c r.stands.instr) (t_of c r.stands.instr) env =
-    step.new_is ∙ ap (next_given c) same ∙ third s.latched s.halted _ _ _ h.latched h.halted in (
+    let x = step.executes (is_instr cert s h) in
+    let same : x.instr ≡ r.stands.instr = same_instr x.instr r.stands.instr (decoded_once _ (Ok x.instr) (Ok r.stands.instr) x.stands r.here) in
+    let c = context_of (hardware_for rom cert) s env in
+    let whole : new ≡ ticked s (done c r.stands.instr) (t_of c r.stands.instr) env =
+    x.new_is ∙ ap (λ (i : Instr). ticked s (done c i) (t_of c i) env) same in (
       subst (Holds cert) (sym whole) (next_holds rom cert s env (t_of c r.stands.instr) h r),
-      ap (λ (e : Event). e.kind) step.event_is ∙ is_instr cert s h,
+      step.kind ∙ is_instr cert s h,
     )
+  where
+    same_instr : (i j : Instr) → (let r : Result Instr DecodeFault = Ok i in r) ≡ Ok j → i ≡ j
+    same_instr i j e = cc
 
-holds_along : (rom : List ℕ) (cert : Contents) → Accepts rom cert → (run : Run rom) (i : ℕ) → i ≤ run.count → Holds cert (run.state_at i)
-holds_along rom cert a run zero le = holds_at_reset rom cert (run.state_at 0) a run.starts
-holds_along rom cert a run (suc i) le =
-    (step_holds rom cert (run.state_at i) (run.state_at (suc i)) (run.env_at i) (run.event_at i) a (holds_along rom cert a run i (omega arith)) (run.steps i (omega arith))).0
+holds_along : (rom : List ℕ) (cert : Contents) → Accepts rom cert → (run : Run (hardware_for rom cert)) → IsReset (run.state_at 0) → (i : ℕ) → i ≤ run.count → Holds cert (run.state_at i)
+holds_along rom cert a run first zero le = holds_at_reset rom cert (run.state_at 0) a first
+holds_along rom cert a run first (suc i) le =
+    (step_holds rom cert (run.state_at i) (run.state_at (suc i)) (run.env_at i) (run.event_at i) a (holds_along rom cert a run first i (omega arith)) (run.steps i (omega arith))).0
 
 -- what the checker accepts is safe
-pub accepted_is_safe : (rom : List ℕ) (cert : Contents) → Accepts rom cert → Safe (profile_of rom cert) None
-accepted_is_safe rom cert a run = record {
-  never_traps = λ i le env _. never_traps_at rom cert (run.state_at i) env a (holds_along rom cert a run i le);
+pub accepted_is_safe : (rom : List ℕ) (cert : Contents) → Accepts rom cert → Safe (certified_profile rom cert) (nmi_time cert)
+accepted_is_safe rom cert a run first = record {
+  never_traps = λ i le env _. never_traps_at rom cert (run.state_at i) env a (holds_along rom cert a run first i le);
   never_accepts = λ i at.
-      let kind = (step_holds rom cert (run.state_at i) (run.state_at (suc i)) (run.env_at i) (run.event_at i) a (holds_along rom cert a run i (omega (arith, at.within))) (run.steps i at.within)).1 in
+      let kind = (step_holds rom cert (run.state_at i) (run.state_at (suc i)) (run.env_at i) (run.event_at i) a (holds_along rom cert a run first i (omega (arith, at.within))) (run.steps i at.within)).1 in
       different kind at.accepts;
 }
   where

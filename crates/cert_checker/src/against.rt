@@ -1,6 +1,6 @@
 // The reasons against one row.
 
-ghost use Rattle.std.specs.Prelude.{◌≡◌, ◌<◌, Bool, IfNone, length};
+ghost use Rattle.std.specs.Prelude.{◌≡◌, ◌<◌, ◌≤◌, Bool, IfNone, length};
 ghost use Rattle.board_step.specs.Trap.{is_rom, is_unmapped};
 ghost use Rattle.address_map.specs.declared.map.WriteClass.{WriteClass};
 ghost use Rattle.z80_decode.specs.Spelling.{spelling};
@@ -16,7 +16,8 @@ use z80_decode::{Address, Instr, Place, Register8, Register16};
 
 /// The lowest reason of the table of reasons against a row of the certificate, or None.
 pub fn reason_against(rom: &Rom, map: &Map, cert: &Certificate, row: Row) -> Option<Reason>
-    requires { map.now ≡ map_named cert.now }
+    requires map { map.now ≡ map_named cert.now }
+    requires fits { length rom.now ≤ 0x4000 }
     ensures reason { RowReason rom.now cert.now row result }
     ensures inside { IfNone result (row.address < 0x4000) }
 {

@@ -1,6 +1,6 @@
 // The checker's verdict.
 
-ghost use Rattle.std.specs.Prelude.{◌≡◌, ◌<◌, ◌-◌, ◌↔◌, ℕ, All, IsOk, IfOk, IfErr, OnOk, IsTrue, None, Some, take};
+ghost use Rattle.std.specs.Prelude.{◌≡◌, ◌<◌, ◌≤◌, ◌-◌, ◌↔◌, length, ℕ, All, IsOk, IfOk, IfErr, OnOk, IsTrue, None, Some, take};
 ghost use Rattle.address_map.specs.Starts.{is_start};
 ghost use Rattle.board_step.specs.Safe.{Safe};
 ghost use Rattle.cert_checker.specs.Accepts.{Accepts, Applies, FitsWorkRam, NothingBefore};
@@ -92,7 +92,8 @@ fn stack_size(region: Region) -> u16
 
 /// Looks for a reason against each row, in order, and gathers the rows' addresses.
 fn check_rows(rom: &Rom, map: &Map, certificate: &Certificate) -> Result<Starts, Refused>
-    requires { map.now ≡ map_named certificate.now }
+    requires map { map.now ≡ map_named certificate.now }
+    requires fits { length rom.now ≤ 0x4000 }
     ensures consistent { OnOk result (All (IsConsistent rom.now certificate.now) certificate.now.rows) }
     ensures starts { IfOk result (λ starts. (address : ℕ) → is_start starts address ≡ has_row certificate.now.rows address) }
     ensures refused { IfErr result (λ r. Applies rom.now certificate.now r.row r.address r.reason) }

@@ -17,5 +17,4 @@ whether (Some reason') n h = tt
 pub returns-in-Ok-clause-inside : goal.returns-in-Ok-clause-inside
 returns-in-Ok-clause-inside c =
     let low : c.args.row.address < length c.args.rom.now = inside c.args.rom.now c.args.row.address c.in-Ok.instr c.in-Ok.ensures.stands in
-    let fits : length c.args.rom.now ≤ 16384 = omega (arith, c.len.ensures.value, c.len.ensures.fits) in
     whether c.reason_for.result c.args.row.address (omega arith)

@@ -1,7 +1,7 @@
-use Rattle.std.proofs.Common.{ℕ, List, None, sym, subst}
+use Rattle.std.proofs.Common.{ℕ, List, sym, subst}
 use Rattle.board_step.specs.Safe.{Safe}
 use Rattle.cert_checker.specs.Accepts.{Accepts}
-use Rattle.cert_checker.specs.Profile.{profile_of}
+use Rattle.cert_checker.specs.Profile.{certified_profile, nmi_time}
 use Rattle.cert_checker.proofs.CheckLemmas.{refuses}
 use Rattle.cert_checker.proofs.checking.check.Goals as goal
 

@@ -1,6 +1,6 @@
-use Rattle.std.proofs.Common.{None, subst}
+use Rattle.std.proofs.Common.{subst}
 use Rattle.board_step.specs.Safe.{Safe}
-use Rattle.cert_checker.specs.Profile.{profile_of}
+use Rattle.cert_checker.specs.Profile.{certified_profile, nmi_time}
 use Rattle.cert_checker.specs.Certified.{Certified}
 use Rattle.cert_checker.proofs.accepted.Accepted.rom.Goals as goal
 

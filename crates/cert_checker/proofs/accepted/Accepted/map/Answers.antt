@@ -1,0 +1,17 @@
+use Rattle.std.proofs.Common.{◌≡◌, ℕ, List, length, sym, ap, subst, ◌∙◌}
+use Rattle.address_map.specs.AddressMap.{AddressMap}
+use Rattle.address_map.proofs.BoardLemmas.{galaxian_rom_len}
+use Rattle.certificate.specs.Contents.{Contents}
+use Rattle.cert_checker.specs.Accepts.{Accepts}
+use Rattle.cert_checker.specs.Certified.{Certified}
+use Rattle.cert_checker.specs.Profile.{map_named}
+use Rattle.cert_checker.proofs.accepted.Accepted.map.Goals as goal
+
+-- the ROM of an accepted certificate's map is the accepted ROM
+fits : (rom : List ℕ) (cert : Contents) (m : AddressMap) → Accepts rom cert → m ≡ map_named cert → m.rom_len ≡ length rom
+fits rom cert m a e = ap (λ (x : AddressMap). x.rom_len) e ∙ galaxian_rom_len cert.rom_len ∙ a.fits_rom.same
+
+pub returns-clause-length : goal.returns-clause-length
+returns-clause-length c =
+    subst (λ (v : Certified). c.self.inside.map.rom_len ≡ length v.rom) c.self.view_is
+    (fits c.self.inside.rom c.self.inside.certificate c.self.inside.map c.self.invariant.0 c.self.invariant.3)
