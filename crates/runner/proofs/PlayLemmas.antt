@@ -5,24 +5,26 @@ use Rattle.std.proofs.lemmas.Grind.{flat_map-append}
 use Rattle.std.proofs.lemmas.List.{append-nil, take_all, take-replicate, length-replicate}
 use Rattle.std.proofs.lemmas.List.Sums.{sum_by-append}
 use lib.Seq.{take-append-add}
+use Rattle.board_step.specs.Hardware.{Hardware}
 use Rattle.board_step.specs.Reset.{reset_state}
-use Rattle.board_step.specs.Run.{LeadsTo, time_of}
+use Rattle.runner.specs.Leads.{LeadsTo, TakesTime, time_of}
 use Rattle.board_step.specs.State.{State}
 use Rattle.board_step.specs.declared.env.Env.{Env}
 use Rattle.board_step.specs.declared.event.Event.{Event}
 use Rattle.certificate.specs.Device.{Gives}
 use Rattle.certificate.proofs.DeviceLemmas.{gives_both}
 use Rattle.runner.specs.Input.{IsResetLine, IsEnvLine, reset_text, env_text, env_of}
-use Rattle.runner.specs.Machine.{Summarizes, TakesTime}
+use Rattle.runner.specs.Machine.{Summarizes}
 use Rattle.runner.specs.Playing.{BeginsWithNo, IsBadLine, OfBytes, Played, TakesEnv, TakesReset, envs_of, reset_of, text_of}
 use Rattle.runner.specs.declared.input.EnvLine.{EnvLine}
 use Rattle.runner.specs.declared.input.ResetLine.{ResetLine}
 use Rattle.runner.specs.declared.machine.Summary.{Summary}
 use Rattle.runner.proofs.FeedLemmas.{none_in_line}
+use Rattle.runner.proofs.LeadsLemmas.{one_each, runs_to}
 use Rattle.runner.proofs.InputLemmas.{no_feed_env, env_some}
 
 -- a play under way: what was taken off the input, and the run over its lines so far
-pub record Sofar (rom : List ℕ) (steps : ℕ) (old now : Option (List ℕ)) (number left time : ℕ) (state : State) : Type 0 where
+pub record Sofar (hardware : Hardware) (steps : ℕ) (old now : Option (List ℕ)) (number left time : ℕ) (state : State) : Type 0 where
   pub reset : ResetLine
   pub reset_form : IsResetLine reset
   pub lines : List EnvLine
@@ -30,14 +32,14 @@ pub record Sofar (rom : List ℕ) (steps : ℕ) (old now : Option (List ℕ)) (n
   pub given : Gives old (reset_text reset ++ 10 ∷ text_of lines) now
   pub number_is : number ≡ length lines + 1
   pub events : List Event
-  pub leads : LeadsTo rom (reset_state (reset_of reset)) (take steps (envs_of lines)) events state
+  pub leads : LeadsTo hardware (reset_state (reset_of reset)) (take steps (envs_of lines)) events state
   pub count : left + length events ≡ steps
   pub covered : left ≡ steps - length (envs_of lines)
   pub timed : time ≡ time_of events
 
 -- only the first line was read
-pub sofar_start : (rom : List ℕ) (steps : ℕ) (old now : Option (List ℕ)) (reset : ResetLine) → TakesReset old reset now → Sofar rom steps old now 1 steps 0 (reset_state (reset_of reset))
-sofar_start rom steps old now reset takes =
+pub sofar_start : (hardware : Hardware) (steps : ℕ) (old now : Option (List ℕ)) (reset : ResetLine) → TakesReset old reset now → Sofar hardware steps old now 1 steps 0 (reset_state (reset_of reset))
+sofar_start hardware steps old now reset takes =
     let start = reset_state (reset_of reset) in
     record {
       reset = reset;
@@ -47,24 +49,18 @@ sofar_start rom steps old now reset takes =
       given = takes.1;
       number_is = refl;
       events = [];
-      leads = subst (λ (envs : List Env). LeadsTo rom start envs [] start) (sym (take_all steps [] (omega arith))) refl;
+      leads = subst (λ (envs : List Env). LeadsTo hardware start envs [] start) (sym (take_all steps [] (omega arith))) refl;
       count = omega arith;
       covered = omega arith;
       timed = refl;
     }
 
 -- one run behind another
-leads_both : (rom : List ℕ) (a b c : State) (es fs : List Env) (vs ws : List Event) → LeadsTo rom a es vs b → LeadsTo rom b fs ws c → LeadsTo rom a (es ++ fs) (vs ++ ws) c
-leads_both rom a b c [] fs [] ws first second = subst (λ (s : State). LeadsTo rom s fs ws c) (sym first) second
-leads_both rom a b c [] fs (v ∷ vs) ws first second = absurd first
-leads_both rom a b c (e ∷ es) fs [] ws first second = absurd first
-leads_both rom a b c (e ∷ es) fs (v ∷ vs) ws (mid, step, rest) second = (mid, step, leads_both rom mid b c es fs vs ws rest second)
-
-one_each : (rom : List ℕ) (a b : State) (es : List Env) (vs : List Event) → LeadsTo rom a es vs b → length vs ≡ length es
-one_each rom a b [] [] leads = refl
-one_each rom a b [] (v ∷ vs) leads = absurd leads
-one_each rom a b (e ∷ es) [] leads = absurd leads
-one_each rom a b (e ∷ es) (v ∷ vs) (mid, step, rest) = omega (arith, one_each rom mid b es vs rest)
+leads_both : (hardware : Hardware) (a b c : State) (es fs : List Env) (vs ws : List Event) → LeadsTo hardware a es vs b → LeadsTo hardware b fs ws c → LeadsTo hardware a (es ++ fs) (vs ++ ws) c
+leads_both hardware a b c [] fs [] ws first second = subst (λ (s : State). LeadsTo hardware s fs ws c) (sym first) second
+leads_both hardware a b c [] fs (v ∷ vs) ws first second = absurd first
+leads_both hardware a b c (e ∷ es) fs [] ws first second = absurd first
+leads_both hardware a b c (e ∷ es) fs (v ∷ vs) ws (is, mid, step, rest) second = (is, mid, step, leads_both hardware mid b c es fs vs ws rest second)
 
 all_form : (lines : List EnvLine) (line : EnvLine) → AllByRecursion IsEnvLine lines → IsEnvLine line → AllByRecursion IsEnvLine (lines ++ line ∷ [])
 all_form [] line all form = (form, tt)
@@ -97,15 +93,15 @@ take_push steps left n envs env some is =
     ∙ ap (λ (es : List Env). es ++ replicate (min n left) env) (sym (take_all steps envs (omega (arith, whole))))
 
 -- a line more was read and its events done
-pub sofar_more : (rom : List ℕ) (steps : ℕ) (old mid now : Option (List ℕ)) (number left time : ℕ) (state new : State) (line : EnvLine) (count t : ℕ) →
-    Sofar rom steps old mid number left time state → 0 < left → TakesEnv mid (Some line) now → count ≡ min line.count left → TakesTime rom state (replicate count (env_of line)) t new →
-    Sofar rom steps old now (number + 1) (left - count) (time + t) new
-sofar_more rom steps old mid now number left time state new line count t far some takes is ran =
+pub sofar_more : (hardware : Hardware) (steps : ℕ) (old mid now : Option (List ℕ)) (number left time : ℕ) (state new : State) (line : EnvLine) (count t : ℕ) →
+    Sofar hardware steps old mid number left time state → 0 < left → TakesEnv mid (Some line) now → count ≡ min line.count left → TakesTime hardware state (replicate count (env_of line)) t new →
+    Sofar hardware steps old now (number + 1) (left - count) (time + t) new
+sofar_more hardware steps old mid now number left time state new line count t far some takes is ran =
     let copies = replicate count (env_of line) in
     let envs : take steps (envs_of (far.lines ++ line ∷ [])) ≡ take steps (envs_of far.lines) ++ copies =
     ap (take steps) (envs_push far.lines line) ∙ take_push steps left line.count (envs_of far.lines) (env_of line) some far.covered
     ∙ ap (λ (k : ℕ). take steps (envs_of far.lines) ++ replicate k (env_of line)) (sym is) in
-    let both = leads_both rom (reset_state (reset_of far.reset)) state new (take steps (envs_of far.lines)) copies far.events ran.events far.leads ran.leads in
+    let both = leads_both hardware (reset_state (reset_of far.reset)) state new (take steps (envs_of far.lines)) copies far.events ran.events far.leads ran.leads in
     let text : (reset_text far.reset ++ 10 ∷ text_of far.lines) ++ (env_text line ++ 10 ∷ []) ≡ reset_text far.reset ++ 10 ∷ text_of (far.lines ++ line ∷ []) =
     append_assoc (reset_text far.reset) (10 ∷ text_of far.lines) (env_text line ++ 10 ∷ []) ∙ ap (λ (rest : List ℕ). reset_text far.reset ++ 10 ∷ rest) (sym (text_push far.lines line)) in
     record {
@@ -116,16 +112,16 @@ sofar_more rom steps old mid now number left time state new line count t far som
       given = subst (λ (bytes : List ℕ). Gives old bytes now) text (gives_both old mid now _ _ far.given takes.1);
       number_is = omega (arith, far.number_is, length-append far.lines (line ∷ []));
       events = far.events ++ ran.events;
-      leads = subst (λ (es : List Env). LeadsTo rom (reset_state (reset_of far.reset)) es (far.events ++ ran.events) new) (sym envs) both;
-      count = omega (arith, far.count, is, length-append far.events ran.events, one_each rom state new copies ran.events ran.leads, length-replicate count (env_of line));
+      leads = subst (λ (es : List Env). LeadsTo hardware (reset_state (reset_of far.reset)) es (far.events ++ ran.events) new) (sym envs) both;
+      count = omega (arith, far.count, is, length-append far.events ran.events, one_each hardware state new copies ran.events ran.leads, length-replicate count (env_of line));
       covered = omega (arith, far.covered, is, some, ap length (envs_push far.lines line), length-append (envs_of far.lines) (replicate line.count (env_of line)), length-replicate line.count (env_of line));
       timed = omega (arith, far.timed, ran.time_is, sum_by-append (λ (e : Event). e.t) far.events ran.events);
     }
 
 -- the play ends at the end of the input or where no event is left
-pub sofar_ends : (rom : List ℕ) (steps : ℕ) (old now : Option (List ℕ)) (number left time : ℕ) (state : State) (summary : Summary) (n : ℕ) → Sofar rom steps old now number left time state →
-    IfSome now (λ bytes. bytes ≡ []) ⊎ (left ≡ 0) → n ≡ steps - left → ((all : List Event) → n ≡ length all → time ≡ time_of all → Summarizes all state summary) → OfBytes old (Played rom steps summary)
-sofar_ends rom steps None now number left time state summary n far ends is sums = (
+pub sofar_ends : (hardware : Hardware) (steps : ℕ) (old now : Option (List ℕ)) (number left time : ℕ) (state : State) (summary : Summary) (n : ℕ) → Sofar hardware steps old now number left time state →
+    IfSome now (λ bytes. bytes ≡ []) ⊎ (left ≡ 0) → n ≡ steps - left → Summarizes n time state summary → OfBytes old (Played hardware steps summary)
+sofar_ends hardware steps None now number left time state summary n far ends is sums = (
   _,
   record {
     reset = far.reset;
@@ -134,10 +130,10 @@ sofar_ends rom steps None now number left time state summary n far ends is sums 
     begins = record { reset_form = far.reset_form; lines_form = far.lines_form; parts = refl };
     enough = inl refl;
     last = state;
-    runs = record { events = far.events; leads = far.leads; summary_is = sums far.events (omega (arith, is, far.count)) far.timed };
+    runs = runs_to hardware _ _ far.events state summary far.leads (subst (λ (k : ℕ). Summarizes k time state summary) (omega (arith, is, far.count)) (subst (λ (t : ℕ). Summarizes n t state summary) far.timed sums));
   },
 )
-sofar_ends rom steps (Some bytes) now number left time state summary n far ends is sums =
+sofar_ends hardware steps (Some bytes) now number left time state summary n far ends is sums =
     let (rest, rest_is, parts) = far.given in
     record {
       reset = far.reset;
@@ -149,7 +145,7 @@ sofar_ends rom steps (Some bytes) now number left time state summary n far ends 
         | inr none ↦ inr (omega (arith, none, far.covered))
       ];
       last = state;
-      runs = record { events = far.events; leads = far.leads; summary_is = sums far.events (omega (arith, is, far.count)) far.timed };
+      runs = runs_to hardware _ _ far.events state summary far.leads (subst (λ (k : ℕ). Summarizes k time state summary) (omega (arith, is, far.count)) (subst (λ (t : ℕ). Summarizes n t state summary) far.timed sums));
     }
 
 -- a line feed alone is no line of environments
@@ -158,9 +154,9 @@ no_env_at_feed = none_in_line env_text IsEnvLine no_feed_env (10 ∷ []) [] [] r
     (λ line form e. absurd (omega (arith, env_some line form, ap length e)))
 
 -- the next line is needed and out of form
-pub sofar_bad : (rom : List ℕ) (steps : ℕ) (old now : Option (List ℕ)) (number left time : ℕ) (state : State) (n : ℕ) → Sofar rom steps old now number left time state →
+pub sofar_bad : (hardware : Hardware) (steps : ℕ) (old now : Option (List ℕ)) (number left time : ℕ) (state : State) (n : ℕ) → Sofar hardware steps old now number left time state →
     0 < left → n ≡ number + 1 → IfSome now (λ bytes. bytes ≢ []) → IfSome now (BeginsWithNo env_text IsEnvLine) → OfBytes old (IsBadLine steps n)
-sofar_bad rom steps None now number left time state n far some is left_some bad = (
+sofar_bad hardware steps None now number left time state n far some is left_some bad = (
   _,
   inr record {
     reset = far.reset;
@@ -173,7 +169,7 @@ sofar_bad rom steps None now number left time state n far some is left_some bad 
     number_is = omega (arith, is, far.number_is);
   },
 )
-sofar_bad rom steps (Some bytes) now number left time state n far some is left_some bad =
+sofar_bad hardware steps (Some bytes) now number left time state n far some is left_some bad =
     let (rest, rest_is, parts) = far.given in
     inr record {
       reset = far.reset;

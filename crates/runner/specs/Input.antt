@@ -1,3 +1,4 @@
+-- The lines of an input.
 use Rattle.std.specs.Prelude.{ℕ, ◌<◌, ◌≤◌, List, [], ◌∷◌, codes}
 use Rattle.std.specs.Fmt.{decimal}
 use Rattle.std.specs.List.{join_with_byte}
@@ -5,7 +6,7 @@ use Rattle.board_step.specs.declared.env.Env.{Env}
 use Rattle.certificate.specs.Fields.{IsByte, flag_digit, hex2}
 use Rattle.runner.specs.declared.input.EnvLine.{EnvLine}
 use Rattle.runner.specs.declared.input.ResetLine.{ResetLine}
-use Rattle.t_states.specs.declared.frame.TheConstants.{FRAME}
+use Rattle.t_states.specs.Frame.{frame}
 
 -- the fields of an input's first line (docs/PROGRAM.md, "INPUT"), and the line without its LF
 abbrev pub reset_fields : ResetLine → List (List ℕ)
@@ -15,7 +16,7 @@ abbrev pub reset_text : ResetLine → List ℕ
 reset_text line = join_with_byte 32 (reset_fields line)
 
 pub record IsResetLine (line : ResetLine) : Type 0 where
-  pub phase : line.phase < FRAME
+  pub phase : line.phase < frame
   pub fill : IsByte line.fill
 
 -- the fields of any other line, and the line without its LF

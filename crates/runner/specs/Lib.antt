@@ -1,4 +1,6 @@
+-- The definitions of runs of accepted ROMs, and of the texts that tell of them.
 pub mod Input
+pub mod Leads
 pub mod Machine
 pub mod Output
 pub mod Pending

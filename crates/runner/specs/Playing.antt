@@ -1,5 +1,7 @@
+-- What an input says, and what is played of it (docs/PROGRAM.md, "INPUT").
 use Rattle.std.specs.Prelude.{ℕ, ◌+◌, ◌<◌, ◌≤◌, ◌≡◌, ◌≢◌, ◌⊎◌, false, List, [], ◌∷◌, ◌++◌, replicate, flat_map, length, take, Option, Some, None, IfSome}
 use Rattle.std.specs.List.{AllByRecursion}
+use Rattle.board_step.specs.Hardware.{Hardware}
 use Rattle.board_step.specs.Reset.{reset_state}
 use Rattle.board_step.specs.State.{State}
 use Rattle.board_step.specs.declared.board.Reset.{Reset}
@@ -60,14 +62,14 @@ pub record BeginsWith (reset : ResetLine) (lines : List EnvLine) (rest bytes : L
 
 -- a summary is that of the run over an input's environments, up to so many events: all of the input is in form, or
 -- its beginning that stands for these events
-pub record Played (rom : List ℕ) (steps : ℕ) (summary : Summary) (bytes : List ℕ) : Type 0 where
+pub record Played (hardware : Hardware) (steps : ℕ) (summary : Summary) (bytes : List ℕ) : Type 0 where
   pub reset : ResetLine
   pub lines : List EnvLine
   pub rest : List ℕ
   pub begins : BeginsWith reset lines rest bytes
   pub enough : (rest ≡ []) ⊎ (steps ≤ length (envs_of lines))
   pub last : State
-  pub runs : RunsTo rom (reset_state (reset_of reset)) (take steps (envs_of lines)) summary last
+  pub runs : RunsTo hardware (reset_state (reset_of reset)) (take steps (envs_of lines)) summary last
 
 -- no line of this kind, in form and with its line feed, begins the bytes
 abbrev pub BeginsWithNo : {X : Type 0} → (X → List ℕ) → (X → Type 0) → List ℕ → Type 0
@@ -99,9 +101,9 @@ OfBytes (Some bytes) Holds = Holds bytes
 OfBytes None Holds = (bytes : List ℕ) × Holds bytes
 
 -- what was written is a beginning of the text of this input's run
-pub record BeginsText (input : Option (List ℕ)) (rom : List ℕ) (steps : ℕ) (old new : Option (List ℕ)) : Type 0 where
+pub record BeginsText (input : Option (List ℕ)) (hardware : Hardware) (steps : ℕ) (old new : Option (List ℕ)) : Type 0 where
   pub summary : Summary
-  pub played : OfBytes input (Played rom steps summary)
+  pub played : OfBytes input (Played hardware steps summary)
   pub begins : TakesPart old (summary_text summary) new
 
 -- this line was taken off, with its line feed

@@ -1,3 +1,5 @@
+// Why a play ended early.
+
 use thiserror::Error;
 
 /// Why a play ended before its summary.

@@ -1,3 +1,5 @@
+// The lines of an input.
+
 ghost use Rattle.std.specs.Prelude.{◌≡◌};
 ghost use Rattle.certificate.specs.Fields.{Reads};
 ghost use Rattle.runner.specs.Input.{IsResetLine, IsEnvLine, reset_fields, reset_text, env_fields, env_text, env_of};

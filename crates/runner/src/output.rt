@@ -1,3 +1,5 @@
+// The lines of a summary, written to a device.
+
 ghost use Rattle.std.specs.Prelude.{◌≡◌, ◌<◌, ◌∷◌, OnOk, OnErr, decimal};
 ghost use Rattle.certificate.specs.Device.{HasGrown, Takes, TakesPart};
 ghost use Rattle.certificate.specs.Fields.{hex_digit, hex4};

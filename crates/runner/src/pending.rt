@@ -1,3 +1,5 @@
+// The lines of an input, cut from a device.
+
 ghost use Rattle.std.specs.Prelude.{◌≡◌, ◌<◌, ◌≤◌, [], ◌∷◌, false, IfErr, IfOk, IsTrue, MatchOption, OnOk};
 ghost use Rattle.certificate.specs.Device.{HasGrown, Gives};
 ghost use Rattle.runner.specs.Pending.{GivesLine, TakesByte, left_of};

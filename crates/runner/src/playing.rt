@@ -1,4 +1,7 @@
+// Plays of an input's text.
+
 ghost use Rattle.std.specs.Prelude.{◌≡◌, ◌≢◌, [], ℕ, IfErr, IfOk, IfSome, OnOk};
+ghost use Rattle.cert_checker.specs.Certified.{hardware_on};
 ghost use Rattle.certificate.specs.Device.{HasGrown, Takes};
 ghost use Rattle.runner.specs.Input.{IsResetLine, IsEnvLine, reset_text, env_text};
 ghost use Rattle.runner.specs.Output.{summary_text};
@@ -28,7 +31,7 @@ pub fn play<R: Source, W: Sink>(
     out: &mut W,
 ) -> Result<Summary, PlayFault>
     // The summary is that of the input's run, and it was written whole.
-    ensures played { IfOk result (λ summary. OfBytes (R.rest input.old) (Played accepted.now.rom steps summary)) }
+    ensures played { IfOk result (λ summary. OfBytes (R.rest input.old) (Played (hardware_on accepted.now) steps summary)) }
     ensures written { IfOk result (λ summary. Takes (W.taken out.old) (summary_text summary) (W.taken out.new)) }
     // Which line is bad, and that nothing was written for it.
     ensures bad { (line : ℕ) → result ≡ Err (PlayFault.Line line) → OfBytes (R.rest input.old) (IsBadLine steps line) }
@@ -40,7 +43,7 @@ pub fn play<R: Source, W: Sink>(
     ensures line { (line : ℕ) → result ≡ Err (PlayFault.Line line) → W.failure_count out.new ≡ W.failure_count out.old }
     ensures kept { OnOk result (W.failure_count out.new ≡ W.failure_count out.old) }
     // What was written before the output failed is a beginning of the text.
-    ensures part { result ≡ Err PlayFault.Write → BeginsText (R.rest input.old) accepted.now.rom steps (W.taken out.old) (W.taken out.new) }
+    ensures part { result ≡ Err PlayFault.Write → BeginsText (R.rest input.old) (hardware_on accepted.now) steps (W.taken out.old) (W.taken out.new) }
 {
     let summary = play_input(accepted, steps, input)?;
     match put_summary(out, &summary) {
@@ -55,7 +58,7 @@ fn play_input<R: Source>(
     steps: u32,
     input: &mut R,
 ) -> Result<Summary, PlayFault>
-    ensures played { IfOk result (λ summary. OfBytes (R.rest input.old) (Played accepted.now.rom steps summary)) }
+    ensures played { IfOk result (λ summary. OfBytes (R.rest input.old) (Played (hardware_on accepted.now) steps summary)) }
     ensures line { (line : ℕ) → result ≡ Err (PlayFault.Line line) → OfBytes (R.rest input.old) (IsBadLine steps line) }
     ensures kept { OnOk result (R.failure_count input.new ≡ R.failure_count input.old) }
     ensures read { result ≡ Err PlayFault.Read → HasGrown (R.failure_count input.old) (R.failure_count input.new) }

@@ -2,9 +2,9 @@ use Rattle.std.proofs.Common.{◌≡◌, ◌<◌, ◌∙◌, min, inl, inr, sym,
 use Rattle.board_step.specs.Reset.{reset_state}
 use Rattle.board_step.specs.State.{State}
 use Rattle.board_step.specs.declared.env.Env.{Env}
-use Rattle.cert_checker.specs.Verdict.{Verdict}
+use Rattle.cert_checker.specs.Certified.{Certified, hardware_on}
 use Rattle.runner.specs.Input.{env_of}
-use Rattle.runner.specs.Machine.{TakesTime}
+use Rattle.runner.specs.Leads.{TakesTime}
 use Rattle.runner.specs.Pending.{left_of}
 use Rattle.runner.specs.Playing.{TakesEnv, TakesReset, reset_of}
 use Rattle.runner.specs.declared.fault.PlayFault.TheVariants.{Line}
@@ -14,15 +14,15 @@ use Rattle.runner.proofs.playing.play_input.Goals as goal
 
 pub loop-left-init : goal.loop-left-init
 loop-left-init g c =
-    let rom = c.args.accepted.now.rom in
+    let hardware = hardware_on c.args.accepted.now in
     let old = g.R.Source.rest c.args.input.now in
     let now = left_of c.first_line.new.pending (g.R.Source.rest c.first_line.new.input) in
     let takes : TakesReset old c.in_ok-reset.reset now = subst (λ (o : Option (List ℕ)). TakesReset o c.in_ok-reset.reset now) (fresh c.new-pending.result old c.new-pending.ensures.bytes c.new-pending.ensures.ended) c.in_ok-reset.ensures.line in
-    let start = sofar_start rom c.args.steps old now c.in_ok-reset.reset takes in
+    let start = sofar_start hardware c.args.steps old now c.in_ok-reset.reset takes in
     let state : c.reset-machine.result.state ≡ reset_state (reset_of c.in_ok-reset.reset) = c.reset-machine.ensures.state ∙ ap reset_state c.filled.ensures in
     record {
-      far = subst (λ (s : State). Sofar rom c.args.steps old now 1 c.args.steps 0 s) (sym state) start;
-      verdict = c.reset-machine.ensures.accepted;
+      far = subst (λ (s : State). Sofar hardware c.args.steps old now 1 c.args.steps 0 s) (sym state) start;
+      certified = c.reset-machine.ensures.accepted;
       kept = c.in_ok-reset.ensures.kept;
       numbered = omega arith;
       bounded = omega arith;
@@ -56,12 +56,12 @@ loop-left-preserved g c =
     let takes : TakesEnv mid (Some line) now = rw c.in-Some.is at c.in_ok-line.ensures.line in
     let least : count ≡ min line.count c.loop-left.left = c.min-count.ensures in
     let some : 0 < c.loop-left.left = c.loop-left-test.true in
-    let same_rom : TakesTime c.args.accepted.now.rom state (replicate count c.env.result) c.repeat-time.result new = subst (λ (v : Verdict). TakesTime v.rom state (replicate count c.env.result) c.repeat-time.result new) inv.verdict c.repeat-time.ensures.leads in
-    let ran : TakesTime c.args.accepted.now.rom state (replicate count (env_of line)) c.repeat-time.result new = subst (λ (env : Env). TakesTime c.args.accepted.now.rom state (replicate count env) c.repeat-time.result new) c.env.ensures same_rom in
+    let same_rom : TakesTime (hardware_on c.args.accepted.now) state (replicate count c.env.result) c.repeat-time.result new = subst (λ (v : Certified). TakesTime (hardware_on v) state (replicate count c.env.result) c.repeat-time.result new) inv.certified c.repeat-time.ensures.leads in
+    let ran : TakesTime (hardware_on c.args.accepted.now) state (replicate count (env_of line)) c.repeat-time.result new = subst (λ (env : Env). TakesTime (hardware_on c.args.accepted.now) state (replicate count env) c.repeat-time.result new) c.env.ensures same_rom in
     let at_least : 0 < count = omega (arith, least, some, takes.0.least) in
     record {
       far = sofar_more _ _ _ mid now _ _ _ state new line count _ inv.far some takes least ran;
-      verdict = c.repeat-time.ensures.verdict ∙ inv.verdict;
+      certified = c.repeat-time.ensures.certified ∙ inv.certified;
       kept = c.in_ok-line.ensures.kept ∙ inv.kept;
       numbered = omega (arith, inv.numbered, at_least, least);
       bounded = omega (arith, inv.bounded, c.repeat-time.ensures.bounded, least);

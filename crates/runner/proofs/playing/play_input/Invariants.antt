@@ -1,4 +1,5 @@
 use Rattle.std.proofs.Common.{◌≡◌, ◌≤◌, ◌+◌, ◌*◌}
+use Rattle.cert_checker.specs.Certified.{hardware_on}
 use Rattle.runner.specs.Pending.{left_of}
 use Rattle.runner.proofs.PlayLemmas.{Sofar}
 use Rattle.runner.proofs.playing.play_input.Given as goal
@@ -6,8 +7,8 @@ use Rattle.runner.proofs.playing.play_input.Given as goal
 -- the lines so far were played, each for an event at least, and no read has failed yet
 abbrev pub invariant-loop-left : goal.invariant-loop-left
 invariant-loop-left g l = record {
-  far : Sofar l.fn.accepted.rom l.fn.steps (g.R.Source.rest l.fn.input) (left_of l.pending (g.R.Source.rest l.input)) l.number l.left l.time l.machine.state;
-  verdict : l.machine.verdict ≡ l.fn.accepted;
+  far : Sofar (hardware_on l.fn.accepted) l.fn.steps (g.R.Source.rest l.fn.input) (left_of l.pending (g.R.Source.rest l.input)) l.number l.left l.time l.machine.state;
+  certified : l.machine.certified ≡ l.fn.accepted;
   kept : g.R.Source.failure_count l.input ≡ g.R.Source.failure_count l.fn.input;
   numbered : l.number + l.left ≤ l.fn.steps + 1;
   bounded : l.time + 255 * l.left ≤ 255 * l.fn.steps;
