@@ -1,11 +1,13 @@
+// Sums and differences of ranges by the window rule.
 ghost use Rattle.std.specs.Prelude.{◌≡◌, ℕ, ◌+◌, ◌-◌, ◌%◌, ◌≤◌};
 ghost use Rattle.intervals.specs.Range.{single, TakesInto, TakesBothInto};
 ghost use Rattle.intervals.specs.Sums.{window, sum, sum_with_carry, difference, difference_with_carry, increment, decrement, negation, displacement_of, displacement};
 
-use crate::range::{Bounds, ByteRange, WordRange};
+use crate::range::{ByteRange, WordRange};
 
 /// The residues modulo 256 of the results from low to high, if they lie in one window.
 fn bytes_in_window(low: u16, high: u16) -> ByteRange
+    requires { low ≤ high }
     ensures { result ≡ window 256 low high }
 {
     if low / 256 == high / 256 {
@@ -20,6 +22,7 @@ fn bytes_in_window(low: u16, high: u16) -> ByteRange
 
 /// The residues modulo 65,536 of the results from low to high, if they lie in one window.
 fn words_in_window(low: u32, high: u32) -> WordRange
+    requires { low ≤ high }
     ensures { result ≡ window 65536 low high }
 {
     if low / 65_536 == high / 65_536 {
@@ -34,11 +37,11 @@ fn words_in_window(low: u32, high: u32) -> WordRange
 
 /// Sums and differences of bytes by the window rule (UM0080, "8-Bit Arithmetic Group"). A difference is raised by 256
 /// on the way, which changes no residue.
-impl Bounds<u8> {
+impl ByteRange {
     fn ends(self) -> (u16, u16)
         ensures low { result.0 ≡ self.low }
         ensures high { result.1 ≡ self.high }
-        ensures within { (self.low ≤ 255) × (self.high ≤ 255) }
+        ensures within { (self.low ≤ self.high) × (self.high ≤ 255) }
     {
         (u16::from(self.low), u16::from(self.high))
     }
@@ -119,11 +122,11 @@ impl Bounds<u8> {
 
 /// Sums and differences of words by the window rule (UM0080, "16-Bit Arithmetic Group"). A difference is raised by
 /// 65,536 on the way, which changes no residue.
-impl Bounds<u16> {
+impl WordRange {
     fn ends(self) -> (u32, u32)
         ensures low { result.0 ≡ self.low }
         ensures high { result.1 ≡ self.high }
-        ensures within { (self.low ≤ 65535) × (self.high ≤ 65535) }
+        ensures within { (self.low ≤ self.high) × (self.high ≤ 65535) }
     {
         (u32::from(self.low), u32::from(self.high))
     }
