@@ -49,10 +49,3 @@ module _ (below whole : List Slot) (slot : Slot) (entry : Entry) (words : List �
   pub holds_popped : whole ≡ below ++ slot ∷ [] → HoldsShape whole entry (words ++ word ∷ []) → HoldsSlot slot entry word × HoldsShape below entry words
   holds_popped e h =
       let k = AllZip-last (λ s w. HoldsSlot s entry w) below words slot word (rw e at h) in (k.1, k.0)
-
--- `==` of two slots, and of two shapes, tells whether they are the same
-slot_equal : (a b : Slot) → Decides (eq-value.it a b) (a ≡ b)
-slot_equal a b = grind (arith, common_steps)
-
-pub shape_equal : (a b : List Slot) (r : Bool) → r ≡ pointwise eq-value.it a b → Decides r (a ≡ b)
-shape_equal = slice_eq-Decides slot_equal

@@ -1,4 +1,5 @@
-ghost use Rattle.std.specs.Prelude.{◌≡◌, ◌+◌, ◌*◌, ◌<◌, ◌≤◌, ◌↔◌, ◌⊎◌, ⊤, ℕ, List, [], ◌∷◌, ◌++◌, length, IsTrue, IsOk, IsNone, IfOk, IfErr, IfSome, OnOk, OnErr, SomeIff};
+// Shapes: the slots of an activation, first pushed first.
+ghost use Rattle.std.specs.Prelude.{IsSome, IfNone, slice_index_or, slice_set, ◌≡◌, ◌+◌, ◌*◌, ◌<◌, ◌≤◌, ◌↔◌, ◌⊎◌, ⊤, ℕ, List, [], ◌∷◌, ◌++◌, length, IsTrue, IsOk, IsNone, IfOk, IfErr, IfSome, OnOk, OnErr, SomeIff};
 ghost use Rattle.intervals.specs.Domain.{Entry};
 ghost use Rattle.stack_shape.specs.declared.shape.TheConstants.{SLOTS};
 
@@ -12,9 +13,11 @@ use std::marker::Model;
 /// How many slots a shape has at most.
 pub const SLOTS: usize = 64;
 
+const _: () = prove!(SLOTS == 64);
+
 /// What is known of the words that one activation has on the stack: at most 64 slots, first pushed first
 /// (docs/SHAPES.md).
-#[derive(Debug, Drop, PartialEq, Eq)]
+#[derive(Drop, PartialEq, Eq)]
 pub struct Shape {
     slots: ArrayVec<Slot, SLOTS>,
 }
@@ -47,7 +50,7 @@ impl Clone for Shape {
 impl Shape {
     ghost use Rattle.stack_shape.specs.declared.slot.Slot.{Slot};
     ghost use Rattle.stack_shape.specs.Slot.{HoldsSlot};
-    ghost use Rattle.stack_shape.specs.Shape.{HoldsShape, CoversShape, hull_of_shapes};
+    ghost use Rattle.stack_shape.specs.Shape.{HoldsShape, CoversShape, MeetsShape, hull_of_shapes};
 
     /// The shape without words, which an activation begins with.
     pub fn empty() -> Shape
@@ -147,6 +150,31 @@ impl Shape {
         let top = self.slots.pop().ok_or(ShapeFault::Empty)?;
         self.slots.push(slot);
         Ok(top)
+    }
+
+    /// Puts a slot in the place of another, where place 0 has the slot that was pushed first, and gives the one that was
+    /// there. From the length on there is none: it is None, and the shape stays as it was.
+    pub fn replace(&mut self, place: usize, slot: Slot) -> Option<Slot>
+        ensures some { IsSome result ↔ (place < length self.old) }
+        ensures given { IfSome result (λ before. before ≡ slice_index_or self.old place slot) }
+        ensures replaced { self.new ≡ slice_set self.old place slot }
+        ensures unchanged { IfNone result (self.new ≡ self.old) }
+        ensures holds { (entry : Entry) (words : List ℕ) (word : ℕ)
+            → HoldsShape self.old entry words → HoldsSlot slot entry word
+            → HoldsShape self.new entry (slice_set words place word) }
+    {
+        let there = self.slots.get_mut(place)?;
+        let before = *there;
+        *there = slot;
+        Some(before)
+    }
+
+    /// Whether the shapes have one length and, place by place, the ranges of their slots share a value.
+    pub fn meets(&self, other: &Shape) -> bool
+        ensures { IsTrue result ↔ MeetsShape self.now other.now }
+    {
+        let (mine, theirs) = (self.slots(), other.slots());
+        mine.len() == theirs.len() && mine.iter().zip(theirs).all(|(a, b)| a.pair.meets(b.pair))
     }
 
     /// Whether this shape covers the other one: they have one length, and each slot covers the other's slot in its
