@@ -144,6 +144,7 @@ fault_same edges others moved (Cycle list) fault = record {
   cycle = cycle_same others edges list.items (IsPermutation-sym edges others moved) fault.cycle;
   lowest = λ other cycle. fault.lowest other (cycle_same edges others other moved cycle);
   shortest = λ other cycle. fault.shortest other (cycle_same edges others other moved cycle);
+  lowest_read = λ other cycle. fault.lowest_read other (cycle_same edges others other moved cycle);
 }
 fault_same edges others moved NoMemory h = tt
 

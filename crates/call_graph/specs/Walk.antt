@@ -19,6 +19,11 @@ callee_at edges i = (slice_index_or edges i (record { caller = 0; callee = 0 }))
 abbrev pub ByCaller : List Edge → Type 0
 ByCaller edges = IsNonDecreasingBy (λ e. e.caller) edges
 
+-- the edges stand by their callers, and those of one caller by their callees
+pub record ByCall (edges : List Edge) : Type 0 where
+  pub by_caller : ByCaller edges
+  pub by_callee : (i j : ℕ) → i ≤ j → j < length edges → caller_at edges i ≡ caller_at edges j → callee_at edges i ≤ callee_at edges j
+
 abbrev pub mark_at : List Mark → ℕ → Mark
 mark_at marks p = slice_index_or marks p Unseen
 

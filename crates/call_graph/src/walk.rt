@@ -1,3 +1,4 @@
+// A walk along the calls, depth first, that puts the procedures in order by groups.
 ghost use Rattle.std.specs.Prelude.{◌≡◌, ◌≢◌, ℕ, ◌+◌, ◌-◌, ◌<◌, ◌≤◌, ◌↔◌, ◌⊎◌, IsTrue, List, IfNone, IfOk, IfSome, OnOk, length, slice_index, sum_by, vec_len};
 ghost use Rattle.call_graph.specs.Calls.{Occurs, Reaches};
 ghost use Rattle.call_graph.specs.Walk.{ByCaller, Holds, Settled, StaysSeen, Within, caller_at, callee_at, frame_at, mark_at, mark_work, work};
