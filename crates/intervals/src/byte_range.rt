@@ -54,7 +54,7 @@ impl ByteRange {
     {
         ByteRange {
             low: bound,
-            high: u8::MAX,
+            ..ByteRange::full()
         }
     }
 

@@ -54,7 +54,7 @@ impl WordRange {
     {
         WordRange {
             low: bound,
-            high: u16::MAX,
+            ..WordRange::full()
         }
     }
 

@@ -58,14 +58,8 @@ pub fn least_multiple(coefficient: i32, range: WordRange) -> i128
     ensures order { range.low ≤ range.high }
     ensures size { unsigned_abs result ≤ 65535 * unsigned_abs coefficient }
 {
-    multiple(
-        coefficient,
-        if coefficient >= 0 {
-            range.low()
-        } else {
-            range.high()
-        },
-    )
+    let (low, high) = (range.low(), range.high());
+    multiple(coefficient, if coefficient >= 0 { low } else { high })
 }
 
 /// Whether each coefficient is 0.

@@ -79,14 +79,8 @@ fn greatest_multiple(coefficient: i32, range: WordRange) -> i128
     ensures value { result ≡ coefficient *ℤ pos (top_of range coefficient) }
     ensures size { unsigned_abs result ≤ 65535 * unsigned_abs coefficient }
 {
-    multiple(
-        coefficient,
-        if coefficient >= 0 {
-            range.high()
-        } else {
-            range.low()
-        },
-    )
+    let (low, high) = (range.low(), range.high());
+    multiple(coefficient, if coefficient >= 0 { high } else { low })
 }
 
 /// What the constant and the other terms leave of the range of the term at a place.

@@ -113,7 +113,7 @@ fn ranges(rt: HostRuntime) {
     assert!(rt; !bytes(4, 9).covers(&bytes(5, 10)));
     assert!(rt; bytes(4, 9).meets(bytes(9, 20)) && !bytes(4, 9).meets(bytes(10, 20)));
     assert!(rt; (bytes(4, 9).value(), ByteRange::single(7).value()) == (None, Some(7)));
-    assert!(rt; (words(4, 9).low, words(4, 9).high) == (4, 9));
+    assert!(rt; (words(4, 9).low(), words(4, 9).high()) == (4, 9));
     assert!(rt; words(4, 9).without(9) == Some(words(4, 8)));
     assert!(rt; words(4, 9).contains(9) && !words(4, 9).contains(10));
     assert!(rt; WordRange::at_least(0).is_full() && !WordRange::at_most(9).is_full());

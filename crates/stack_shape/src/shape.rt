@@ -1,7 +1,6 @@
 // Shapes: the slots of an activation, first pushed first.
 ghost use Rattle.std.specs.Prelude.{IsSome, IfNone, slice_index_or, slice_set, ◌≡◌, ◌+◌, ◌*◌, ◌<◌, ◌≤◌, ◌↔◌, ◌⊎◌, ⊤, ℕ, List, [], ◌∷◌, ◌++◌, length, IsTrue, IsOk, IsNone, IfOk, IfErr, IfSome, OnOk, OnErr, SomeIff};
 ghost use Rattle.intervals.specs.Domain.{Entry};
-ghost use Rattle.stack_shape.specs.declared.shape.TheConstants.{SLOTS};
 
 use crate::fault::ShapeFault;
 use crate::slot::Slot;
@@ -25,13 +24,12 @@ pub struct Shape {
 impl Model for Shape {
     ghost use Rattle.std.specs.Prelude.{List, length, ◌≤◌};
     ghost use Rattle.stack_shape.specs.declared.slot.Slot.{Slot};
-    ghost use Rattle.stack_shape.specs.declared.shape.TheConstants.{SLOTS};
 
     ghost Value = { List Slot };
 
     ghost view = { λ s. s.slots.items };
 
-    ghost invariant = { λ s. length s.slots.items ≤ SLOTS };
+    ghost invariant = { λ s. length s.slots.items ≤ 64 };
 
     ghost inverse = { λ slots. record { slots = record { items = slots } } };
 }
@@ -73,7 +71,7 @@ impl Shape {
     /// The slots, first pushed first, 0 to 64.
     pub fn slots(&self) -> &[Slot]
         ensures value { result.now ≡ self.now }
-        ensures within { length result.now ≤ SLOTS }
+        ensures within { length result.now ≤ 64 }
     {
         self.slots.as_slice()
     }
@@ -81,7 +79,7 @@ impl Shape {
     /// How many slots there are, 0 to 64.
     pub fn len(&self) -> usize
         ensures value { result ≡ length self.now }
-        ensures within { result ≤ SLOTS }
+        ensures within { result ≤ 64 }
     {
         self.slots.len()
     }
@@ -111,9 +109,9 @@ impl Shape {
 
     /// Pushes a slot. At 64 slots it is Full, and the shape stays as it was.
     pub fn push(&mut self, slot: Slot) -> Result<(), ShapeFault>
-        ensures ok { IsOk result ↔ (length self.old < SLOTS) }
+        ensures ok { IsOk result ↔ (length self.old < 64) }
         ensures pushed { OnOk result (self.new ≡ self.old ++ slot ∷ []) }
-        ensures full { IfErr result (λ fault. (fault ≡ ShapeFault.Full) × (length self.old ≡ SLOTS)) }
+        ensures full { IfErr result (λ fault. (fault ≡ ShapeFault.Full) × (length self.old ≡ 64)) }
         ensures unchanged { OnErr result (self.new ≡ self.old) }
         ensures holds { (entry : Entry) (words : List ℕ) (word : ℕ)
             → HoldsShape self.old entry words → HoldsSlot slot entry word
