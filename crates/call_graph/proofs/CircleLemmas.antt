@@ -91,16 +91,16 @@ module _ (edges : List Edge) (start : ℕ) (seen : List Bool) (steps : List Step
       elim old [
         | inl lower ↦ inl (rw split (lower_front (path_to steps k (step_from steps i)) (take k ws) (step_proc steps i ∷ []) (get_or ws k 0 ∷ []) lower))
         | inr same ↦ let at : step_from steps i ≡ j' = same.1 in elim (cases_eq i j) [
-            | inl e ↦ inr (
-                ap (λ (xs : List ℕ). xs ++ step_proc steps i ∷ []) same.0
-                    ∙ ap (λ x. take k ws ++ x ∷ []) (ap (step_proc steps) e ∙ is) ∙ sym split,
-                e,
-              )
-            | inr ne ↦
-                let less : step_proc steps i < step_proc steps j = s.by_number i j some (omega arith) inside (omega arith) in
-                let below : step_proc steps i < get_or ws k 0 = subst (λ x. step_proc steps i < x) is less in
-                inl (rw (split, same.0) (lower_last (take k ws) (step_proc steps i) (get_or ws k 0) below))
-          ]
+          | inl e ↦ inr (
+            ap (λ (xs : List ℕ). xs ++ step_proc steps i ∷ []) same.0
+                ∙ ap (λ x. take k ws ++ x ∷ []) (ap (step_proc steps) e ∙ is) ∙ sym split,
+            e,
+          )
+          | inr ne ↦
+              let less : step_proc steps i < step_proc steps j = s.by_number i j some (omega arith) inside (omega arith) in
+              let below : step_proc steps i < get_or ws k 0 = subst (λ x. step_proc steps i < x) is less in
+              inl (rw (split, same.0) (lower_last (take k ws) (step_proc steps i) (get_or ws k 0) below))
+        ]
       ]
 
   reached : (k : ℕ) → k ≤ length ws → Reached steps o ws k

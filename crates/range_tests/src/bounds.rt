@@ -114,10 +114,10 @@ fn linears_are_checked(rt: HostRuntime) -> Result<(), Fail> {
         let more = sum.with_term(term);
         assert!(rt; more == None, "{why}");
     }
-    let last = times(1, Variable::Slot(
-        SlotNumber::new(63).ok_or("the last slot")?,
-        Part::Low,
-    ));
+    let last = times(
+        1,
+        Variable::Slot(SlotNumber::new(63).ok_or("the last slot")?, Part::Low),
+    );
     let whole = sum.with_term(last).ok_or("the last variable")?;
     let fourth = whole.with_term(last);
     assert!(rt; fourth == None, "a fourth term");
@@ -253,10 +253,7 @@ fn a_fact_cuts_its_variables(rt: HostRuntime) -> Result<(), Fail> {
 #[test]
 fn what_a_refused_fact_leaves(rt: HostRuntime) -> Result<(), Fail> {
     // 2 * B - C - 19 = 0: B from 19 / 2 to 29 / 2, inwards 10 to 14, which leaves 10 of 0 to 10; then C is 1.
-    let fact = linear(
-        -19,
-        &[times(2, Variable::B), times(-1, Variable::C)],
-    )?;
+    let fact = linear(-19, &[times(2, Variable::B), times(-1, Variable::C)])?;
     let mut state = Equal {
         range: words(0, 10),
     };

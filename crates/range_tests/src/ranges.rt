@@ -134,7 +134,9 @@ fn pairs(rt: HostRuntime) {
     let kept = Pair::of_origin(RegPair::Bc)
         .cut_word(words(0, 5))
         .unwrap_or(Pair::full());
-    assert!(rt; (kept.high, kept.low, kept.origin) == (bytes(0, 0), bytes(0, 5), Some(RegPair::Bc)));
+    assert!(rt;
+        (kept.high, kept.low, kept.origin) == (bytes(0, 0), bytes(0, 5), Some(RegPair::Bc))
+    );
     let not_zero = Pair::full().without_word(0).unwrap_or(Pair::full());
     assert!(rt; (not_zero.word, not_zero.high) == (words(1, 0xffff), ByteRange::full()));
 }
@@ -150,7 +152,9 @@ fn the_three_cuts_are_made_once(rt: HostRuntime) {
         origin: None,
     };
     let normal = pair.normal_form().unwrap_or(Pair::full());
-    assert!(rt; (normal.word, normal.high, normal.low) == (words(0x0105, 0x0109), bytes(1, 1), bytes(3, 9)));
+    assert!(rt;
+        (normal.word, normal.high, normal.low) == (words(0x0105, 0x0109), bytes(1, 1), bytes(3, 9))
+    );
     let again = normal.normal_form().unwrap_or(Pair::full());
     assert!(rt; again.low == bytes(5, 9));
 }
@@ -167,7 +171,9 @@ fn pairs_covered_and_joined(rt: HostRuntime) {
     let low = Pair::of_word(words(0x4000, 0x4003));
     let high = Pair::of_word(words(0x4200, 0x4201));
     let both = low.join(&high);
-    assert!(rt; (both.word, both.high, both.low) == (words(0x4000, 0x4201), bytes(0x40, 0x42), bytes(0, 3)));
+    assert!(rt;
+        (both.word, both.high, both.low) == (words(0x4000, 0x4201), bytes(0x40, 0x42), bytes(0, 3))
+    );
     assert!(rt; !low.meets(high) && both.meets(high) && both.covers(&low));
     assert!(rt; saved.is_full() && !low.is_full());
     assert!(rt; RegPair::AlternateHl.place() == 9);

@@ -1,13 +1,8 @@
 -- Covering and joins of shapes, by the laws of pairs.
-use Rattle.std.proofs.Common.{◌≡◌, ℕ, Bool, List, [], ◌∷◌, ◌++◌, length, arith}
+use Rattle.std.proofs.Common.{◌≡◌, ℕ, List, [], ◌∷◌, ◌++◌, length, arith}
 use Rattle.std.proofs.lemmas.Slice.Zip.{all_zipped_more}
-use Rattle.std.specs.Bool.{Decides}
-use Rattle.std.proofs.lemmas.Grind.{common_steps}
-use Rattle.std.specs.Cmp.Lexicographic.{pointwise}
-use Rattle.std.proofs.lemmas.Slice.Eq.{slice_eq-Decides}
 use Rattle.intervals.specs.Domain.{Entry}
 use Rattle.intervals.specs.PairLaws.{covers_itself, covers_along, holds_wider, hull_covers_first, hull_covers_second}
-use Rattle.stack_shape.specs.contracts.slot.SlotPartialEq.TheImpl.{eq-value}
 use Rattle.stack_shape.specs.declared.slot.Slot.{Slot}
 use Rattle.stack_shape.specs.Slot.{HoldsSlot, CoversSlot}
 use Rattle.stack_shape.specs.Shape.{HoldsShape, CoversShape, hull_of_shapes}

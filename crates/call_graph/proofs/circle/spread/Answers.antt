@@ -65,12 +65,12 @@ loop-number-preserved c =
           let call = calls_at calls number (step_proc old at) p here (c.if-edge-step.false ∙ sym kept.proc_is) refl in
           let unseen : seen_at seen p ≡ false = ap (seen_at seen) (sym c.from.ensures) ∙ w.if-not-seen-from.true in
           let others : (j : ℕ) → 0 < j → j < length old → step_from old j ≡ at → step_proc old j < p = λ j some l from.
-              let z = kept.others j some l from in
-              let up : callee_at calls z.0 ≤ p = c.requires.rising.by_callee z.0 number (omega arith) here (z.3 ∙ sym c.if-edge-step.false) in
-              let same : callee_at calls z.0 ≡ step_proc old j = z.4 in
-              let marked = kept.searched.marked j l in
-              let apart : step_proc old j ≢ p = λ e. let x : seen_at seen p ≡ true = ap (seen_at seen) (sym e) ∙ marked in cc in
-              omega arith in
+          let z = kept.others j some l from in
+          let up : callee_at calls z.0 ≤ p = c.requires.rising.by_callee z.0 number (omega arith) here (z.3 ∙ sym c.if-edge-step.false) in
+          let same : callee_at calls z.0 ≡ step_proc old j = z.4 in
+          let marked = kept.searched.marked j l in
+          let apart : step_proc old j ≢ p = λ e. let x : seen_at seen p ≡ true = ap (seen_at seen) (sym e) ∙ marked in cc in
+          omega arith in
           let longer : length (old ++ s ∷ []) ≡ length old + 1 = length-append old (s ∷ []) in
           let same_far : step_far (old ++ s ∷ []) at ≡ step_far old at = ap (λ v. v.far) (get_or-append old (s ∷ []) (record { proc = 0; from = 0; far = 0 }) at inside) in
           rw (wrote, items) (record {

@@ -1,4 +1,4 @@
-use Rattle.std.proofs.Common.{rules, ◌≡◌, ℕ, List, Vec, Global, Result, Ok, Err}
+use Rattle.std.proofs.Common.{◌≡◌, ℕ, List, Vec, Global, Result, Ok, Err}
 use Rattle.std.specs.Result.{IfOk, IfErr, OnOk}
 use Rattle.call_graph.specs.Calls.{IsCallOrder, IsCycle, IsFaultOf}
 use Rattle.call_graph.specs.declared.edge.Edge.{Edge}

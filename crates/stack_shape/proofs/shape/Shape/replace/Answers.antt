@@ -1,7 +1,5 @@
-use Rattle.std.proofs.Common.{rules, arith, ◌≡◌, ◌≤◌, ℕ, List, length, ap}
-use Rattle.stack_shape.specs.declared.slot.Slot.{Slot}
+use Rattle.std.proofs.Common.{rules, ◌≡◌, ◌≤◌, length}
 use Rattle.stack_shape.specs.Slot.{HoldsSlot}
-use Rattle.stack_shape.specs.Shape.{HoldsShape}
 use Rattle.stack_shape.proofs.Zipped.{AllZip-set, AllZip-past}
 use Rattle.stack_shape.proofs.shape.Shape.replace.Goals as goal
 
