@@ -38,20 +38,13 @@ fn words_in_window(low: u32, high: u32) -> WordRange
 /// Sums and differences of bytes by the window rule (UM0080, "8-Bit Arithmetic Group"). A difference is raised by 256
 /// on the way, which changes no residue.
 impl ByteRange {
-    fn ends(self) -> (u16, u16)
-        ensures low { result.0 ≡ self.low }
-        ensures high { result.1 ≡ self.high }
-        ensures within { (self.low ≤ self.high) × (self.high ≤ 255) }
-    {
-        (u16::from(self.low), u16::from(self.high))
-    }
-
     /// ADD A,s.
     pub fn sum(self, other: ByteRange) -> ByteRange
         ensures exact { result ≡ sum 256 self other }
         ensures contains { TakesBothInto (λ x y. (x + y) % 256) self other result }
     {
-        let ((low, high), (other_low, other_high)) = (self.ends(), other.ends());
+        let (low, high) = (u16::from(self.low), u16::from(self.high));
+        let (other_low, other_high) = (u16::from(other.low), u16::from(other.high));
         bytes_in_window(low + other_low, high + other_high)
     }
 
@@ -61,7 +54,8 @@ impl ByteRange {
         ensures contains { (carry : ℕ) → carry ≤ 1
             → TakesBothInto (λ x y. (x + y + carry) % 256) self other result }
     {
-        let ((low, high), (other_low, other_high)) = (self.ends(), other.ends());
+        let (low, high) = (u16::from(self.low), u16::from(self.high));
+        let (other_low, other_high) = (u16::from(other.low), u16::from(other.high));
         bytes_in_window(low + other_low, high + other_high + 1)
     }
 
@@ -70,7 +64,8 @@ impl ByteRange {
         ensures exact { result ≡ difference 256 self other }
         ensures contains { TakesBothInto (λ x y. (256 + x - y) % 256) self other result }
     {
-        let ((low, high), (other_low, other_high)) = (self.ends(), other.ends());
+        let (low, high) = (u16::from(self.low), u16::from(self.high));
+        let (other_low, other_high) = (u16::from(other.low), u16::from(other.high));
         bytes_in_window(256 + low - other_high, 256 + high - other_low)
     }
 
@@ -80,7 +75,8 @@ impl ByteRange {
         ensures contains { (carry : ℕ) → carry ≤ 1
             → TakesBothInto (λ x y. (256 + x - y - carry) % 256) self other result }
     {
-        let ((low, high), (other_low, other_high)) = (self.ends(), other.ends());
+        let (low, high) = (u16::from(self.low), u16::from(self.high));
+        let (other_low, other_high) = (u16::from(other.low), u16::from(other.high));
         bytes_in_window(256 + low - other_high - 1, 256 + high - other_low)
     }
 
@@ -97,7 +93,7 @@ impl ByteRange {
         ensures exact { result ≡ increment 256 self }
         ensures contains { TakesInto (λ x. (x + 1) % 256) self result }
     {
-        let (low, high) = self.ends();
+        let (low, high) = (u16::from(self.low), u16::from(self.high));
         bytes_in_window(low + 1, high + 1)
     }
 
@@ -106,7 +102,7 @@ impl ByteRange {
         ensures exact { result ≡ decrement 256 self }
         ensures contains { TakesInto (λ x. (256 + x - 1) % 256) self result }
     {
-        let (low, high) = self.ends();
+        let (low, high) = (u16::from(self.low), u16::from(self.high));
         bytes_in_window(256 + low - 1, 256 + high - 1)
     }
 
@@ -115,7 +111,7 @@ impl ByteRange {
         ensures exact { result ≡ negation self }
         ensures contains { TakesInto (λ x. (256 - x) % 256) self result }
     {
-        let (low, high) = self.ends();
+        let (low, high) = (u16::from(self.low), u16::from(self.high));
         bytes_in_window(256 - high, 256 - low)
     }
 }
@@ -123,20 +119,13 @@ impl ByteRange {
 /// Sums and differences of words by the window rule (UM0080, "16-Bit Arithmetic Group"). A difference is raised by
 /// 65,536 on the way, which changes no residue.
 impl WordRange {
-    fn ends(self) -> (u32, u32)
-        ensures low { result.0 ≡ self.low }
-        ensures high { result.1 ≡ self.high }
-        ensures within { (self.low ≤ self.high) × (self.high ≤ 65535) }
-    {
-        (u32::from(self.low), u32::from(self.high))
-    }
-
     /// ADD HL,ss, ADD IX,pp and ADD IY,rr.
     pub fn sum(self, other: WordRange) -> WordRange
         ensures exact { result ≡ sum 65536 self other }
         ensures contains { TakesBothInto (λ x y. (x + y) % 65536) self other result }
     {
-        let ((low, high), (other_low, other_high)) = (self.ends(), other.ends());
+        let (low, high) = (u32::from(self.low), u32::from(self.high));
+        let (other_low, other_high) = (u32::from(other.low), u32::from(other.high));
         words_in_window(low + other_low, high + other_high)
     }
 
@@ -146,7 +135,8 @@ impl WordRange {
         ensures contains { (carry : ℕ) → carry ≤ 1
             → TakesBothInto (λ x y. (x + y + carry) % 65536) self other result }
     {
-        let ((low, high), (other_low, other_high)) = (self.ends(), other.ends());
+        let (low, high) = (u32::from(self.low), u32::from(self.high));
+        let (other_low, other_high) = (u32::from(other.low), u32::from(other.high));
         words_in_window(low + other_low, high + other_high + 1)
     }
 
@@ -156,7 +146,8 @@ impl WordRange {
         ensures contains { (carry : ℕ) → carry ≤ 1
             → TakesBothInto (λ x y. (65536 + x - y - carry) % 65536) self other result }
     {
-        let ((low, high), (other_low, other_high)) = (self.ends(), other.ends());
+        let (low, high) = (u32::from(self.low), u32::from(self.high));
+        let (other_low, other_high) = (u32::from(other.low), u32::from(other.high));
         words_in_window(65_536 + low - other_high - 1, 65_536 + high - other_low)
     }
 
@@ -165,7 +156,7 @@ impl WordRange {
         ensures exact { result ≡ increment 65536 self }
         ensures contains { TakesInto (λ x. (x + 1) % 65536) self result }
     {
-        let (low, high) = self.ends();
+        let (low, high) = (u32::from(self.low), u32::from(self.high));
         words_in_window(low + 1, high + 1)
     }
 
@@ -174,7 +165,7 @@ impl WordRange {
         ensures exact { result ≡ decrement 65536 self }
         ensures contains { TakesInto (λ x. (65536 + x - 1) % 65536) self result }
     {
-        let (low, high) = self.ends();
+        let (low, high) = (u32::from(self.low), u32::from(self.high));
         words_in_window(65_536 + low - 1, 65_536 + high - 1)
     }
 
@@ -183,7 +174,7 @@ impl WordRange {
         ensures exact { result ≡ displacement self pattern }
         ensures contains { TakesInto (λ x. (x + displacement_of pattern) % 65536) self result }
     {
-        let (low, high) = self.ends();
+        let (low, high) = (u32::from(self.low), u32::from(self.high));
         let raised = if pattern < 128 {
             65_536 + u32::from(pattern)
         } else {
