@@ -1,4 +1,4 @@
-//! Values worked by hand.
+// Linear bounds: values worked by hand.
 
 ghost use Rattle.std.specs.Prelude.{◌≡◌, Option, Some, None, option_map};
 ghost use Rattle.std.proofs.Common.{rules, subst, sym};
@@ -6,11 +6,11 @@ ghost use Rattle.intervals.specs.Range.{Interval, Within, full, intersection};
 ghost use Rattle.loop_bounds.specs.declared.variable.Variable.TheVariants.{A, B, C, Hl};
 ghost use Rattle.loop_bounds.specs.declared.variable.Variable.{Variable};
 
-use crate::{
-    Change, Effect, Linear, Part, Ranges, Term, Tightenable, Variable, becomes, decreases, tighten,
-    vanishes,
-};
 use intervals::WordRange;
+use loop_bounds::{
+    Change, Effect, Linear, Part, Ranges, SlotNumber, Term, Tightenable, Variable, becomes,
+    decreases, tighten, vanishes,
+};
 use std::test::Fail;
 
 /// The ranges of B, C and HL. The others are full.
@@ -97,13 +97,14 @@ fn linear(constant: i32, terms: &[Term]) -> Result<Linear, Fail> {
 
 #[test]
 fn linears_are_checked(rt: HostRuntime) -> Result<(), Fail> {
-    assert_eq!(rt; Linear::of_constant(1_000_000_001), None);
-    assert_eq!(rt; Linear::of_constant(-1_000_000_001), None);
+    assert!(rt; Linear::of_constant(1_000_000_001) == None);
+    assert!(rt; Linear::of_constant(-1_000_000_001) == None);
     let sum = linear(
         -1_000_000_000,
         &[times(-1_000_000, Variable::A), times(1, Variable::Bc)],
     )?;
-    assert_eq!(rt; (sum.constant(), sum.terms().len()), (-1_000_000_000, 2));
+    assert!(rt; sum.constant() == -1_000_000_000);
+    assert!(rt; sum.terms().len() == 2);
     let refused = [
         (times(1, Variable::Bc), "twice"),
         (times(1, Variable::L), "not rising"),
@@ -112,13 +113,18 @@ fn linears_are_checked(rt: HostRuntime) -> Result<(), Fail> {
     ];
     for (term, why) in refused {
         let more = sum.with_term(term);
-        assert_eq!(rt; more, None, "{why}");
+        assert!(rt; more == None, "{why}");
     }
-    let last = times(1, Variable::Slot(63, Part::Low));
+    let last = times(
+        1,
+        Variable::Slot(SlotNumber::new(63).ok_or("the last slot")?, Part::Low),
+    );
     let whole = sum.with_term(last).ok_or("the last variable")?;
     let fourth = whole.with_term(last);
-    assert_eq!(rt; fourth, None, "a fourth term");
-    assert_eq!(rt; (Variable::Iy.place(), last.variable.place()), (11, 203));
+    assert!(rt; fourth == None, "a fourth term");
+    assert!(rt; SlotNumber::new(64).is_none());
+    assert!(rt; Variable::Iy.rank() == 11);
+    assert!(rt; last.variable.rank() == 203);
     Ok(())
 }
 
@@ -214,7 +220,7 @@ fn tightened(fact: &Linear, low: u16, high: u16) -> Option<(u16, u16)> {
         range: words(low, high),
     };
     if tighten(fact, &mut state) {
-        Some((state.range.low, state.range.high))
+        Some((state.range.low(), state.range.high()))
     } else {
         None
     }
@@ -225,28 +231,35 @@ fn a_fact_cuts_its_variables(rt: HostRuntime) -> Result<(), Fail> {
     let b = |by| times(by, Variable::B);
     let c = |by| times(by, Variable::C);
     let five = linear(-5, &[b(1)])?;
-    assert_eq!(rt; tightened(&five, 0, 10), Some((5, 5)));
-    assert_eq!(rt; tightened(&five, 6, 10), None);
+    assert!(rt; tightened(&five, 0, 10) == Some((5, 5)));
+    assert!(rt; tightened(&five, 6, 10) == None);
     // 3 * B = 10 has no whole solution: 10 / 3 is rounded up and down, inwards.
-    assert_eq!(rt; tightened(&linear(-10, &[b(3)])?, 0, 10), None);
-    assert_eq!(rt; tightened(&linear(10, &[b(-5)])?, 0, 10), Some((2, 2)));
+    assert!(rt; tightened(&linear(-10, &[b(3)])?, 0, 10) == None);
+    assert!(rt; tightened(&linear(10, &[b(-5)])?, 0, 10) == Some((2, 2)));
     // 2 * B = C: B is at most half of 10, and then C, like all, at most 5.
-    assert_eq!(rt; tightened(&linear(0, &[b(2), c(-1)])?, 0, 10), Some((0, 5)));
+    assert!(rt; tightened(&linear(0, &[b(2), c(-1)])?, 0, 10) == Some((0, 5)));
     // 2 * B - C - 3 = 0: B from 3 / 2 to 13 / 2, inwards 2 to 6; then C from 1 to 9, which leaves 2 to 6.
-    assert_eq!(rt;
-        tightened(&linear(-3, &[b(2), c(-1)])?, 0, 10),
-        Some((2, 6))
-    );
+    assert!(rt; tightened(&linear(-3, &[b(2), c(-1)])?, 0, 10) == Some((2, 6)));
     // B + C - 30 = 0: B at least 20, so nothing above 10 is enough.
-    assert_eq!(rt; tightened(&linear(-30, &[b(1), c(1)])?, 0, 10), None);
-    assert_eq!(rt;
-        tightened(&linear(-30, &[b(1), c(1)])?, 0, 20),
-        Some((10, 20))
-    );
+    assert!(rt; tightened(&linear(-30, &[b(1), c(1)])?, 0, 10) == None);
+    assert!(rt; tightened(&linear(-30, &[b(1), c(1)])?, 0, 20) == Some((10, 20)));
     // B + C + 1 = 0 has no natural solution; a fact without terms cuts nothing.
-    assert_eq!(rt; tightened(&linear(1, &[b(1), c(1)])?, 0, 65_535), None);
-    assert_eq!(rt; tightened(&linear(5, &[])?, 7, 9), Some((7, 9)));
+    assert!(rt; tightened(&linear(1, &[b(1), c(1)])?, 0, 65_535) == None);
+    assert!(rt; tightened(&linear(5, &[])?, 7, 9) == Some((7, 9)));
     // B - C = 0 is no news of equal variables.
-    assert_eq!(rt; tightened(&linear(0, &[b(1), c(-1)])?, 7, 9), Some((7, 9)));
+    assert!(rt; tightened(&linear(0, &[b(1), c(-1)])?, 7, 9) == Some((7, 9)));
+    Ok(())
+}
+
+/// The state keeps the cuts before the one that leaves nothing.
+#[test]
+fn what_a_refused_fact_leaves(rt: HostRuntime) -> Result<(), Fail> {
+    // 2 * B - C - 19 = 0: B from 19 / 2 to 29 / 2, inwards 10 to 14, which leaves 10 of 0 to 10; then C is 1.
+    let fact = linear(-19, &[times(2, Variable::B), times(-1, Variable::C)])?;
+    let mut state = Equal {
+        range: words(0, 10),
+    };
+    assert!(rt; !tighten(&fact, &mut state));
+    assert!(rt; state.range == words(10, 10));
     Ok(())
 }

@@ -1,6 +1,6 @@
-//! Values worked by hand from the window rule and the table of results.
+// Ranges and pairs: values worked by hand from the window rule and the table of results.
 
-use crate::{ByteRange, Domain, Pair, RegPair, WordRange};
+use intervals::{ByteRange, Domain, Pair, RegPair, WordRange};
 
 fn bytes(low: u8, high: u8) -> ByteRange {
     ByteRange::new(low, high).unwrap_or(ByteRange::full())
@@ -34,7 +34,7 @@ fn sums_of_bytes(rt: HostRuntime) {
         (bytes(0, 0).negation(), bytes(0, 0)),
     ];
     for (k, (result, expected)) in cases.into_iter().enumerate() {
-        assert_eq!(rt; result, expected, "case {k}");
+        assert!(rt; result == expected, "case {k}");
     }
 }
 
@@ -68,7 +68,7 @@ fn sums_of_words(rt: HostRuntime) {
         (words(0, 0).displacement(0xff), words(0xffff, 0xffff)),
     ];
     for (k, (result, expected)) in cases.into_iter().enumerate() {
-        assert_eq!(rt; result, expected, "case {k}");
+        assert!(rt; result == expected, "case {k}");
     }
 }
 
@@ -96,31 +96,27 @@ fn logic_of_bytes(rt: HostRuntime) {
         (bytes(0xff, 0xff).with_bit_reset(0), bytes(0xfe, 0xfe)),
     ];
     for (k, (result, expected)) in cases.into_iter().enumerate() {
-        assert_eq!(rt; result, expected, "case {k}");
+        assert!(rt; result == expected, "case {k}");
     }
 }
 
 #[test]
 fn ranges(rt: HostRuntime) {
-    assert_eq!(rt; ByteRange::new(4, 3), None);
-    assert_eq!(rt;
-        bytes(4, 9).intersection(ByteRange::at_most(6)),
-        Some(bytes(4, 6))
-    );
-    assert_eq!(rt; bytes(4, 9).intersection(ByteRange::at_least(10)), None);
-    assert_eq!(rt; bytes(4, 9).without(4), Some(bytes(5, 9)));
-    assert_eq!(rt; bytes(4, 9).without(5), Some(bytes(4, 9)));
-    assert_eq!(rt; ByteRange::single(0).without(0), None);
-    assert_eq!(rt; bytes(4, 9).join(&bytes(20, 30)), bytes(4, 30));
+    assert!(rt; ByteRange::new(4, 3) == None);
+    assert!(rt; bytes(4, 9).intersection(ByteRange::at_most(6)) == Some(bytes(4, 6)));
+    assert!(rt; bytes(4, 9).intersection(ByteRange::at_least(10)) == None);
+    assert!(rt; bytes(4, 9).without(4) == Some(bytes(5, 9)));
+    assert!(rt; bytes(4, 9).without(5) == Some(bytes(4, 9)));
+    assert!(rt; ByteRange::single(0).without(0) == None);
+    assert!(rt; bytes(4, 9).join(&bytes(20, 30)) == bytes(4, 30));
     assert!(rt; bytes(4, 9).covers(&bytes(5, 9)));
     assert!(rt; !bytes(4, 9).covers(&bytes(5, 10)));
     assert!(rt; bytes(4, 9).meets(bytes(9, 20)) && !bytes(4, 9).meets(bytes(10, 20)));
-    assert_eq!(rt;
-        (bytes(4, 9).value(), ByteRange::single(7).value()),
-        (None, Some(7))
-    );
-    assert_eq!(rt; (words(4, 9).low, words(4, 9).high), (4, 9));
-    assert_eq!(rt; words(4, 9).without(9), Some(words(4, 8)));
+    assert!(rt; bytes(4, 9).value() == None);
+    assert!(rt; ByteRange::single(7).value() == Some(7));
+    assert!(rt; words(4, 9).low() == 4);
+    assert!(rt; words(4, 9).high() == 9);
+    assert!(rt; words(4, 9).without(9) == Some(words(4, 8)));
     assert!(rt; words(4, 9).contains(9) && !words(4, 9).contains(10));
     assert!(rt; WordRange::at_least(0).is_full() && !WordRange::at_most(9).is_full());
 }
@@ -128,36 +124,27 @@ fn ranges(rt: HostRuntime) {
 #[test]
 fn pairs(rt: HostRuntime) {
     let loop_count = Pair::of_origin(RegPair::Bc).with_high(bytes(1, 8));
-    assert_eq!(rt;
-        (loop_count.word, loop_count.origin),
-        (words(0x0100, 0x08ff), None)
-    );
+    assert!(rt; loop_count.word == words(0x0100, 0x08ff));
+    assert!(rt; loop_count.origin == None);
     let one_page = Pair::of_word(words(0x4380, 0x43ff));
-    assert_eq!(rt;
-        (one_page.high, one_page.low),
-        (bytes(0x43, 0x43), bytes(0x80, 0xff))
-    );
+    assert!(rt; one_page.high == bytes(0x43, 0x43));
+    assert!(rt; one_page.low == bytes(0x80, 0xff));
     let two_pages = Pair::of_word(words(0x43ff, 0x4400));
-    assert_eq!(rt;
-        (two_pages.high, two_pages.low),
-        (bytes(0x43, 0x44), ByteRange::full())
-    );
+    assert!(rt; two_pages.high == bytes(0x43, 0x44));
+    assert!(rt; two_pages.low == ByteRange::full());
     let none = loop_count.cut_high(bytes(9, 9));
-    assert_eq!(rt; none, None);
+    assert!(rt; none == None);
     let last = loop_count.cut_high(bytes(1, 1)).unwrap_or(Pair::full());
-    assert_eq!(rt; last.word, words(0x0100, 0x01ff));
+    assert!(rt; last.word == words(0x0100, 0x01ff));
     let kept = Pair::of_origin(RegPair::Bc)
         .cut_word(words(0, 5))
         .unwrap_or(Pair::full());
-    assert_eq!(rt;
-        (kept.high, kept.low, kept.origin),
-        (bytes(0, 0), bytes(0, 5), Some(RegPair::Bc))
-    );
+    assert!(rt; kept.high == bytes(0, 0));
+    assert!(rt; kept.low == bytes(0, 5));
+    assert!(rt; kept.origin == Some(RegPair::Bc));
     let not_zero = Pair::full().without_word(0).unwrap_or(Pair::full());
-    assert_eq!(rt;
-        (not_zero.word, not_zero.high),
-        (words(1, 0xffff), ByteRange::full())
-    );
+    assert!(rt; not_zero.word == words(1, 0xffff));
+    assert!(rt; not_zero.high == ByteRange::full());
 }
 
 #[test]
@@ -171,12 +158,11 @@ fn the_three_cuts_are_made_once(rt: HostRuntime) {
         origin: None,
     };
     let normal = pair.normal_form().unwrap_or(Pair::full());
-    assert_eq!(rt;
-        (normal.word, normal.high, normal.low),
-        (words(0x0105, 0x0109), bytes(1, 1), bytes(3, 9))
-    );
+    assert!(rt; normal.word == words(0x0105, 0x0109));
+    assert!(rt; normal.high == bytes(1, 1));
+    assert!(rt; normal.low == bytes(3, 9));
     let again = normal.normal_form().unwrap_or(Pair::full());
-    assert_eq!(rt; again.low, bytes(5, 9));
+    assert!(rt; again.low == bytes(5, 9));
 }
 
 #[test]
@@ -186,16 +172,15 @@ fn pairs_covered_and_joined(rt: HostRuntime) {
     assert!(rt;
         Pair::full().covers(&saved) && !saved.covers(&Pair::full()) && !saved.covers(&other)
     );
-    assert_eq!(rt; saved.join(&other), Pair::full());
-    assert_eq!(rt; saved.join(&saved), saved);
+    assert!(rt; saved.join(&other) == Pair::full());
+    assert!(rt; saved.join(&saved) == saved);
     let low = Pair::of_word(words(0x4000, 0x4003));
     let high = Pair::of_word(words(0x4200, 0x4201));
     let both = low.join(&high);
-    assert_eq!(rt;
-        (both.word, both.high, both.low),
-        (words(0x4000, 0x4201), bytes(0x40, 0x42), bytes(0, 3))
-    );
+    assert!(rt; both.word == words(0x4000, 0x4201));
+    assert!(rt; both.high == bytes(0x40, 0x42));
+    assert!(rt; both.low == bytes(0, 3));
     assert!(rt; !low.meets(high) && both.meets(high) && both.covers(&low));
     assert!(rt; saved.is_full() && !low.is_full());
-    assert_eq!(rt; RegPair::AlternateHl.place(), 9);
+    assert!(rt; RegPair::AlternateHl.place() == 9);
 }
