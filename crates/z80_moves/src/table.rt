@@ -16,13 +16,13 @@ use crate::load_moves::{
 use crate::moves::{Move, Moves};
 use crate::operands::{
     index_pair_register, index_register, pair_register, pointer_register, stack_register,
-    worked_at, word_register,
+    word_register, worked_at,
 };
 use crate::registers::WordRegister;
 use z80_decode::{Instr, Memory, Place};
 
 /// What an instruction does, move by move, once the program counter stands behind it: the table in
-/// docs/INSTRUCTIONS.md, section "Effects". Instructions of input and output have no moves.
+/// docs/INSTRUCTIONS.md, section "Moves". Instructions of input and output have no moves.
 pub fn moves_for(instr: &Instr) -> Moves
     ensures { result ≡ moves_of instr.now }
 {

@@ -1,9 +1,7 @@
-// Does as many events of a mixed loop as its argument says, by the checked step, so that bench/run.sh can time it.
-#![tactic(auto)]
+// A mixed loop of loads, adds, calls, DJNZ and (IX+d) accesses, by the checked step.
 
-use address_map::{Region, Rom, Starts};
+use address_map::{Map, Region, Rom, Starts};
 use board_step::{Board, Env, Inputs, Profile, Reset};
-use std::{env, io};
 use z80_alu::Regs;
 
 /// LD SP,4400; LD IX,4000; LD B,0; then LD A,(IX+5); ADD A,3; LD (IX+5),A; LD HL,4010; ADD A,(HL);
@@ -29,26 +27,18 @@ fn quiet() -> Env {
     }
 }
 
-/// How many events the first argument asks for: 0 where there is none.
-fn events(rt: &HostRuntime) -> u64 {
-    let Ok(words) = env::args(rt) else {
-        return 0;
-    };
-    for word in words.skip(1) {
-        return word.as_str().parse().unwrap_or(0);
-    }
-    0
-}
-
-fn main(rt: HostRuntime) -> io::Result<()> {
+/// What the loop leaves after so many events: how many of them trapped, A and B.
+pub fn played(events: u64) -> (u64, u8, u8) {
     let Some(rom) = Rom::of(&PROGRAM) else {
-        return Ok(());
+        return (0, 0, 0);
     };
+    let map = Map::galaxian(rom.len());
     let mut starts = Starts::new();
     for at in 0..0x23 {
         starts.insert(at);
     }
     let profile = Profile {
+        map: &map,
         starts: &starts,
         region: Region {
             low: 0x4380,
@@ -64,14 +54,10 @@ fn main(rt: HostRuntime) -> io::Result<()> {
     });
     let env = quiet();
     let mut traps: u64 = 0;
-    for _ in 0..events(&rt) {
+    for _ in 0..events {
         if board.step_checked(&rom, &profile, &env).is_err() {
             traps = traps.wrapping_add(1);
         }
     }
-    println!(rt;
-        "{traps} traps, A {}, B {}",
-        board.regs().main.a,
-        board.regs().main.b
-    )
+    (traps, board.regs().main.a, board.regs().main.b)
 }

@@ -1,18 +1,16 @@
-// Orders 65,535 calls between 1,024 procedures as many times as its first argument says, and as many calls with a
-// circle as many times as its second one says, so that bench/order.sh can time each.
-#![tactic(auto)]
+// The order of 65,535 calls between 1,024 procedures, without a circle and with one.
 
 use call_graph::{Edge, GraphFault, ProcId, order};
 use std::alloc::{AllocError, Global};
-use std::{env, io};
 
 const PROCS: u16 = 1024;
 
-const CALLS: usize = 65_535;
+/// How many calls there are.
+pub const CALLS: usize = 65_535;
 
 /// This many calls from a procedure to a later one, the nearest first. Each procedure but the last calls the next,
 /// so the one order is 1023 to 0.
-fn calls_down(alloc: Global, count: usize) -> Result<Vec<Edge>, AllocError> {
+pub fn calls_down(alloc: Global, count: usize) -> Result<Vec<Edge>, AllocError> {
     let mut calls = Vec::new(alloc);
     for distance in 1..PROCS {
         add_calls(&mut calls, distance, count)?;
@@ -35,7 +33,7 @@ fn add_calls(calls: &mut Vec<Edge>, distance: u16, count: usize) -> Result<(), A
 }
 
 /// The same with a circle: 1023 calls 1022, which calls it. Nothing lower lies on one.
-fn calls_with_circle(alloc: Global) -> Result<Vec<Edge>, AllocError> {
+pub fn calls_with_circle(alloc: Global) -> Result<Vec<Edge>, AllocError> {
     let mut calls = calls_down(alloc, CALLS - 1)?;
     calls.push(Edge {
         caller: PROCS - 1,
@@ -54,7 +52,7 @@ fn ends(list: &[ProcId]) -> (usize, ProcId, ProcId) {
 }
 
 /// The answer to these calls, found this many times.
-fn answer(alloc: Global, calls: &[Edge], times: u64) -> (usize, ProcId, ProcId) {
+pub fn answer(alloc: Global, calls: &[Edge], times: u64) -> (usize, ProcId, ProcId) {
     let mut last = (0, 0, 0);
     for _ in 0..times {
         last = match order(alloc, calls) {
@@ -63,35 +61,4 @@ fn answer(alloc: Global, calls: &[Edge], times: u64) -> (usize, ProcId, ProcId) 
         };
     }
     last
-}
-
-/// The first two arguments: 0 where there is none.
-fn times(rt: &HostRuntime) -> (u64, u64) {
-    let Ok(words) = env::args(rt) else {
-        return (0, 0);
-    };
-    let mut numbers = words.skip(1);
-    let mut next = || match numbers.next() {
-        Some(word) => word.as_str().parse().unwrap_or(0),
-        None => 0,
-    };
-    (next(), next())
-}
-
-fn main(rt: HostRuntime) -> io::Result<()> {
-    let (orders, circles) = times(&rt);
-    let (Ok(calls), Ok(circle)) = (calls_down(rt.alloc(), CALLS), calls_with_circle(rt.alloc()))
-    else {
-        return println!(rt; "out of memory");
-    };
-    let (procs, first, last) = answer(rt.alloc(), &calls, orders);
-    println!(rt;
-        "{} calls: {procs} procedures from {first} to {last}",
-        calls.len()
-    )?;
-    let (procs, first, last) = answer(rt.alloc(), &circle, circles);
-    println!(rt;
-        "{} calls: a circle of {procs} from {first} to {last}",
-        circle.len()
-    )
 }

@@ -1,6 +1,23 @@
-use address_map::{RamKind, Region, Rom, Starts};
+// Steps of the board compared with what Debian's libz80ex 1.1.21 makes of them, at random registers. The lines of the
+// stored run were written by a throw-away C program, one instruction each; bench/steps.c writes any number.
+//
+// A line has 58 bytes in hexadecimal and then the instruction's name. The bytes are the ROM (4), the mask of the bits of F
+// that are compared, the registers AF BC DE HL IX IY SP AF' BC' DE' HL', after the instruction the same and I with IFF1 and
+// IFF2 as bits 1 and 0, the program counter, the T-states (1), and the sum of the bytes of work and video RAM, each times
+// its place from 1 (4). Before it I, IFF1, IFF2 and the program counter are 0, cell i of work RAM holds 7i + 3, and cell i
+// of video RAM 5i + 1, modulo 256. The mask leaves out what the manual leaves open: bits 5 and 3 where flags change, H
+// after DAA, S and P/V after BIT, and P/V after LD A,I.
+
+use address_map::{Map, RamKind, Region, Rom, Starts};
 use board_step::{Board, Env, Event, Inputs, Profile, Reset, Trap};
+use hex::FromHex;
 use z80_alu::{RegisterSet, Regs};
+
+/// The digits of a line as bytes, and the name of its instruction.
+pub fn row_of(line: &str) -> (Option<[u8; 58]>, &str) {
+    let (digits, name) = line.split_once(' ').unwrap_or(("", ""));
+    (<[u8; 58] as FromHex>::from_hex(digits).ok(), name)
+}
 
 /// Whether the step of a line is as the line says.
 pub fn agrees(row: &[u8; 58]) -> bool {
@@ -98,9 +115,14 @@ fn weighed(board: &Board) -> u32 {
 
 // One step with the stack in 4380 to 43FF, 0000 the only start, and an environment of zeros.
 fn stepped(board: &mut Board, rom: &[u8]) -> Result<Event, Trap> {
+    let Some(rom) = Rom::of(rom) else {
+        return Err(Trap::FetchOutside);
+    };
+    let map = Map::galaxian(rom.len());
     let mut starts = Starts::new();
     starts.insert(0);
     let profile = Profile {
+        map: &map,
         starts: &starts,
         region: Region {
             low: 0x4380,
@@ -119,8 +141,5 @@ fn stepped(board: &mut Board, rom: &[u8]) -> Result<Event, Trap> {
         r: 0,
         latch: false,
     };
-    match Rom::of(rom) {
-        Some(rom) => board.step_checked(&rom, &profile, &env),
-        None => Err(Trap::FetchOutside),
-    }
+    board.step_checked(&rom, &profile, &env)
 }
