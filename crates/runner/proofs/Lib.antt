@@ -1,5 +1,6 @@
 pub mod FeedLemmas
 pub mod InputLemmas
+pub mod JudgedLemmas
 pub mod LeadsLemmas
 pub mod MachineLemmas
 pub mod OutputLemmas

@@ -1,5 +1,5 @@
 -- What was read of an input and not yet used, and its next line.
-use Rattle.std.specs.Prelude.{ℕ, ◌<◌, ◌≤◌, ◌≡◌, ◌≢◌, ◌⊎◌, if◌then◌else◌, Bool, List, [], ◌∷◌, ◌++◌, length, Option, Some, None, IfSome}
+use Rattle.std.specs.Prelude.{ℕ, ◌<◌, ◌≤◌, ◌≡◌, ◌≢◌, ◌⊎◌, if◌then◌else◌, Bool, List, [], ◌∷◌, ◌++◌, length, Option, Some, None, IfSome, IsTrue}
 use Rattle.std.specs.List.{AllByRecursion}
 use Rattle.certificate.specs.Device.{Gives}
 use Rattle.runner.specs.declared.pending.Line.{Line}
@@ -55,3 +55,20 @@ NextLine bytes End left = (bytes ≡ []) × (left ≡ [])
 abbrev pub GivesLine : Option (List ℕ) → Line → Option (List ℕ) → Type 0
 GivesLine (Some bytes) line new = (left : List ℕ) × (new ≡ Some left) × NextLine bytes line left
 GivesLine None line new = Unit {0}
+
+-- where the end was read, a source that tells its bytes has none left
+abbrev pub EndsWell : Unused → Option (List ℕ) → Type 0
+EndsWell unused rest = IsTrue unused.ended → IfSome rest (λ bytes. bytes ≡ [])
+
+-- a line feed is among these bytes
+abbrev pub HasFeed : List ℕ → Type 0
+HasFeed bytes = (text : List ℕ) × (more : List ℕ) × (bytes ≡ text ++ 10 ∷ more)
+
+-- what was read of a line is enough to judge it: its line feed, 31 bytes, or all that there is
+abbrev pub IsEnough : List ℕ → List ℕ → Type 0
+IsEnough line rest = HasFeed line ⊎ ((31 ≤ length line) ⊎ (rest ≡ []))
+
+-- enough of a line was taken off what is left of an input
+abbrev pub TakesEnough : Option (List ℕ) → Option (List ℕ) → Type 0
+TakesEnough (Some bytes) new = (line : List ℕ) × (left : List ℕ) × (new ≡ Some left) × (bytes ≡ line ++ left) × IsEnough line left
+TakesEnough None new = Unit {0}

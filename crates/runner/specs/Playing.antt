@@ -10,6 +10,7 @@ use Rattle.certificate.specs.Device.{Gives, TakesPart}
 use Rattle.runner.specs.Input.{IsResetLine, IsEnvLine, reset_text, env_text, env_of}
 use Rattle.runner.specs.Machine.{RunsTo}
 use Rattle.runner.specs.Output.{summary_text}
+use Rattle.runner.specs.Pending.{HasNoFeed, IsEnough}
 use Rattle.runner.specs.declared.input.EnvLine.{EnvLine}
 use Rattle.runner.specs.declared.input.ResetLine.{ResetLine}
 use Rattle.runner.specs.declared.machine.Summary.{Summary}
@@ -114,3 +115,23 @@ TakesReset old line new = IsResetLine line × Gives old (reset_text line ++ 10 �
 abbrev pub TakesEnv : Option (List ℕ) → Option EnvLine → Option (List ℕ) → Type 0
 TakesEnv old (Some line) new = IsEnvLine line × Gives old (env_text line ++ 10 ∷ []) new
 TakesEnv old None new = IfSome old (λ bytes. bytes ≡ [])
+
+-- lines as bytes, each with its line feed
+abbrev pub with_feeds : List (List ℕ) → List ℕ
+with_feeds lines = flat_map (λ line. line ++ 10 ∷ []) lines
+
+-- of an input all is read but the rest, and that is enough to judge the line of this number
+pub record IsJudged (number : ℕ) (all rest : List ℕ) : Type 0 where
+  -- the lines before it, and what was read from its first byte on
+  pub lines : List (List ℕ)
+  pub line : List ℕ
+  pub each : AllByRecursion HasNoFeed lines
+  pub number_is : number ≡ length lines + 1
+  pub parts : all ≡ (with_feeds lines ++ line) ++ rest
+  pub enough : IsEnough line rest
+
+-- a line was judged at its line feed, its 31st byte or the end, and not earlier: from what the source had before and after,
+-- where it tells
+abbrev pub WasJudged : ℕ → Option (List ℕ) → Option (List ℕ) → Type 0
+WasJudged number (Some all) new = (rest : List ℕ) × (new ≡ Some rest) × IsJudged number all rest
+WasJudged number None new = Unit {0}

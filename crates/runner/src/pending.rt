@@ -2,7 +2,7 @@
 
 ghost use Rattle.std.specs.Prelude.{◌≡◌, ◌<◌, ◌≤◌, [], ◌∷◌, false, IfErr, IfOk, IsTrue, MatchOption, OnOk};
 ghost use Rattle.certificate.specs.Device.{HasGrown, Gives};
-ghost use Rattle.runner.specs.Pending.{GivesLine, TakesByte, left_of};
+ghost use Rattle.runner.specs.Pending.{EndsWell, GivesLine, TakesByte, left_of};
 
 use crate::fault::PlayFault;
 use arrayvec::ArrayVec;
@@ -64,6 +64,7 @@ impl Pending {
         ensures same { OnOk result (Gives (left_of self.old (R.rest input.old)) [] (left_of self.new (R.rest input.new))) }
         ensures end { OnOk result (self.new.bytes ≡ [] → IsTrue self.new.ended) }
         ensures quiet { IsTrue self.old.ended → (input.new ≡ input.old) × IsTrue self.new.ended }
+        ensures at_end { OnOk result (EndsWell self.old (R.rest input.old) → EndsWell self.new (R.rest input.new)) }
         ensures kept { OnOk result (R.failure_count input.new ≡ R.failure_count input.old) }
         ensures failed { IfErr result (λ fault. (fault ≡ PlayFault.Read) × HasGrown (R.failure_count input.old) (R.failure_count input.new)) }
     {
@@ -98,6 +99,7 @@ impl Pending {
     fn next_byte<R: Source>(&mut self, input: &mut R) -> Result<Option<u8>, PlayFault>
         ensures byte { IfOk result (λ byte. TakesByte (left_of self.old (R.rest input.old)) byte (left_of self.new (R.rest input.new))) }
         ensures quiet { IsTrue self.old.ended → (input.new ≡ input.old) × IsTrue self.new.ended }
+        ensures at_end { OnOk result (EndsWell self.old (R.rest input.old) → EndsWell self.new (R.rest input.new)) }
         ensures kept { OnOk result (R.failure_count input.new ≡ R.failure_count input.old) }
         ensures failed { IfErr result (λ fault. (fault ≡ PlayFault.Read) × HasGrown (R.failure_count input.old) (R.failure_count input.new)) }
     {
@@ -110,6 +112,7 @@ impl Pending {
     pub fn next_line<R: Source>(&mut self, input: &mut R) -> Result<Line, PlayFault>
         ensures line { IfOk result (λ line. GivesLine (left_of self.old (R.rest input.old)) line (left_of self.new (R.rest input.new))) }
         ensures quiet { IsTrue self.old.ended → (input.new ≡ input.old) × IsTrue self.new.ended }
+        ensures at_end { OnOk result (EndsWell self.old (R.rest input.old) → EndsWell self.new (R.rest input.new)) }
         ensures kept { OnOk result (R.failure_count input.new ≡ R.failure_count input.old) }
         ensures failed { IfErr result (λ fault. (fault ≡ PlayFault.Read) × HasGrown (R.failure_count input.old) (R.failure_count input.new)) }
     {

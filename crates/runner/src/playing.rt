@@ -5,8 +5,8 @@ ghost use Rattle.cert_checker.specs.Certified.{hardware_on};
 ghost use Rattle.certificate.specs.Device.{HasGrown, Takes};
 ghost use Rattle.runner.specs.Input.{IsResetLine, IsEnvLine, reset_text, env_text};
 ghost use Rattle.runner.specs.Output.{summary_text};
-ghost use Rattle.runner.specs.Pending.{left_of};
-ghost use Rattle.runner.specs.Playing.{BeginsText, BeginsWithNo, IsBadLine, OfBytes, Played, TakesEnv, TakesReset, regs_of, reset_of};
+ghost use Rattle.runner.specs.Pending.{EndsWell, TakesEnough, left_of};
+ghost use Rattle.runner.specs.Playing.{BeginsText, BeginsWithNo, IsBadLine, OfBytes, Played, TakesEnv, TakesReset, WasJudged, regs_of, reset_of};
 
 use crate::fault::PlayFault;
 use crate::input::{EnvLine, ResetLine};
@@ -35,6 +35,8 @@ pub fn play<R: Source, W: Sink>(
     ensures written { IfOk result (λ summary. Takes (W.taken out.old) (summary_text summary) (W.taken out.new)) }
     // Which line is bad, and that nothing was written for it.
     ensures bad { (line : ℕ) → result ≡ Err (PlayFault.Line line) → OfBytes (R.rest input.old) (IsBadLine steps line) }
+    // It is judged at its line feed, its 31st byte or the end of the input, and not earlier.
+    ensures judged { (line : ℕ) → result ≡ Err (PlayFault.Line line) → WasJudged line (R.rest input.old) (R.rest input.new) }
     ensures untouched { IfErr result (λ fault. fault ≢ PlayFault.Write → out.new ≡ out.old) }
     // When a device's fault is told.
     ensures read { result ≡ Err PlayFault.Read → HasGrown (R.failure_count input.old) (R.failure_count input.new) }
@@ -60,6 +62,7 @@ fn play_input<R: Source>(
 ) -> Result<Summary, PlayFault>
     ensures played { IfOk result (λ summary. OfBytes (R.rest input.old) (Played (hardware_on accepted.now) steps summary)) }
     ensures line { (line : ℕ) → result ≡ Err (PlayFault.Line line) → OfBytes (R.rest input.old) (IsBadLine steps line) }
+    ensures judged { (line : ℕ) → result ≡ Err (PlayFault.Line line) → WasJudged line (R.rest input.old) (R.rest input.new) }
     ensures kept { OnOk result (R.failure_count input.new ≡ R.failure_count input.old) }
     ensures read { result ≡ Err PlayFault.Read → HasGrown (R.failure_count input.old) (R.failure_count input.new) }
     ensures told { result ≢ Err PlayFault.Read → R.failure_count input.new ≡ R.failure_count input.old }
@@ -87,6 +90,8 @@ fn play_input<R: Source>(
 fn first_line<R: Source>(pending: &mut Pending, input: &mut R) -> Result<ResetLine, PlayFault>
     ensures line { IfOk result (λ line. TakesReset (left_of pending.old (R.rest input.old)) line (left_of pending.new (R.rest input.new))) }
     ensures bad { (line : ℕ) → result ≡ Err (PlayFault.Line line) → (line ≡ 1) × IfSome (left_of pending.old (R.rest input.old)) (BeginsWithNo reset_text IsResetLine) }
+    ensures judged { (line : ℕ) → result ≡ Err (PlayFault.Line line) → TakesEnough (left_of pending.old (R.rest input.old)) (left_of pending.new (R.rest input.new)) }
+    ensures at_end { result ≢ Err PlayFault.Read → EndsWell pending.old (R.rest input.old) → EndsWell pending.new (R.rest input.new) }
     ensures kept { OnOk result (R.failure_count input.new ≡ R.failure_count input.old) }
     ensures read { result ≡ Err PlayFault.Read → HasGrown (R.failure_count input.old) (R.failure_count input.new) }
     ensures told { result ≢ Err PlayFault.Read → R.failure_count input.new ≡ R.failure_count input.old }
@@ -111,6 +116,8 @@ fn next_env<R: Source>(
     ensures line { IfOk result (λ line. TakesEnv (left_of pending.old (R.rest input.old)) line (left_of pending.new (R.rest input.new))) }
     ensures some { (line : ℕ) → result ≡ Err (PlayFault.Line line) → (line ≡ number) × IfSome (left_of pending.old (R.rest input.old)) (λ bytes. bytes ≢ []) }
     ensures bad { (line : ℕ) → result ≡ Err (PlayFault.Line line) → IfSome (left_of pending.old (R.rest input.old)) (BeginsWithNo env_text IsEnvLine) }
+    ensures judged { (line : ℕ) → result ≡ Err (PlayFault.Line line) → TakesEnough (left_of pending.old (R.rest input.old)) (left_of pending.new (R.rest input.new)) }
+    ensures at_end { result ≢ Err PlayFault.Read → EndsWell pending.old (R.rest input.old) → EndsWell pending.new (R.rest input.new) }
     ensures kept { OnOk result (R.failure_count input.new ≡ R.failure_count input.old) }
     ensures read { result ≡ Err PlayFault.Read → HasGrown (R.failure_count input.old) (R.failure_count input.new) }
     ensures told { result ≢ Err PlayFault.Read → R.failure_count input.new ≡ R.failure_count input.old }

@@ -1,4 +1,4 @@
--- Whether a whole number is outside the signed numbers of a byte or of a word.
+-- Trusted: whether a whole number is outside the signed numbers of a byte or of a word.
 use Rattle.std.specs.Prelude.{Bool, not, ◌&&◌, ℤ, pos, neg_ℤ, int_le}
 
 -- whether a whole number lies outside -128 to 127, the signed bytes

@@ -4,7 +4,8 @@ use Rattle.std.proofs.lemmas.Bool.{eqb-true}
 use Rattle.z80_decode.specs.declared.operands.Index.{Index}
 use Rattle.z80_decode.specs.declared.operands.Index.TheVariants as indexes
 use Rattle.z80_decode.specs.declared.instr.Instr.{Instr}
-use Rattle.z80_decode.specs.Operands.{place_of, prefix}
+use Rattle.z80_decode.specs.Operands.{prefix}
+use Rattle.z80_decode.specs.Codes.{place_of}
 use Rattle.z80_decode.specs.Spelling.{spelling}
 use Rattle.z80_decode.specs.UnprefixedPage.{unprefixed}
 use Rattle.z80_decode.specs.CbPage.{behind_cb}

@@ -1,10 +1,10 @@
--- What the decoder makes of an opcode behind the prefix CB, by its fields xx yyy zzz.
+-- Helper: what the decoder makes of an opcode behind the prefix CB, by its fields xx yyy zzz.
 use Rattle.std.specs.Prelude.{ℕ, ◌/◌, ◌%◌, Option, Some, None, if◌then◌else◌, ◌==◌}
 use Rattle.z80_decode.specs.declared.operands.Place.{Place}
 use Rattle.z80_decode.specs.declared.kinds.ShiftKind.{ShiftKind}
 use Rattle.z80_decode.specs.declared.instr.Instr.{Instr}
 use Rattle.z80_decode.specs.declared.instr.Instr.TheVariants as instrs
-use Rattle.z80_decode.specs.Kinds.{shift_of, bit_of}
+use Rattle.z80_decode.specs.Codes.{shift_of, bit_of}
 
 abbrev pub shift_at : Place → Option ShiftKind → Option Instr
 shift_at place (Some kind) = Some (instrs.Shift kind place)

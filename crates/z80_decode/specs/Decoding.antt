@@ -1,11 +1,11 @@
--- What the decoder makes of a window of four bytes. The definitions here and of the pages are the steps of the code: what `decode` promises is said by `spelling` alone.
+-- Helper: what the decoder makes of a window of four bytes. The definitions here and of the pages are the steps of the code: what `decode` promises is said by `spelling` alone.
 use Rattle.std.specs.Prelude.{ℕ, ◌+◌, ◌*◌, ◌%◌, List, Option, None, if◌then◌else◌, ◌==◌, slice_index_or}
 use Rattle.z80_decode.specs.declared.operands.Index.{Index}
 use Rattle.z80_decode.specs.declared.operands.Index.TheVariants as indexes
 use Rattle.z80_decode.specs.declared.operands.Memory.TheVariants as memories
 use Rattle.z80_decode.specs.declared.operands.Place.TheVariants as places
 use Rattle.z80_decode.specs.declared.instr.Instr.{Instr}
-use Rattle.z80_decode.specs.Operands.{place_of}
+use Rattle.z80_decode.specs.Codes.{place_of}
 use Rattle.z80_decode.specs.UnprefixedPage.{unprefixed}
 use Rattle.z80_decode.specs.CbPage.{behind_cb}
 use Rattle.z80_decode.specs.EdPage.{behind_ed}

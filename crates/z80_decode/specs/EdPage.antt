@@ -1,4 +1,4 @@
--- What the decoder makes of an opcode behind the prefix ED.
+-- Helper: what the decoder makes of an opcode behind the prefix ED.
 use Rattle.std.specs.Prelude.{ℕ, ◌/◌, ◌%◌, Option, Some, None, if◌then◌else◌, ◌==◌, nat_lt}
 use Rattle.z80_decode.specs.declared.operands.Register8.{Register8}
 use Rattle.z80_decode.specs.declared.operands.Direct.TheVariants as directs
@@ -6,8 +6,8 @@ use Rattle.z80_decode.specs.declared.operands.Special.TheVariants as specials
 use Rattle.z80_decode.specs.declared.kinds.MaskableMode.TheVariants as modes
 use Rattle.z80_decode.specs.declared.instr.Instr.{Instr}
 use Rattle.z80_decode.specs.declared.instr.Instr.TheVariants as instrs
-use Rattle.z80_decode.specs.Operands.{register_of, word_of, pair_of}
-use Rattle.z80_decode.specs.Kinds.{block_of}
+use Rattle.z80_decode.specs.Codes.{register_of, word_of, pair_of}
+use Rattle.z80_decode.specs.Codes.{block_of}
 
 abbrev pub input_to : Option Register8 → Option Instr
 input_to (Some r) = Some (instrs.InputRegister r)

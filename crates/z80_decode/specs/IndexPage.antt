@@ -1,4 +1,4 @@
--- What the decoder makes of an opcode behind the prefix DD or FD.
+-- Helper: what the decoder makes of an opcode behind the prefix DD or FD.
 use Rattle.std.specs.Prelude.{ℕ, ◌/◌, ◌%◌, Option, Some, None, if◌then◌else◌, ◌==◌}
 use Rattle.std.specs.Option.{option_or}
 use Rattle.z80_decode.specs.declared.operands.Register8.{Register8}
@@ -18,8 +18,8 @@ use Rattle.z80_decode.specs.declared.operands.Operand.TheVariants as operands
 use Rattle.z80_decode.specs.declared.operands.Direct.TheVariants as directs
 use Rattle.z80_decode.specs.declared.instr.Instr.{Instr}
 use Rattle.z80_decode.specs.declared.instr.Instr.TheVariants as instrs
-use Rattle.z80_decode.specs.Operands.{register_of}
-use Rattle.z80_decode.specs.Kinds.{operation_of}
+use Rattle.z80_decode.specs.Codes.{register_of}
+use Rattle.z80_decode.specs.Codes.{operation_of}
 
 abbrev pub as_word : Index → Register16
 as_word indexes.Ix = words.Ix

@@ -1,6 +1,7 @@
 -- The definitions: the spelling table with its codes, and the steps of the decoder.
 pub mod Operands
 pub mod Kinds
+pub mod Codes
 pub mod Spelling
 pub mod UnprefixedPage
 pub mod CbPage

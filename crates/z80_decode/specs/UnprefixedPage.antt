@@ -1,4 +1,4 @@
--- What the decoder makes of an opcode without a prefix, by its fields xx yyy zzz.
+-- Helper: what the decoder makes of an opcode without a prefix, by its fields xx yyy zzz.
 use Rattle.std.specs.Prelude.{ℕ, ◌/◌, ◌%◌, Option, Some, None, if◌then◌else◌, ◌==◌}
 use Rattle.z80_decode.specs.declared.operands.Place.{Place}
 use Rattle.z80_decode.specs.declared.operands.Place.TheVariants as places
@@ -9,8 +9,8 @@ use Rattle.z80_decode.specs.declared.operands.Pointer.TheVariants as pointers
 use Rattle.z80_decode.specs.declared.kinds.AccumulatorRotate.TheVariants as rotates
 use Rattle.z80_decode.specs.declared.instr.Instr.{Instr}
 use Rattle.z80_decode.specs.declared.instr.Instr.TheVariants as instrs
-use Rattle.z80_decode.specs.Operands.{place_of, word_of, stack_pair_of, pair_of}
-use Rattle.z80_decode.specs.Kinds.{condition_of, short_condition_of, operation_of, restart_of}
+use Rattle.z80_decode.specs.Codes.{place_of, word_of, stack_pair_of, pair_of}
+use Rattle.z80_decode.specs.Codes.{condition_of, short_condition_of, operation_of, restart_of}
 
 -- 00 yyy 000
 abbrev pub relative_jump : ℕ → ℕ → Instr

@@ -1,6 +1,6 @@
 // The kinds that an instruction has in its opcode: conditions, operations, bits.
 ghost use Rattle.std.specs.Prelude.{◌≡◌};
-ghost use Rattle.z80_decode.specs.Kinds.{condition_of, short_condition_of, operation_of, shift_of, block_of, bit_of, restart_of};
+ghost use Rattle.z80_decode.specs.Codes.{condition_of, short_condition_of, operation_of, shift_of, block_of, bit_of, restart_of};
 
 /// A condition of JP, CALL and RET: `cc` of the manual.
 #[derive(Clone, Copy)]
