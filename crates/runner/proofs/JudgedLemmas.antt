@@ -1,5 +1,5 @@
 -- A line is judged when enough of it was read.
-use Rattle.std.proofs.Common.{◌≡◌, ◌<◌, ◌≤◌, ◌+◌, ◌⊎◌, inl, inr, ℕ, Bool, true, false, IsTrue, if◌then◌else◌, List, [], ◌∷◌, ◌++◌, Option, Some, None, IfSome, length, map, flat_map, refl, sym, ap, subst, ◌∙◌, append_assoc, arith, length-append}
+use Rattle.std.proofs.Common.{◌≡◌, ◌<◌, ◌≤◌, ◌+◌, ◌⊎◌, inl, inr, ℕ, Bool, true, false, IsTrue, if◌then◌else◌, List, [], ◌∷◌, ◌++◌, Option, Some, None, IfSome, IsSome, length, map, flat_map, refl, sym, ap, subst, ◌∙◌, append_assoc, arith, length-append}
 use Rattle.std.specs.List.{AllByRecursion}
 use Rattle.std.proofs.lemmas.List.{append-nil}
 use Rattle.arrayvec.specs.ArrayVec.{ArrayVec}
@@ -51,7 +51,7 @@ judged_in : (number : ℕ) (all : List ℕ) (lines : List (List ℕ)) (unused : 
 judged_in number all lines unused None line left bytes whole each is parts kept ends enough = cc
 judged_in number all lines unused (Some rest) line left bytes whole each is parts kept ends enough =
     let same : unused.bytes ++ (if unused.ended then [] else rest) ≡ left = inner _ _ kept in
-    let both : unused.bytes ++ rest ≡ left = sym (left_is unused.bytes rest unused.ended ends) ∙ same in (
+    let both : unused.bytes ++ rest ≡ left = sym (left_is unused.bytes rest unused.ended ends.at_end) ∙ same in (
       rest,
       refl,
       record {
@@ -60,8 +60,8 @@ judged_in number all lines unused (Some rest) line left bytes whole each is part
         each = each;
         number_is = is;
         parts =
-        whole ∙ ap (λ (b : List ℕ). with_feeds lines ++ b) (parts ∙ ap (λ (l : List ℕ). line ++ l) (sym both) ∙ sym (append_assoc line unused.bytes rest))
-        ∙ sym (append_assoc (with_feeds lines) (line ++ unused.bytes) rest);
+            whole ∙ ap (λ (b : List ℕ). with_feeds lines ++ b) (parts ∙ ap (λ (l : List ℕ). line ++ l) (sym both) ∙ sym (append_assoc line unused.bytes rest))
+            ∙ sym (append_assoc (with_feeds lines) (line ++ unused.bytes) rest);
         enough = more_enough line unused.bytes rest left both enough;
       },
     )
@@ -71,11 +71,11 @@ judged_in number all lines unused (Some rest) line left bytes whole each is part
 
 -- a line behind others was judged
 pub judged : (number : ℕ) (old mid : Option (List ℕ)) (lines : List (List ℕ)) (unused : Unused) (rest : Option (List ℕ)) → Gives old (with_feeds lines) mid → AllByRecursion HasNoFeed lines →
-    number ≡ length lines + 1 → TakesEnough mid (left_of unused rest) → EndsWell unused rest → WasJudged number old rest
+    number ≡ length lines + 1 → TakesEnough mid (left_of unused rest) → (IsSome old → EndsWell unused rest) → WasJudged number old rest
 judged number None mid lines unused rest given each is takes ends = tt
 judged number (Some all) mid lines unused rest (bytes, mid_is, whole) each is takes ends =
     let (line, left, kept, parts, enough) = subst (λ (o : Option (List ℕ)). TakesEnough o (left_of unused rest)) mid_is takes in
-    judged_in number all lines unused rest line left bytes whole each is parts kept ends enough
+    judged_in number all lines unused rest line left bytes whole each is parts kept (ends refl) enough
 
 -- ---- the lines that were played
 
@@ -93,10 +93,22 @@ texts_count (l ∷ lines) = omega (arith, texts_count lines)
 
 -- a line behind a reset line and lines of environments was judged
 pub judged_later : (number : ℕ) (old mid : Option (List ℕ)) (reset : ResetLine) (lines : List EnvLine) (unused : Unused) (rest : Option (List ℕ)) → Gives old (reset_text reset ++ 10 ∷ text_of lines) mid →
-    IsResetLine reset → AllByRecursion IsEnvLine lines → number ≡ length lines + 2 → TakesEnough mid (left_of unused rest) → EndsWell unused rest → WasJudged number old rest
+    IsResetLine reset → AllByRecursion IsEnvLine lines → number ≡ length lines + 2 → TakesEnough mid (left_of unused rest) → (IsSome old → EndsWell unused rest) → WasJudged number old rest
 judged_later number old mid reset lines unused rest given reset_form form is takes ends =
     let all = reset_text reset ∷ map (λ line. env_text line) lines in
     let text : reset_text reset ++ 10 ∷ text_of lines ≡ with_feeds all =
     sym (append_assoc (reset_text reset) (10 ∷ []) (text_of lines)) ∙ ap (λ (t : List ℕ). (reset_text reset ++ 10 ∷ []) ++ t) (sym (texts_are lines)) in
     judged number old mid all unused rest (subst (λ (t : List ℕ). Gives old t mid) text given) (no_feed_reset reset reset_form, texts_feedless lines form)
     (omega (arith, is, texts_count lines)) takes ends
+
+-- of an input of which nothing was read, nothing was read
+pub gives_nothing : (o : Option (List ℕ)) → Gives o [] o
+gives_nothing None = tt
+gives_nothing (Some bytes) = (bytes, refl, refl)
+
+pub fresh_ends : (unused : Unused) (rest : Option (List ℕ)) → unused.ended ≡ false → IsSome rest → EndsWell unused rest
+fresh_ends unused rest going told = record { told = told; at_end = λ ended. absurd (never unused.ended going ended) }
+  where
+    never : (b : Bool) → b ≡ false → IsTrue b → ⊥
+    never true e t = cc
+    never false e t = cc

@@ -1,4 +1,4 @@
-use Rattle.std.proofs.Common.{◌≡◌, ◌≢◌, inl, ℕ, List, [], ◌∷◌, ◌++◌, Option, Some, None, length, arith, length-append}
+use Rattle.std.proofs.Common.{◌≡◌, ◌≢◌, inl, ℕ, List, [], ◌∷◌, ◌++◌, Option, Some, None, IfSome, IsSome, length, refl, sym, ap, subst, ◌∙◌, arith, length-append}
 use Rattle.certificate.specs.Device.{Gives}
 use Rattle.certificate.proofs.DeviceLemmas.{gives_both}
 use Rattle.runner.specs.Pending.{TakesByte, HasNoFeed, GivesLine}
@@ -23,3 +23,19 @@ line_too_long (Some old) now after text byte given none long other next =
         parts = parts;
       },
     )
+
+-- a source that tells its bytes goes on to tell them
+pub told_on : (old new : Option (List ℕ)) (bytes : List ℕ) → Gives old bytes new → IsSome old → IsSome new
+told_on None new bytes given told = cc
+told_on (Some all) new bytes (left, is, parts) told = subst (λ (o : Option (List ℕ)). IsSome o) (sym is) refl
+
+-- where it has nothing left, it has nothing left after a read
+pub still_none : (old new : Option (List ℕ)) (bytes : List ℕ) → Gives old bytes new → IsSome old → IfSome old (λ b. b ≡ []) → IfSome new (λ b. b ≡ [])
+still_none None new bytes given told none = cc
+still_none (Some all) new bytes (left, is, parts) told none =
+    let empty : left ≡ [] = nothing bytes left (sym parts ∙ none) in
+    subst (λ (o : Option (List ℕ)). IfSome o (λ b. b ≡ [])) (sym is) empty
+  where
+    nothing : (xs ys : List ℕ) → xs ++ ys ≡ [] → ys ≡ []
+    nothing xs [] e = refl
+    nothing xs (y ∷ ys) e = absurd (omega (arith, ap length e, length-append xs (y ∷ ys)))

@@ -1,5 +1,5 @@
 -- What was read of an input and not yet used, and its next line.
-use Rattle.std.specs.Prelude.{ℕ, ◌<◌, ◌≤◌, ◌≡◌, ◌≢◌, ◌⊎◌, if◌then◌else◌, Bool, List, [], ◌∷◌, ◌++◌, length, Option, Some, None, IfSome, IsTrue}
+use Rattle.std.specs.Prelude.{ℕ, ◌<◌, ◌≤◌, ◌≡◌, ◌≢◌, ◌⊎◌, if◌then◌else◌, Bool, List, [], ◌∷◌, ◌++◌, length, Option, Some, None, IfSome, IsSome, IsTrue}
 use Rattle.std.specs.List.{AllByRecursion}
 use Rattle.certificate.specs.Device.{Gives}
 use Rattle.runner.specs.declared.pending.Line.{Line}
@@ -56,9 +56,10 @@ abbrev pub GivesLine : Option (List ℕ) → Line → Option (List ℕ) → Type
 GivesLine (Some bytes) line new = (left : List ℕ) × (new ≡ Some left) × NextLine bytes line left
 GivesLine None line new = Unit {0}
 
--- where the end was read, a source that tells its bytes has none left
-abbrev pub EndsWell : Unused → Option (List ℕ) → Type 0
-EndsWell unused rest = IsTrue unused.ended → IfSome rest (λ bytes. bytes ≡ [])
+-- a source tells its bytes, and where the end was read it has none left
+pub record EndsWell (unused : Unused) (rest : Option (List ℕ)) : Type 0 where
+  pub told : IsSome rest
+  pub at_end : IsTrue unused.ended → IfSome rest (λ bytes. bytes ≡ [])
 
 -- a line feed is among these bytes
 abbrev pub HasFeed : List ℕ → Type 0

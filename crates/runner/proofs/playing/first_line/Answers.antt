@@ -2,7 +2,8 @@ use Rattle.std.proofs.Common.{◌≡◌, None}
 use Rattle.certificate.specs.Fields.{Reads}
 use Rattle.runner.specs.Input.{IsResetLine, reset_text}
 use Rattle.runner.specs.Pending.{GivesLine, left_of}
-use Rattle.runner.specs.declared.pending.Line.TheVariants.{Text, Bad}
+use Rattle.runner.specs.declared.pending.Line.TheVariants.{Text, Bad, End}
+use Rattle.runner.proofs.JudgedLemmas.{text_enough, bad_enough, end_enough}
 use Rattle.runner.proofs.FeedLemmas.{no_line, no_line_bad}
 use Rattle.runner.proofs.InputLemmas.{no_feed_reset, short_reset}
 use Rattle.runner.proofs.playing.first_line.Goals as goal
@@ -23,3 +24,24 @@ returns-in-Bad-clause-bad g c line e =
     let gives : GivesLine old Bad new = rw c.in-Bad.is at c.in_ok-text.ensures.line in
     let first : line ≡ 1 = cc in
     (first, no_line_bad reset_text IsResetLine short_reset old new gives)
+
+pub returns-in-None-clause-judged : goal.returns-in-None-clause-judged
+returns-in-None-clause-judged g c line e =
+    let old = left_of c.args.pending.now (g.R.Source.rest c.args.input.now) in
+    let new = left_of c.next_line.new.self (g.R.Source.rest c.next_line.new.input) in
+    let gives : GivesLine old (Text c.in-Text.text) new = rw c.in-Text.is at c.in_ok-text.ensures.line in
+    text_enough old new c.in-Text.text gives
+
+pub returns-in-Bad-clause-judged : goal.returns-in-Bad-clause-judged
+returns-in-Bad-clause-judged g c line e =
+    let old = left_of c.args.pending.now (g.R.Source.rest c.args.input.now) in
+    let new = left_of c.next_line.new.self (g.R.Source.rest c.next_line.new.input) in
+    let gives : GivesLine old Bad new = rw c.in-Bad.is at c.in_ok-text.ensures.line in
+    bad_enough old new gives
+
+pub returns-in-End-clause-judged : goal.returns-in-End-clause-judged
+returns-in-End-clause-judged g c line e =
+    let old = left_of c.args.pending.now (g.R.Source.rest c.args.input.now) in
+    let new = left_of c.next_line.new.self (g.R.Source.rest c.next_line.new.input) in
+    let gives : GivesLine old End new = rw c.in-End.is at c.in_ok-text.ensures.line in
+    end_enough old new gives

@@ -3,6 +3,7 @@ use Rattle.certificate.specs.Fields.{Reads}
 use Rattle.runner.specs.Input.{IsEnvLine, env_text}
 use Rattle.runner.specs.Pending.{GivesLine, left_of}
 use Rattle.runner.specs.declared.pending.Line.TheVariants.{Text, Bad}
+use Rattle.runner.proofs.JudgedLemmas.{text_enough, bad_enough}
 use Rattle.runner.proofs.FeedLemmas.{no_line, no_line_bad, bad_some}
 use Rattle.runner.proofs.InputLemmas.{no_feed_env, short_env}
 use Rattle.runner.proofs.playing.next_env.Goals as goal
@@ -29,3 +30,17 @@ returns-in-Bad-clause-bad g c line e =
     let new = left_of c.next_line.new.self (g.R.Source.rest c.next_line.new.input) in
     let gives : GivesLine old Bad new = rw c.in-Bad.is at c.in_ok-text.ensures.line in
     no_line_bad env_text IsEnvLine short_env old new gives
+
+pub returns-in-None-clause-judged : goal.returns-in-None-clause-judged
+returns-in-None-clause-judged g c line e =
+    let old = left_of c.args.pending.now (g.R.Source.rest c.args.input.now) in
+    let new = left_of c.next_line.new.self (g.R.Source.rest c.next_line.new.input) in
+    let gives : GivesLine old (Text c.in-Text.text) new = rw c.in-Text.is at c.in_ok-text.ensures.line in
+    text_enough old new c.in-Text.text gives
+
+pub returns-in-Bad-clause-judged : goal.returns-in-Bad-clause-judged
+returns-in-Bad-clause-judged g c line e =
+    let old = left_of c.args.pending.now (g.R.Source.rest c.args.input.now) in
+    let new = left_of c.next_line.new.self (g.R.Source.rest c.next_line.new.input) in
+    let gives : GivesLine old Bad new = rw c.in-Bad.is at c.in_ok-text.ensures.line in
+    bad_enough old new gives

@@ -1,14 +1,16 @@
-use Rattle.std.proofs.Common.{◌≡◌, ◌<◌, ◌∙◌, min, inl, inr, sym, ap, subst, arith, ℕ, List, Option, None, Some, Err, replicate, rules}
+use Rattle.std.proofs.Common.{◌≡◌, ◌<◌, ◌∙◌, min, inl, inr, sym, ap, subst, arith, ℕ, List, Option, None, Some, [], Result, Err, replicate, rules}
 use Rattle.board_step.specs.Reset.{reset_state}
 use Rattle.board_step.specs.State.{State}
 use Rattle.board_step.specs.declared.env.Env.{Env}
 use Rattle.cert_checker.specs.Certified.{Certified, hardware_on}
 use Rattle.runner.specs.Input.{env_of}
 use Rattle.runner.specs.Leads.{TakesTime}
-use Rattle.runner.specs.Pending.{left_of}
+use Rattle.runner.specs.Pending.{TakesEnough, left_of}
 use Rattle.runner.specs.Playing.{TakesEnv, TakesReset, reset_of}
-use Rattle.runner.specs.declared.fault.PlayFault.TheVariants.{Line}
+use Rattle.runner.specs.declared.fault.PlayFault.{PlayFault}
+use Rattle.runner.specs.declared.fault.PlayFault.TheVariants.{Line, Read}
 use Rattle.runner.proofs.FeedLemmas.{fresh}
+use Rattle.runner.proofs.JudgedLemmas.{fresh_ends, gives_nothing, judged, judged_later}
 use Rattle.runner.proofs.PlayLemmas.{Sofar, sofar_start, sofar_more, sofar_ends, sofar_bad}
 use Rattle.runner.proofs.playing.play_input.Goals as goal
 
@@ -23,6 +25,7 @@ loop-left-init g c =
     record {
       far = subst (λ (s : State). Sofar hardware c.args.steps old now 1 c.args.steps 0 s) (sym state) start;
       certified = c.reset-machine.ensures.accepted;
+      at_end = λ told. c.in_ok-reset.ensures.at_end (λ e. cc) (fresh_ends c.new-pending.result old c.new-pending.ensures.ended told);
       kept = c.in_ok-reset.ensures.kept;
       numbered = omega arith;
       bounded = omega arith;
@@ -62,6 +65,7 @@ loop-left-preserved g c =
     record {
       far = sofar_more _ _ _ mid now _ _ _ state new line count _ inv.far some takes least ran;
       certified = c.repeat-time.ensures.certified ∙ inv.certified;
+      at_end = λ told. c.in_ok-line.ensures.at_end (λ e. cc) (inv.at_end told);
       kept = c.in_ok-line.ensures.kept ∙ inv.kept;
       numbered = omega (arith, inv.numbered, at_least, least);
       bounded = omega (arith, inv.bounded, c.repeat-time.ensures.bounded, least);
@@ -71,3 +75,28 @@ pub returns-clause-played : goal.returns-clause-played
 returns-clause-played g c =
     let none : c.loop-left.left ≡ 0 = omega (arith, c.loop-left-test.false) in
     sofar_ends _ _ _ _ _ _ _ _ _ _ c.loop-left.invariant.far (inr none) (omega (arith, none, c.from-2.ensures)) c.summary-2.ensures
+
+-- a bad line is no failed read
+no_read : (A : Type 0) (fault : PlayFault) (line : ℕ) → fault ≡ Line line → (let r : Result A PlayFault = Err fault in r) ≡ Err Read → ⊥
+no_read A fault line is e = cc
+
+pub returns-in_err-reset-clause-judged : goal.returns-in_err-reset-clause-judged
+returns-in_err-reset-clause-judged g c line e =
+    let old = g.R.Source.rest c.args.input.now in
+    let new = left_of c.first_line.new.pending (g.R.Source.rest c.first_line.new.input) in
+    let told = c.from_residual.ensures in
+    let fault : c.in_err-reset.field-0.0 ≡ Line line = search rules in
+    let first = c.in_err-reset.ensures.bad line (ap Err fault) in
+    let takes : TakesEnough old new = subst (λ (o : Option (List ℕ)). TakesEnough o new) (fresh c.new-pending.result old c.new-pending.ensures.bytes c.new-pending.ensures.ended) (c.in_err-reset.ensures.judged line (ap Err fault)) in
+    judged line old old [] c.first_line.new.pending (g.R.Source.rest c.first_line.new.input) (gives_nothing old) tt first.0 takes
+    (λ told. c.in_err-reset.ensures.at_end (no_read _ _ line fault) (fresh_ends c.new-pending.result old c.new-pending.ensures.ended told))
+
+pub returns-in_err-line-clause-judged : goal.returns-in_err-line-clause-judged
+returns-in_err-line-clause-judged g c line e =
+    let inv = c.loop-left.invariant in
+    let told = c.from_residual-in_err-line.ensures in
+    let fault : c.in_err-line.field-0.0 ≡ Line line = search rules in
+    let first = c.in_err-line.ensures.some line (ap Err fault) in
+    judged_later line (g.R.Source.rest c.args.input.now) _ inv.far.reset inv.far.lines c.next_env.new.pending (g.R.Source.rest c.next_env.new.input) inv.far.given inv.far.reset_form inv.far.lines_form
+    (omega (arith, first.0, inv.far.number_is)) (c.in_err-line.ensures.judged line (ap Err fault))
+    (λ told. c.in_err-line.ensures.at_end (no_read _ _ line fault) (inv.at_end told))
