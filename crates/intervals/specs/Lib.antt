@@ -1,3 +1,4 @@
+-- The definitions: ranges, pairs of registers, and what operations make of ranges.
 pub mod Domain
 pub mod Range
 pub mod RegPair

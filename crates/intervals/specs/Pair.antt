@@ -7,7 +7,7 @@ use Rattle.intervals.specs.RegPair.{place_of}
 use Rattle.intervals.specs.Range.{Interval, Within, Covers, Meets, hull, full, intersection}
 
 -- the word and both of its bytes lie in their ranges, and with an origin it is what that pair was at the entry
-pub record Holds (p : Pair) (entry : Entry) (v : ℕ) : Type 0 where
+pub record HoldsPair (p : Pair) (entry : Entry) (v : ℕ) : Type 0 where
   pub word : Within p.word v
   pub high : Within p.high (v / 256)
   pub low : Within p.low (v % 256)
@@ -55,9 +55,9 @@ low_bytes word =
     if word.low / 256 == word.high / 256 then Some (record { low = word.low % 256; high = word.high % 256 }) else None
 
 -- a range cut to another one, if there is another one
-abbrev pub cut_if_known : Interval → Option Interval → Option Interval
-cut_if_known a None = Some a
-cut_if_known a (Some b) = intersection a b
+abbrev pub cut_if_some : Interval → Option Interval → Option Interval
+cut_if_some a None = Some a
+cut_if_some a (Some b) = intersection a b
 
 -- the three cuts, once and in this order: the high range to the high bytes of the word's ends; the low range to
 -- the low bytes of the word's ends, if they have one high byte; the word to the words made of the bytes' ends
@@ -66,7 +66,7 @@ normal_form p = option_and_then (λ high.
     option_and_then (λ low.
     option_and_then (λ word. Some (record p { word = word; high = high; low = low }))
     (intersection p.word (words_of high low)))
-    (cut_if_known p.low (low_bytes p.word)))
+    (cut_if_some p.low (low_bytes p.word)))
     (intersection p.high (high_bytes p.word))
 
 -- nothing is known

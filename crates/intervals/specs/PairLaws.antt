@@ -6,7 +6,7 @@ use Rattle.intervals.specs.declared.reg_pair.RegPair.{RegPair}
 use Rattle.intervals.specs.declared.reg_pair.RegPair.TheVariants.{Af, Bc, De, Hl, Ix, Iy, AlternateAf, AlternateBc, AlternateDe, AlternateHl}
 use Rattle.intervals.specs.Domain.{Entry}
 use Rattle.intervals.specs.RegPair.{place_of}
-use Rattle.intervals.specs.Pair.{Holds, CoversPair, hull_of_pairs, shared_origin}
+use Rattle.intervals.specs.Pair.{HoldsPair, CoversPair, hull_of_pairs, shared_origin}
 
 -- the pair at a place
 pair_at : ℕ → RegPair
@@ -73,7 +73,7 @@ covers_along a b c h k = record {
   origin = origin_covers_along a.origin b.origin c.origin h.origin k.origin;
 }
 
-pub holds_wider : (a b : Pair) (entry : Entry) (v : ℕ) → CoversPair a b → Holds b entry v → Holds a entry v
+pub holds_wider : (a b : Pair) (entry : Entry) (v : ℕ) → CoversPair a b → HoldsPair b entry v → HoldsPair a entry v
 holds_wider a b entry v h k = record {
   word = omega arith;
   high = omega arith;

@@ -1,5 +1,4 @@
-// Ranges of bytes, words and register pairs, and what the operations of the Z80 make of them (docs/CHECKER.md, "Ranges
-// and their normal form" and "The window rule and the table of results"). It stands on no other crate.
+// Ranges of bytes, words and register pairs, and what the operations of the Z80 make of them (docs/CHECKER.md).
 #![tactic(auto)]
 
 mod byte_range;

@@ -57,7 +57,7 @@ impl WordRange {
 }
 
 impl Pair {
-    ghost use Rattle.intervals.specs.Pair.{Holds, MeetsPair, full_pair, normal_form, written_word, written_bytes, with_word_cut, with_high_cut, with_low_cut};
+    ghost use Rattle.intervals.specs.Pair.{HoldsPair, MeetsPair, full_pair, normal_form, written_word, written_bytes, with_word_cut, with_high_cut, with_low_cut};
 
     /// A pair of which nothing is known.
     pub fn full() -> Pair
@@ -99,8 +99,8 @@ impl Pair {
     /// form.
     pub fn normal_form(self) -> Option<Pair>
         ensures exact { result ≡ normal_form self }
-        ensures keeps { (entry : Entry) (v : ℕ) → Holds self entry v
-            → IsSomeAnd result (λ p. Holds p entry v) }
+        ensures keeps { (entry : Entry) (v : ℕ) → HoldsPair self entry v
+            → IsSomeAnd result (λ p. HoldsPair p entry v) }
     {
         let high = self.high.intersection(self.word.high_bytes())?;
         let low = match self.word.low_bytes() {
@@ -120,7 +120,7 @@ impl Pair {
     pub fn of_word(word: WordRange) -> Pair
         ensures exact { result ≡ written_word word }
         ensures normal { normal_form (record full_pair { word = word }) ≡ Some result }
-        ensures contains { (entry : Entry) (v : ℕ) → Within word v → Holds result entry v }
+        ensures contains { (entry : Entry) (v : ℕ) → Within word v → HoldsPair result entry v }
     {
         Pair {
             word,
@@ -135,7 +135,7 @@ impl Pair {
         ensures exact { result ≡ written_bytes high low }
         ensures normal { normal_form result ≡ Some result }
         ensures contains { (entry : Entry) (x y : ℕ) → Within high x → Within low y
-            → Holds result entry (x * 256 + y) }
+            → HoldsPair result entry (x * 256 + y) }
     {
         Pair {
             word: WordRange::of_bytes(high, low),
@@ -148,8 +148,8 @@ impl Pair {
     /// The pair after its high byte was written. It has no origin.
     pub fn with_high(self, high: ByteRange) -> Pair
         ensures exact { result ≡ written_bytes high self.low }
-        ensures contains { (entry : Entry) (v x : ℕ) → Holds self entry v → Within high x
-            → Holds result entry (x * 256 + v % 256) }
+        ensures contains { (entry : Entry) (v x : ℕ) → HoldsPair self entry v → Within high x
+            → HoldsPair result entry (x * 256 + v % 256) }
     {
         Pair::of_bytes(high, self.low)
     }
@@ -157,8 +157,8 @@ impl Pair {
     /// The pair after its low byte was written. It has no origin.
     pub fn with_low(self, low: ByteRange) -> Pair
         ensures exact { result ≡ written_bytes self.high low }
-        ensures contains { (entry : Entry) (v y : ℕ) → Holds self entry v → Within low y
-            → Holds result entry (v / 256 * 256 + y) }
+        ensures contains { (entry : Entry) (v y : ℕ) → HoldsPair self entry v → Within low y
+            → HoldsPair result entry (v / 256 * 256 + y) }
     {
         Pair::of_bytes(self.high, low)
     }
@@ -166,8 +166,8 @@ impl Pair {
     /// The pair with its word cut to a range, in normal form, or None where nothing is left.
     pub fn cut_word(self, to: WordRange) -> Option<Pair>
         ensures exact { result ≡ with_word_cut self (intersection self.word to) }
-        ensures keeps { (entry : Entry) (v : ℕ) → Holds self entry v → Within to v
-            → IsSomeAnd result (λ p. Holds p entry v) }
+        ensures keeps { (entry : Entry) (v : ℕ) → HoldsPair self entry v → Within to v
+            → IsSomeAnd result (λ p. HoldsPair p entry v) }
     {
         let word = self.word.intersection(to)?;
         Pair { word, ..self }.normal_form()
@@ -176,8 +176,8 @@ impl Pair {
     /// The pair with its high byte cut to a range, in normal form, or None where nothing is left.
     pub fn cut_high(self, to: ByteRange) -> Option<Pair>
         ensures exact { result ≡ with_high_cut self (intersection self.high to) }
-        ensures keeps { (entry : Entry) (v : ℕ) → Holds self entry v → Within to (v / 256)
-            → IsSomeAnd result (λ p. Holds p entry v) }
+        ensures keeps { (entry : Entry) (v : ℕ) → HoldsPair self entry v → Within to (v / 256)
+            → IsSomeAnd result (λ p. HoldsPair p entry v) }
     {
         let high = self.high.intersection(to)?;
         Pair { high, ..self }.normal_form()
@@ -186,8 +186,8 @@ impl Pair {
     /// The pair with its low byte cut to a range, in normal form, or None where nothing is left.
     pub fn cut_low(self, to: ByteRange) -> Option<Pair>
         ensures exact { result ≡ with_low_cut self (intersection self.low to) }
-        ensures keeps { (entry : Entry) (v : ℕ) → Holds self entry v → Within to (v % 256)
-            → IsSomeAnd result (λ p. Holds p entry v) }
+        ensures keeps { (entry : Entry) (v : ℕ) → HoldsPair self entry v → Within to (v % 256)
+            → IsSomeAnd result (λ p. HoldsPair p entry v) }
     {
         let low = self.low.intersection(to)?;
         Pair { low, ..self }.normal_form()
@@ -196,8 +196,8 @@ impl Pair {
     /// The pair with one value cut from the ends of its word, in normal form, or None where nothing is left.
     pub fn without_word(self, value: u16) -> Option<Pair>
         ensures exact { result ≡ with_word_cut self (without self.word value) }
-        ensures keeps { (entry : Entry) (v : ℕ) → Holds self entry v → v ≢ value
-            → IsSomeAnd result (λ p. Holds p entry v) }
+        ensures keeps { (entry : Entry) (v : ℕ) → HoldsPair self entry v → v ≢ value
+            → IsSomeAnd result (λ p. HoldsPair p entry v) }
     {
         let word = self.word.without(value)?;
         Pair { word, ..self }.normal_form()
@@ -206,8 +206,8 @@ impl Pair {
     /// The pair with one value cut from the ends of its high byte, in normal form, or None where nothing is left.
     pub fn without_high(self, value: u8) -> Option<Pair>
         ensures exact { result ≡ with_high_cut self (without self.high value) }
-        ensures keeps { (entry : Entry) (v : ℕ) → Holds self entry v → v / 256 ≢ value
-            → IsSomeAnd result (λ p. Holds p entry v) }
+        ensures keeps { (entry : Entry) (v : ℕ) → HoldsPair self entry v → v / 256 ≢ value
+            → IsSomeAnd result (λ p. HoldsPair p entry v) }
     {
         let high = self.high.without(value)?;
         Pair { high, ..self }.normal_form()
@@ -216,8 +216,8 @@ impl Pair {
     /// The pair with one value cut from the ends of its low byte, in normal form, or None where nothing is left.
     pub fn without_low(self, value: u8) -> Option<Pair>
         ensures exact { result ≡ with_low_cut self (without self.low value) }
-        ensures keeps { (entry : Entry) (v : ℕ) → Holds self entry v → v % 256 ≢ value
-            → IsSomeAnd result (λ p. Holds p entry v) }
+        ensures keeps { (entry : Entry) (v : ℕ) → HoldsPair self entry v → v % 256 ≢ value
+            → IsSomeAnd result (λ p. HoldsPair p entry v) }
     {
         let low = self.low.without(value)?;
         Pair { low, ..self }.normal_form()
@@ -225,10 +225,10 @@ impl Pair {
 }
 
 impl Domain for Pair {
-    ghost use Rattle.intervals.specs.Pair.{Holds, CoversPair, hull_of_pairs};
+    ghost use Rattle.intervals.specs.Pair.{HoldsPair, CoversPair, hull_of_pairs};
     ghost use Rattle.intervals.specs.PairLaws.{covers_itself, covers_along, holds_wider, hull_covers_first, hull_covers_second};
 
-    ghost holds = { Holds };
+    ghost holds = { HoldsPair };
 
     ghost Covers = { CoversPair };
 

@@ -25,8 +25,8 @@ total_unchanged : (u : Effect) → IsUnchanged u → (before free : Valuation) (
 total_unchanged u h before free ts =
     total_agree (after u before free) (whole before) ts (λ k d p. after_unchanged u h before free (get_or ts k d).variable)
 
-pub all_known : (u : Effect) → IsUnchanged u → (ts : List Term) → All (λ t. change_of u t.variable ≢ Unknown) ts
-all_known u h ts k d p e = let same = h (get_or ts k d).variable in cc
+pub none_unknown : (u : Effect) → IsUnchanged u → (ts : List Term) → All (λ t. change_of u t.variable ≢ Unknown) ts
+none_unknown u h ts k d p e = let same = h (get_or ts k d).variable in cc
 
 pub small_terms : (s : Sum) → IsLinear s → All (λ t. unsigned_abs t.coefficient ≤ 1000000) s.terms
 small_terms s h k d p = let both = h.coefficients k d p in both.1

@@ -101,7 +101,7 @@ module _ (old mid new : Rewritten) (effect : Effect) (n : Bool) (ts : List Term)
   front_more = take_more ts k t inside ∙ ap (λ (u : Term). take k ts ++ u ∷ []) (sym at)
 
   pub added_more : ((before free : Valuation) → value_of_both before free new ≡ value_of_both before free mid +ℤ c *ℤ changed change before (pos (free t.variable))) → ((used : ℕ) → HasRoom used mid → HasRoom (used + 1) new) → (change ≢ Unknown → new.unknown ≡ mid.unknown) → HasAdded old new effect n (take (k + 1) ts) (k + 1)
-  added_more value room known = record {
+  added_more value room no_unknown = record {
     value = λ before free.
         let step = value before free in
         let past = so_far.value before free in
@@ -115,11 +115,11 @@ module _ (old mid new : Rewritten) (effect : Effect) (n : Bool) (ts : List Term)
     room = λ used h.
         let next = room (used + k) (so_far.room used h) in
         subst (λ m. HasRoom m new) (let e : used + k + 1 ≡ used + (k + 1) = omega arith in e) next;
-    known = λ all.
+    no_unknown = λ all.
         let here : All (λ u. change_of effect u.variable ≢ Unknown) (take k ts ++ t ∷ []) = rw front_more at all in
         let front : All (λ u. change_of effect u.variable ≢ Unknown) (take k ts) = λ i d p. subst (λ (u : Term). change_of effect u.variable ≢ Unknown) (get_or_append_left (take k ts) (t ∷ []) d i p) (here i d (omega (arith, length-append (take k ts) (t ∷ [])))) in
         let last : change_of effect t.variable ≢ Unknown = subst (λ (u : Term). change_of effect u.variable ≢ Unknown) (at_end (take k ts) t t) (here (length (take k ts)) t (omega (arith, length-append (take k ts) (t ∷ [])))) in
-        known (λ e. last (sym change_is ∙ e)) ∙ so_far.known front;
+        no_unknown (λ e. last (sym change_is ∙ e)) ∙ so_far.no_unknown front;
   }
 
 -- a room for six terms is a sum whose least value can be computed

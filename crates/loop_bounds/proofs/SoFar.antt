@@ -32,4 +32,4 @@ pub record IsGreatestSoFar (box : Box) (seen : List Term) (greatest : ℤ) : Typ
 pub record HasAdded (old new : Rewritten) (effect : Effect) (negated : Bool) (terms : List Term) (count : ℕ) : Type 0 where
   pub value : (before free : Valuation) → value_of_both before free new ≡ value_of_both before free old +ℤ signed negated (total (after effect before free) terms)
   pub room : (used : ℕ) → HasRoom used old → HasRoom (used + count) new
-  pub known : All (λ t. change_of effect t.variable ≢ Unknown) terms → new.unknown ≡ old.unknown
+  pub no_unknown : All (λ t. change_of effect t.variable ≢ Unknown) terms → new.unknown ≡ old.unknown

@@ -2,7 +2,7 @@
 use Rattle.std.specs.Prelude.{◌≡◌, ℕ, pos, neg_ℤ, ◌-ℤ◌, ◌≤ℤ◌}
 use Rattle.loop_bounds.specs.declared.effect.Effect.{Effect}
 use Rattle.loop_bounds.specs.Linear.{Sum, value}
-use Rattle.loop_bounds.specs.Effect.{Valuation, whole, after, IsKnown}
+use Rattle.loop_bounds.specs.Effect.{Valuation, whole, after, HasNoUnknown}
 use Rattle.loop_bounds.specs.Ranges.{Box, LiesIn}
 
 -- `from` pays the cost and leaves `to`, whatever the values of the source box are, and whatever the unknown variables are
@@ -15,16 +15,16 @@ Decreases from to cost effect source target =
 -- the fact, rewritten by the effect, has no unknown and is the constant 0
 abbrev pub Vanishes : Sum → Effect → Type 0
 Vanishes fact effect =
-    IsKnown effect fact × ((before free : Valuation) → value (after effect before free) fact ≡ pos 0)
+    HasNoUnknown effect fact × ((before free : Valuation) → value (after effect before free) fact ≡ pos 0)
 
 -- the fact, rewritten by the effect, has no unknown and is the given one
 abbrev pub Becomes : Sum → Effect → Sum → Type 0
 Becomes fact effect given =
-    IsKnown effect fact ×
+    HasNoUnknown effect fact ×
     ((before free : Valuation) → value (after effect before free) fact ≡ value (whole before) given)
 
 -- the fact, rewritten by the effect, has no unknown and is the negation of the given one
 abbrev pub BecomesNegation : Sum → Effect → Sum → Type 0
 BecomesNegation fact effect given =
-    IsKnown effect fact ×
+    HasNoUnknown effect fact ×
     ((before free : Valuation) → value (after effect before free) fact ≡ neg_ℤ (value (whole before) given))

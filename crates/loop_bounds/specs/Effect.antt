@@ -45,7 +45,7 @@ Valuation = Variable → ℕ
 abbrev pub whole : Valuation → Variable → ℤ
 whole x v = pos (x v)
 
--- a value after a step from the values before it; what is not known has the last argument
+-- a value after a step from the values before it; one that is unknown has the last argument
 abbrev pub changed : Change → Valuation → ℤ → ℤ
 changed (Old w) before free = pos (before w)
 changed (Raised w) before free = pos (before w) +ℤ pos 1
@@ -58,5 +58,5 @@ abbrev pub after : Effect → Valuation → Valuation → Variable → ℤ
 after e before free v = changed (change_of e v) before (pos (free v))
 
 -- no variable of the sum is unknown after the step
-abbrev pub IsKnown : Effect → Sum → Type 0
-IsKnown e s = All (λ t. change_of e t.variable ≢ Unknown) s.terms
+abbrev pub HasNoUnknown : Effect → Sum → Type 0
+HasNoUnknown e s = All (λ t. change_of e t.variable ≢ Unknown) s.terms

@@ -1,3 +1,4 @@
+-- The definitions: linears and their values, effects of steps, the decisions, and tightening.
 pub mod Variable
 pub mod Linear
 pub mod LinearLaws

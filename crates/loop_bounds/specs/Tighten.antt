@@ -1,5 +1,4 @@
--- A linear that is 0 cuts each of its variables to what the others leave (docs/CHECKER.md, "Linear bounds, effects and
--- tightening").
+-- What tightening by a linear that is 0 leaves (docs/CHECKER.md, "Linear bounds, effects and tightening").
 use Rattle.std.specs.Prelude.{ℕ, suc, ◌+◌, ◌/◌, List, [], ◌∷◌, remove, ℤ, pos, negsuc, neg_ℤ, ◌+ℤ◌, ◌*ℤ◌, Option, Some, None, option_and_then, option_map, unwrap_or}
 use Rattle.std.specs.Int.{div_ceil}
 use Rattle.intervals.specs.Range.{Interval, intersection}

@@ -2,7 +2,7 @@
 ghost use Rattle.std.specs.Prelude.{◌≡◌, ◌↔◌, ◌⊎◌, ◌≢◌, ◌<◌, ◌≤◌, ◌^◌, All, IsTrue, not, pos, ◌+ℤ◌, ◌-ℤ◌, unsigned_abs};
 ghost use Rattle.loop_bounds.specs.declared.effect.Change.TheVariants.{Unknown};
 ghost use Rattle.loop_bounds.specs.Linear.{value};
-ghost use Rattle.loop_bounds.specs.Effect.{Valuation, whole, after, IsKnown, change_of};
+ghost use Rattle.loop_bounds.specs.Effect.{Valuation, whole, after, HasNoUnknown, change_of};
 ghost use Rattle.loop_bounds.specs.Signed.{signed};
 ghost use Rattle.loop_bounds.specs.Bounds.{Decreases, Vanishes, Becomes, BecomesNegation};
 
@@ -60,7 +60,7 @@ fn wide_constant(linear: &Linear) -> i128
 }
 
 /// Whether no term has a variable that is unknown after the step.
-fn are_known(terms: &[Term], effect: &Effect) -> bool
+fn have_no_unknown(terms: &[Term], effect: &Effect) -> bool
     ensures { IsTrue result ↔ All (λ t. change_of effect.now t.variable ≢ Unknown) terms.now }
 {
     terms
@@ -69,17 +69,17 @@ fn are_known(terms: &[Term], effect: &Effect) -> bool
 }
 
 /// Whether the linear has no variable that is unknown after the step.
-fn is_known(linear: &Linear, effect: &Effect) -> bool
-    ensures { IsTrue result ↔ IsKnown effect.now linear.now }
+fn has_no_unknown(linear: &Linear, effect: &Effect) -> bool
+    ensures { IsTrue result ↔ HasNoUnknown effect.now linear.now }
 {
-    are_known(linear.terms(), effect)
+    have_no_unknown(linear.terms(), effect)
 }
 
 /// Whether the fact, rewritten by the effect, has no unknown and is the constant 0.
 pub fn vanishes(fact: &Linear, effect: &Effect) -> bool
     ensures { IsTrue result ↔ Vanishes fact.now effect.now }
 {
-    if !is_known(fact, effect) {
+    if !has_no_unknown(fact, effect) {
         return false;
     }
     let mut left = Rewritten::new(wide_constant(fact));
@@ -89,10 +89,10 @@ pub fn vanishes(fact: &Linear, effect: &Effect) -> bool
 
 /// Whether the fact, rewritten by the effect, has no unknown and is the given one, or its negation where that is asked.
 fn is_rewritten_to(fact: &Linear, effect: &Effect, given: &Linear, negated: bool) -> bool
-    ensures { IsTrue result ↔ (IsKnown effect.now fact.now × ((before free : Valuation)
+    ensures { IsTrue result ↔ (HasNoUnknown effect.now fact.now × ((before free : Valuation)
         → value (after effect.now before free) fact.now ≡ signed negated (value (whole before) given.now))) }
 {
-    if !is_known(fact, effect) {
+    if !has_no_unknown(fact, effect) {
         return false;
     }
     let mut left = Rewritten::new(constant_between(fact, given, negated));

@@ -1,5 +1,4 @@
-// Linear bounds over the registers and the stack slots of a row (docs/CHECKER.md, "Linear bounds, effects and
-// tightening"). It stands on `intervals` alone.
+// Linear bounds over the registers and the stack slots of a row (docs/CHECKER.md, "Linear bounds, effects and tightening").
 #![tactic(auto)]
 
 mod bounds;

@@ -2,7 +2,7 @@
 ghost use Rattle.std.specs.Prelude.{◌≡◌, ◌≢◌, ◌↔◌, IsTrue, ◌≤ℤ◌, ℕ, ◌+◌, ◌<◌, ◌≤◌, ◌^◌, [], length, All, ℤ, pos, ◌+ℤ◌, ◌*ℤ◌, unsigned_abs};
 ghost use Rattle.loop_bounds.specs.declared.effect.Change.TheVariants.{Unknown};
 ghost use Rattle.loop_bounds.specs.Linear.{total};
-ghost use Rattle.loop_bounds.specs.Effect.{Valuation, change_of, changed, after, IsKnown};
+ghost use Rattle.loop_bounds.specs.Effect.{Valuation, change_of, changed, after, HasNoUnknown};
 ghost use Rattle.loop_bounds.specs.Ranges.{LiesIn};
 ghost use Rattle.loop_bounds.specs.Signed.{signed};
 
@@ -51,7 +51,7 @@ impl Rewritten {
         ensures value { (before free : Valuation) → value_of_both before free self.new
             ≡ value_of_both before free self.old +ℤ term.coefficient *ℤ changed change before (pos (free term.variable)) }
         ensures room { (used : ℕ) → HasRoom used self.old → HasRoom (used + 1) self.new }
-        ensures known { change ≢ Unknown → self.new.unknown ≡ self.old.unknown }
+        ensures no_unknown { change ≢ Unknown → self.new.unknown ≡ self.old.unknown }
     {
         let coefficient = term.coefficient;
         match change {
@@ -86,7 +86,7 @@ impl Rewritten {
         ensures value { (before free : Valuation) → value_of_both before free self.new
             ≡ value_of_both before free self.old +ℤ signed negated (total (after effect.now before free) terms.now) }
         ensures room { (used : ℕ) → HasRoom used self.old → HasRoom (used + 3) self.new }
-        ensures known { All (λ t. change_of effect.now t.variable ≢ Unknown) terms.now
+        ensures no_unknown { All (λ t. change_of effect.now t.variable ≢ Unknown) terms.now
             → self.new.unknown ≡ self.old.unknown }
     {
         for term in terms {
@@ -104,7 +104,7 @@ impl Rewritten {
         requires { HasRoom 3 self.old }
         ensures value { WasAdded self.old self.new effect.now negated linear.now }
         ensures room { (used : ℕ) → HasRoom used self.old → HasRoom (used + 3) self.new }
-        ensures known { IsKnown effect.now linear.now → self.new.unknown ≡ self.old.unknown }
+        ensures no_unknown { HasNoUnknown effect.now linear.now → self.new.unknown ≡ self.old.unknown }
     {
         self.add_terms(linear.terms(), effect, negated);
     }

@@ -1,5 +1,4 @@
--- What is known of the words that an activation has on the stack (docs/SHAPES.md). A shape is the list of its slots,
--- first pushed first.
+-- Shapes of the stack, each the list of its slots, first pushed first (docs/SHAPES.md).
 use Rattle.std.specs.Prelude.{ℕ, List, map}
 use Rattle.std.specs.List.{AllZip, zip}
 use Rattle.stack_shape.specs.declared.slot.Slot.{Slot}

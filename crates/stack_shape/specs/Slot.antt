@@ -2,11 +2,11 @@
 use Rattle.std.specs.Prelude.{ℕ}
 use Rattle.stack_shape.specs.declared.slot.Slot.{Slot}
 use Rattle.intervals.specs.Domain.{Entry}
-use Rattle.intervals.specs.Pair.{Holds, CoversPair, MeetsPair, hull_of_pairs}
+use Rattle.intervals.specs.Pair.{HoldsPair, CoversPair, MeetsPair, hull_of_pairs}
 
 -- the word is in the slot's pair
 abbrev pub HoldsSlot : Slot → Entry → ℕ → Type 0
-HoldsSlot slot entry word = Holds slot.pair entry word
+HoldsSlot slot entry word = HoldsPair slot.pair entry word
 
 -- the pair of the first covers that of the second
 abbrev pub CoversSlot : Slot → Slot → Type 0

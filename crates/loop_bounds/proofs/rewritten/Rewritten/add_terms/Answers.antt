@@ -16,7 +16,7 @@ loop-term-preserved c =
     let value = simp to_z-of_z at c.add.ensures.value in
     added_more c.args.self.now c.loop-term.self c.add.new.self c.args.effect.now c.args.negated c.args.terms.now c.loop-term.term-index
     c.term-item.result c.negated_if.result c.change-change.result c.loop-term.invariant c.loop-term-test.true c.term-item.is is (search rules)
-    value c.add.ensures.room c.add.ensures.known
+    value c.add.ensures.room c.add.ensures.no_unknown
 
 pub returns-clause-room : goal.returns-clause-room
 returns-clause-room c = λ used h.
