@@ -16,7 +16,7 @@ use crate::load_moves::{
 use crate::moves::{Move, Moves};
 use crate::operands::{
     index_pair_register, index_register, pair_register, pointer_register, stack_register,
-    worked_at, word_register,
+    word_register, worked_at,
 };
 use crate::registers::WordRegister;
 use z80_decode::{Instr, Memory, Place};
