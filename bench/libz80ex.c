@@ -1,4 +1,4 @@
-/* The loop of crates/step_bench on Debian's libz80ex (package libz80ex-dev): as many events as the argument says. */
+/* The loop of crates/benchmarks on Debian's libz80ex (package libz80ex-dev): as many events as the argument says. */
 #include <stdio.h>
 #include <stdlib.h>
 #include <z80ex/z80ex.h>

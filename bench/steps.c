@@ -1,7 +1,7 @@
-/* Writes as many lines for crates/step_vectors as its first argument says: single steps of Debian's libz80ex (package
+/* Writes as many lines for crates/benchmarks as its first argument says: single steps of Debian's libz80ex (package
    libz80ex-dev) at random states, over every documented instruction but HALT, LD A,R, LD R,A and those of input and
    output. The second argument, not 0, starts the random numbers. The form of a line is told in
-   crates/step_vectors/src/main.rs. */
+   crates/benchmarks/src/vectors.rt. */
 #include <stdint.h>
 #include <stdio.h>
 #include <stdlib.h>

@@ -6,5 +6,5 @@ here=$(cd "$(dirname "$0")" && pwd)
 work=$(mktemp -d)
 trap 'rm -rf "$work"' EXIT
 cc -O2 -o "$work/steps" "$here/steps.c" -lz80ex
-(cd "$here/../crates/step_vectors" && rt run > /dev/null < /dev/null)
-"$work/steps" "${1:-1000000}" "${2:-1}" | "$here/../crates/step_vectors/out/step_vectors"
+(cd "$here/../crates/benchmarks" && rt run > /dev/null < /dev/null)
+"$work/steps" "${1:-1000000}" "${2:-1}" | "$here/../crates/benchmarks/out/benchmarks"

@@ -30,14 +30,14 @@ impl Zone {
     fn low(&self, range: WordRange) -> u16
         ensures { result ≡ max self.now.first range.low }
     {
-        self.first.max(range.low)
+        self.first.max(range.low())
     }
 
     /// The highest address that the zone and a range may share; they share none where it is below the lowest.
     fn high(&self, range: WordRange) -> u16
         ensures { result ≡ min self.now.last range.high }
     {
-        self.last.min(range.high)
+        self.last.min(range.high())
     }
 
     /// Whether the zone and a range share an address.

@@ -93,4 +93,5 @@ lowest_of edges start list s lowest = record {
       let some : 0 < length other = cycle.some in
       let back : Returns edges start (length other - 1) = subst (λ p. Returns edges p (length other - 1)) (same ∙ s.first) (cycle_returns edges other cycle) in
       let short : length list ≤ (length other - 1) + 1 = s.shortest (length other - 1) back in omega arith;
+  lowest_read = λ other cycle same long. s.lowest other cycle (same ∙ s.first) long;
 }

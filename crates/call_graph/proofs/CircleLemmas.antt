@@ -1,11 +1,13 @@
 -- Ways of calls, circles, and a search along the calls.
-use Rattle.std.proofs.Common.{◌≡◌, ◌≢◌, ℕ, zero, suc, ◌+◌, ◌-◌, ◌<◌, ◌≤◌, inl, inr, sym, ◌∙◌, ap, arith, refl, subst, below_more, List, [], ◌∷◌, ◌++◌, length, get_or, set, true, false, Bool, sum_by, length-append, length-set, get_or-set_other}
+use Rattle.std.proofs.Common.{◌≡◌, ◌≢◌, ℕ, zero, suc, ◌+◌, ◌-◌, ◌<◌, ◌≤◌, ◌⊎◌, take, inl, inr, sym, ◌∙◌, ap, arith, refl, subst, below_more, List, [], ◌∷◌, ◌++◌, length, get_or, set, true, false, Bool, sum_by, length-append, length-set, get_or-set_other}
 use Rattle.std.proofs.Math.ListN.{get_or-append}
 use Rattle.std.proofs.Math.Seq.{get_or-append_seam}
+use Rattle.std.proofs.Math.Seq.{take-suc}
+use Rattle.std.proofs.lemmas.List.{get_or-set_same, take_all}
 use Rattle.std.proofs.lemmas.Bool.{cases_eq, cases_lt}
 use Rattle.std.proofs.lemmas.List.Sums.{sum_by-set}
-use Rattle.call_graph.specs.Calls.{Calls, Way, IsCycle}
-use Rattle.call_graph.specs.Circle.{Returns, IsShortestFrom, Traced, Place, Searched, step_proc, step_from, step_far, seen_at, unseen_one, left}
+use Rattle.call_graph.specs.Calls.{Calls, Way, IsCycle, IsLower}
+use Rattle.call_graph.specs.Circle.{Returns, IsShortestFrom, path_to, Traced, Place, Searched, step_proc, step_from, step_far, seen_at, unseen_one, left}
 use Rattle.call_graph.specs.Walk.{caller_at, callee_at}
 use Rattle.call_graph.proofs.CallLemmas.{numbered}
 use Rattle.call_graph.specs.declared.circle.Step.{Step}
@@ -59,12 +61,118 @@ pub search_none : (edges : List Edge) (start : ℕ) (seen : List Bool) (steps : 
     (n : ℕ) → Returns edges start n → ⊥
 search_none edges start seen steps done s all n back = no_return edges start seen steps done s n (λ j h l. omega arith) back
 
--- a circle by the first step that calls the start is a shortest one
+-- ---- of the shortest circles, the search finds the lowest
+lower_front : (xs ys a b : List ℕ) → IsLower xs ys → IsLower (xs ++ a) (ys ++ b)
+lower_front [] ys a b h = absurd h
+lower_front (x ∷ xs) [] a b h = absurd h
+lower_front (x ∷ xs) (y ∷ ys) a b h = elim h [ inl l ↦ inl l | inr r ↦ inr (r.0, lower_front xs ys a b r.1) ]
+
+lower_last : (xs : List ℕ) (x y : ℕ) → x < y → IsLower (xs ++ x ∷ []) (xs ++ y ∷ [])
+lower_last [] x y h = inl h
+lower_last (z ∷ xs) x y h = inr (refl, lower_last xs x y h)
+
+-- the way to a step beside other procedures, of which the last has a place that is not before that step
+abbrev Compared : List Step → ℕ → ℕ → ℕ → List ℕ → Type 0
+Compared steps n i j ws = IsLower (path_to steps n i) ws ⊎ ((path_to steps n i ≡ ws) × (i ≡ j))
+
+-- a procedure of another circle has a place, and no way to an earlier step that is as far is above the circle so far
+record Reached (steps : List Step) (o : ℕ) (ws : List ℕ) (k : ℕ) : Type 0 where
+  at : ℕ
+  inside : at < length steps
+  is : step_proc steps at ≡ get_or (o ∷ ws) k 0
+  near : step_far steps at ≤ k
+  compared : (i : ℕ) → i < length steps → i ≤ at → step_far steps i ≡ k → Compared steps k i at (take k ws)
+
+module _ (edges : List Edge) (start : ℕ) (seen : List Bool) (steps : List Step) (done : ℕ) (s : Searched edges start seen steps done) (next : done < length steps) (o : ℕ) (ws : List ℕ) (cycle : IsCycle edges (o ∷ ws)) (first : o ≡ start) (long : length ws ≡ step_far steps done) where
+  compared_more : (k i j j' : ℕ) → k < length ws → i < length steps → 0 < i → i ≤ j → j < length steps → step_from steps j ≤ j' → step_proc steps j ≡ get_or ws k 0 → Compared steps k (step_from steps i) j' (take k ws) → Compared steps (suc k) i j (take (suc k) ws)
+  compared_more k i j j' short here some upto inside from is old =
+      let split = take-suc ws k 0 short in
+      let turn : step_from steps i ≤ step_from steps j = s.in_turn i j some upto inside in
+      elim old [
+        | inl lower ↦ inl (rw split (lower_front (path_to steps k (step_from steps i)) (take k ws) (step_proc steps i ∷ []) (get_or ws k 0 ∷ []) lower))
+        | inr same ↦ let at : step_from steps i ≡ j' = same.1 in elim (cases_eq i j) [
+          | inl e ↦ inr (
+            ap (λ (xs : List ℕ). xs ++ step_proc steps i ∷ []) same.0
+                ∙ ap (λ x. take k ws ++ x ∷ []) (ap (step_proc steps) e ∙ is) ∙ sym split,
+            e,
+          )
+          | inr ne ↦
+              let less : step_proc steps i < step_proc steps j = s.by_number i j some (omega arith) inside (omega arith) in
+              let below : step_proc steps i < get_or ws k 0 = subst (λ x. step_proc steps i < x) is less in
+              inl (rw (split, same.0) (lower_last (take k ws) (step_proc steps i) (get_or ws k 0) below))
+        ]
+      ]
+
+  reached : (k : ℕ) → k ≤ length ws → Reached steps o ws k
+  reached zero h = record {
+    at = 0;
+    inside = s.traced.some;
+    is = s.traced.start_is ∙ sym first;
+    near = let near : step_far steps 0 ≡ 0 = s.traced.near in omega arith;
+    compared = λ i here upto e. inr (refl, let zero_is : i ≡ 0 = omega arith in zero_is);
+  }
+  reached (suc k) h =
+      let before = reached k (omega arith) in
+      let near : step_far steps before.at ≤ k = before.near in
+      let before_done : before.at < done = elim (cases_lt before.at done) [
+        | inl l ↦ l
+        | inr l ↦ let up : step_far steps done ≤ step_far steps before.at = s.rising done before.at l before.inside in absurd (omega arith)
+      ] in
+      let one : k + 1 ≡ suc k = omega arith in
+      let call : Calls edges (get_or (o ∷ ws) k 0) (get_or (o ∷ ws) (suc k) 0) = subst (λ m. Calls edges (get_or (o ∷ ws) k 0) (get_or (o ∷ ws) m 0)) one (cycle.next k (omega arith)) in
+      let z = s.spread before.at (get_or (o ∷ ws) (suc k) 0) before_done (subst (λ x. Calls edges x (get_or (o ∷ ws) (suc k) 0)) (sym before.is) call) in
+      let place = z.1 in
+      let closer : step_far steps place.at ≤ step_far steps before.at + 1 = place.near in
+      record {
+        at = place.at;
+        inside = place.inside;
+        is = place.is;
+        near = omega arith;
+        compared = λ i here upto e.
+            let some : 0 < i = elim (cases_eq i 0) [
+              | inl none ↦ let far : step_far steps 0 ≡ 0 = s.traced.near in let same : step_far steps i ≡ step_far steps 0 = ap (step_far steps) none in absurd (omega arith)
+              | inr ne ↦ omega arith
+            ] in
+            let far : step_far steps i ≡ step_far steps (step_from steps i) + 1 = s.traced.farther i some here in
+            let lower : step_from steps i < i = s.traced.earlier i some here in
+            let turn : step_from steps i ≤ step_from steps place.at = s.in_turn i place.at some upto place.inside in
+            let from : step_from steps place.at ≤ before.at = place.from in
+            let so_far : step_far steps (step_from steps i) ≡ k = omega arith in
+            compared_more k i place.at before.at (omega arith) here some upto place.inside from place.is
+            (before.compared (step_from steps i) (omega arith) (omega arith) so_far);
+      }
+
+  lowest_than : (start ∷ path_to steps (step_far steps done) done ≡ o ∷ ws) ⊎ IsLower (start ∷ path_to steps (step_far steps done) done) (o ∷ ws)
+  lowest_than =
+      let last = reached (length ws) (omega arith) in
+      let end : length (o ∷ ws) - 1 ≡ length ws = omega arith in
+      let back : Calls edges (step_proc steps last.at) start =
+      rw (last.is, sym first) (subst (λ m. Calls edges (get_or (o ∷ ws) m 0) o) end cycle.back) in
+      let late : done ≤ last.at = elim (cases_lt last.at done) [
+        | inl l ↦ absurd ((s.spread last.at start l back).0 refl)
+        | inr l ↦ l
+      ] in
+      let z = last.compared done next late (sym long) in
+      let all : take (length ws) ws ≡ ws = take_all (length ws) ws (omega arith) in
+      rw (← long, first) (elim z [
+        | inl lower ↦ inr (inr (refl, rw all at lower))
+        | inr same ↦ inl (ap (λ xs. start ∷ xs) (same.0 ∙ all))
+      ])
+
+search_lowest : (edges : List Edge) (start : ℕ) (seen : List Bool) (steps : List Step) (done : ℕ) → Searched edges start seen steps done → done < length steps → (other : List ℕ) → IsCycle edges other → get_or other 0 0 ≡ start → length other ≡ step_far steps done + 1 →
+    (start ∷ path_to steps (step_far steps done) done ≡ other) ⊎ IsLower (start ∷ path_to steps (step_far steps done) done) other
+search_lowest edges start seen steps done s next [] cycle first long = absurd (omega (arith, cycle.some))
+search_lowest edges start seen steps done s next (o ∷ ws) cycle first long = lowest_than edges start seen steps done s next o ws cycle first (omega arith)
+
+-- a circle by the first step that calls the start is a shortest one, and the lowest of those
 pub search_shortest : (edges : List Edge) (start : ℕ) (seen : List Bool) (steps : List Step) (done : ℕ) (list : List ℕ) → Searched edges start seen steps done →
-    IsCycle edges list → get_or list 0 0 ≡ start → length list ≡ step_far steps done + 1 → IsShortestFrom edges start list
-search_shortest edges start seen steps done list s cycle first long = record {
+    done < length steps → IsCycle edges list → get_or list 0 0 ≡ start → length list ≡ step_far steps done + 1 → list ≡ start ∷ path_to steps (step_far steps done) done → IsShortestFrom edges start list
+search_shortest edges start seen steps done list s inside cycle first long path = record {
   cycle = cycle;
   first = first;
+  lowest = λ other circle begins same.
+      let z = search_lowest edges start seen steps done s inside other circle begins (same ∙ long) in
+      rw path z;
   shortest = λ n back. elim (cases_lt n (step_far steps done)) [
     | inl l ↦ absurd (no_return edges start seen steps done s n (λ j h near. elim (cases_lt j done) [
       | inl x ↦ x
@@ -75,9 +183,9 @@ search_shortest edges start seen steps done list s cycle first long = record {
 }
 
 -- the search before its first call
-pub search_begun : (edges : List Edge) (start : ℕ) (seen : List Bool) (s : Step) → length seen ≡ 65536 → s.proc ≡ start → s.far ≡ 0 →
-    ((p : ℕ) → seen_at seen p ≡ true → p ≡ start) → Searched edges start seen (s ∷ []) 0
-search_begun edges start seen s room proc far only = record {
+pub search_begun : (edges : List Edge) (start : ℕ) (seen : List Bool) (s : Step) → length seen ≡ 65536 → s.proc ≡ start → s.far ≡ 0 → s.from ≡ 0 →
+    ((p : ℕ) → seen_at seen p ≡ true → p ≡ start) → seen_at seen start ≡ true → Searched edges start seen (s ∷ []) 0
+search_begun edges start seen s room proc far from only start_seen = record {
   room = room;
   traced = record {
     some = omega arith;
@@ -92,6 +200,10 @@ search_begun edges start seen s room proc far only = record {
   within = λ j h d. let b : j ≡ 0 = omega arith in rw b (omega arith);
   placed = λ p yes. (0, omega arith, proc ∙ sym (only p yes));
   spread = λ i p h. absurd (omega arith);
+  marked = λ i h. let a : i ≡ 0 = omega arith in rw (a, proc) start_seen;
+  behind = λ i h. let a : i ≡ 0 = omega arith in rw (a, from) (omega arith);
+  in_turn = λ i j a l h. absurd (omega arith);
+  by_number = λ i j a l h. absurd (omega arith);
 }
 
 -- one more step, to p, whom the step that is next calls
@@ -120,13 +232,15 @@ pushed steps p done =
       new_far = λ i e. ap (λ v. v.far) (new i e);
     }
 
-place_stays : (steps more : List Step) (p done q most : ℕ) → Pushed steps more p done → Place steps q most → Place more q most
-place_stays steps more p done q most add place =
+place_stays : (steps more : List Step) (p done q most caller : ℕ) → Pushed steps more p done → Place steps q most caller → Place more q most caller
+place_stays steps more p done q most caller add place =
     let longer : length more ≡ length steps + 1 = add.longer in
     let inside : place.at < length steps = place.inside in
     let near : step_far steps place.at ≤ most = place.near in
     let far : step_far more place.at ≡ step_far steps place.at = add.old_far place.at inside in
-    record { at = place.at; inside = omega arith; is = add.old_proc place.at inside ∙ place.is; near = omega arith }
+    let first : step_from steps place.at ≤ caller = place.from in
+    let from : step_from more place.at ≡ step_from steps place.at = add.old_from place.at inside in
+    record { at = place.at; inside = omega arith; is = add.old_proc place.at inside ∙ place.is; near = omega arith; from = omega arith }
 
 more_traced : (edges : List Edge) (start : ℕ) (steps more : List Step) (p done : ℕ) → Pushed steps more p done → Traced edges start steps → done < length steps →
     Calls edges (step_proc steps done) p → Traced edges start more
@@ -162,9 +276,16 @@ more_traced edges start steps more p done add old inside call =
       ];
     }
 
+kept_mark : (seen : List Bool) (p q : ℕ) → p < length seen → seen_at seen q ≡ true → seen_at (set seen p true) q ≡ true
+kept_mark seen p q inside marked = elim (cases_eq q p) [
+  | inl e ↦ rw e (get_or-set_same seen p true false inside)
+  | inr ne ↦ get_or-set_other seen p q true false ne ∙ marked
+]
+
 more_searched : (edges : List Edge) (start : ℕ) (seen : List Bool) (steps more : List Step) (p done : ℕ) → Pushed steps more p done → Searched edges start seen steps done →
-    done < length steps → p < 65536 → Calls edges (step_proc steps done) p → Searched edges start (set seen p true) more done
-more_searched edges start seen steps more p done add old inside fits call =
+    done < length steps → p < 65536 → Calls edges (step_proc steps done) p →
+    ((i : ℕ) → 0 < i → i < length steps → step_from steps i ≡ done → step_proc steps i < p) → Searched edges start (set seen p true) more done
+more_searched edges start seen steps more p done add old inside fits call others =
     let longer : length more ≡ length steps + 1 = add.longer in
     let next : step_far more done ≡ step_far steps done = add.old_far done inside in
     let far : (i : ℕ) → i < length more → step_far more i ≤ step_far more done + 1 = λ i h. elim (cases_eq i (length steps)) [
@@ -172,6 +293,12 @@ more_searched edges start seen steps more p done add old inside fits call =
       | inr ne ↦ let here : i < length steps = omega arith in
           let x : step_far more i ≡ step_far steps i = add.old_far i here in
           let y : step_far steps i ≤ step_far steps done + 1 = old.within i here inside in omega arith
+    ] in
+    let from : (i : ℕ) → i < length more → step_from more i ≤ done = λ i h. elim (cases_eq i (length steps)) [
+      | inl e ↦ let x : step_from more i ≡ done = add.new_from i e in omega arith
+      | inr ne ↦ let here : i < length steps = omega arith in
+          let x : step_from more i ≡ step_from steps i = add.old_from i here in
+          let y : step_from steps i ≤ done = old.behind i here in omega arith
     ] in
     record {
       room = length-set seen p true ∙ old.room;
@@ -193,29 +320,57 @@ more_searched edges start seen steps more p done add old inside fits call =
       spread = λ i q l c.
           let here : i < length steps = omega arith in
           let z = old.spread i q l (subst (λ x. Calls edges x q) (add.old_proc i here) c) in
-          (z.0, place_stays steps more p done q (step_far more i + 1) add (rw (add.old_far i here) z.1));
+          (z.0, place_stays steps more p done q (step_far more i + 1) i add (rw (add.old_far i here) z.1));
+      marked = λ i h. elim (cases_eq i (length steps)) [
+        | inl e ↦ rw (add.new_proc i e) (get_or-set_same seen p true false (let room : length seen ≡ 65536 = old.room in omega arith))
+        | inr ne ↦ let here : i < length steps = omega arith in
+            rw (add.old_proc i here) (kept_mark seen p (step_proc steps i) (let room : length seen ≡ 65536 = old.room in omega arith) (old.marked i here))
+      ];
+      behind = from;
+      in_turn = λ i j a l h. elim (cases_eq j (length steps)) [
+        | inl e ↦ let x : step_from more j ≡ done = add.new_from j e in
+            let y : step_from more i ≤ done = from i (omega arith) in omega arith
+        | inr ne ↦ let here : j < length steps = omega arith in
+            let x : step_from more j ≡ step_from steps j = add.old_from j here in
+            let y : step_from more i ≡ step_from steps i = add.old_from i (omega arith) in
+            let z : step_from steps i ≤ step_from steps j = old.in_turn i j a l here in omega arith
+      ];
+      by_number = λ i j a l h same. elim (cases_eq j (length steps)) [
+        | inl e ↦ let x : step_from more j ≡ done = add.new_from j e in
+            let here : i < length steps = omega arith in
+            let y : step_from more i ≡ step_from steps i = add.old_from i here in
+            let z : step_proc steps i < p = others i a here (omega arith) in
+            rw (add.old_proc i here, add.new_proc j e) z
+        | inr ne ↦ let here : j < length steps = omega arith in
+            let first : i < length steps = omega arith in
+            let x : step_from more j ≡ step_from steps j = add.old_from j here in
+            let y : step_from more i ≡ step_from steps i = add.old_from i first in
+            let z : step_proc steps i < step_proc steps j = old.by_number i j a l here (omega arith) in
+            rw (add.old_proc i first, add.old_proc j here) z
+      ];
     }
 
 -- the search goes on to p
 pub search_more : (edges : List Edge) (start : ℕ) (seen : List Bool) (steps : List Step) (p done : ℕ) → Searched edges start seen steps done →
     done < length steps → p < 65536 → Calls edges (step_proc steps done) p →
+    ((i : ℕ) → 0 < i → i < length steps → step_from steps i ≡ done → step_proc steps i < p) →
     Searched edges start (set seen p true) (steps ++ (record { proc = p; from = done; far = step_far steps done + 1 }) ∷ []) done
-search_more edges start seen steps p done old inside fits call =
-    more_searched edges start seen steps (steps ++ (record { proc = p; from = done; far = step_far steps done + 1 }) ∷ []) p done (pushed steps p done) old inside fits call
+search_more edges start seen steps p done old inside fits call others =
+    more_searched edges start seen steps (steps ++ (record { proc = p; from = done; far = step_far steps done + 1 }) ∷ []) p done (pushed steps p done) old inside fits call others
 
-pub place_more : (steps : List Step) (p done q most : ℕ) → Place steps q most → Place (steps ++ (record { proc = p; from = done; far = step_far steps done + 1 }) ∷ []) q most
-place_more steps p done q most place = place_stays steps (steps ++ (record { proc = p; from = done; far = step_far steps done + 1 }) ∷ []) p done q most (pushed steps p done) place
+pub place_more : (steps : List Step) (p done q most caller : ℕ) → Place steps q most caller → Place (steps ++ (record { proc = p; from = done; far = step_far steps done + 1 }) ∷ []) q most caller
+place_more steps p done q most caller place = place_stays steps (steps ++ (record { proc = p; from = done; far = step_far steps done + 1 }) ∷ []) p done q most caller (pushed steps p done) place
 
-pub place_new : (steps : List Step) (p done : ℕ) → Place (steps ++ (record { proc = p; from = done; far = step_far steps done + 1 }) ∷ []) p (step_far steps done + 1)
+pub place_new : (steps : List Step) (p done : ℕ) → Place (steps ++ (record { proc = p; from = done; far = step_far steps done + 1 }) ∷ []) p (step_far steps done + 1) done
 place_new steps p done =
     let add = pushed steps p done in
     let far = add.new_far (length steps) refl in
     let longer = add.longer in
-    record { at = length steps; inside = rw longer (omega arith); is = add.new_proc (length steps) refl; near = rw far (omega arith) }
+    record { at = length steps; inside = rw longer (omega arith); is = add.new_proc (length steps) refl; near = rw far (omega arith); from = rw (add.new_from (length steps) refl) (omega arith) }
 
 -- the step that was next is done
 pub search_done : (edges : List Edge) (start : ℕ) (seen : List Bool) (steps : List Step) (done : ℕ) → Searched edges start seen steps done → done < length steps →
-    ((p : ℕ) → Calls edges (step_proc steps done) p → (p ≢ start) × Place steps p (step_far steps done + 1)) → Searched edges start seen steps (done + 1)
+    ((p : ℕ) → Calls edges (step_proc steps done) p → (p ≢ start) × Place steps p (step_far steps done + 1) done) → Searched edges start seen steps (done + 1)
 search_done edges start seen steps done old inside all = record {
   room = old.room;
   traced = old.traced;
@@ -224,18 +379,22 @@ search_done edges start seen steps done old inside all = record {
       let x : step_far steps j ≤ step_far steps done + 1 = old.within j h inside in
       let y : step_far steps done ≤ step_far steps (done + 1) = old.rising done (done + 1) (omega arith) d in omega arith;
   placed = old.placed;
-  spread = λ i p l c. below_more (λ i. (p : ℕ) → Calls edges (step_proc steps i) p → (p ≢ start) × Place steps p (step_far steps i + 1)) done (λ i l p c. old.spread i p l c) all i l p c;
+  spread = λ i p l c. below_more (λ i. (p : ℕ) → Calls edges (step_proc steps i) p → (p ≢ start) × Place steps p (step_far steps i + 1) i) done (λ i l p c. old.spread i p l c) all i l p c;
+  marked = old.marked;
+  behind = λ i h. let x : step_from steps i ≤ done = old.behind i h in omega arith;
+  in_turn = old.in_turn;
+  by_number = old.by_number;
 }
 
 -- the same by the numbers of the calls: those before this number, and none from it on
 pub search_passed : (edges : List Edge) (start : ℕ) (seen : List Bool) (steps : List Step) (done number : ℕ) → Searched edges start seen steps done → done < length steps →
-    ((i : ℕ) → i < number → i < length edges → caller_at edges i ≡ step_proc steps done → (callee_at edges i ≢ start) × Place steps (callee_at edges i) (step_far steps done + 1)) →
+    ((i : ℕ) → i < number → i < length edges → caller_at edges i ≡ step_proc steps done → (callee_at edges i ≢ start) × Place steps (callee_at edges i) (step_far steps done + 1) done) →
     ((i : ℕ) → number ≤ i → i < length edges → caller_at edges i ≢ step_proc steps done) → Searched edges start seen steps (done + 1)
 search_passed edges start seen steps done number old inside before from =
     search_done edges start seen steps done old inside (λ p call.
     let e = numbered edges (step_proc steps done) p call in
     elim (cases_lt e.at number) [
-      | inl l ↦ subst (λ x. (x ≢ start) × Place steps x (step_far steps done + 1)) e.callee (before e.at l e.inside e.caller)
+      | inl l ↦ subst (λ x. (x ≢ start) × Place steps x (step_far steps done + 1) done) e.callee (before e.at l e.inside e.caller)
       | inr l ↦ absurd (from e.at l e.inside e.caller)
     ])
 

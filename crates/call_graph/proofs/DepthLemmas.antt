@@ -11,7 +11,7 @@ use Rattle.call_graph.specs.Calls.{Calls, IsCallOrder}
 use Rattle.call_graph.specs.Depths.{ByCaller, Orders, Suffices, AreDepths, AreNumbered, edge_of, call_at}
 use Rattle.call_graph.specs.declared.depth.Held.{Held}
 use Rattle.call_graph.specs.declared.edge.Edge.{Edge}
-use Rattle.call_graph.proofs.OrderLemmas.{place_of}
+use Rattle.call_graph.proofs.OrderLemmas.{place_in}
 
 -- numbers below n with no two equal are at most n
 none : (x : ℕ) (xs : List ℕ) → ((j : ℕ) → j < length xs → x ≢ get_or xs j 0) → AllByRecursion (λ y. eqb x y ≡ false) xs
@@ -150,8 +150,8 @@ orders_from own calls sorted list numbered moved order =
       callees_first = λ i h.
           let call = get_or sorted i none_held in
           let edge : Calls (map edge_of calls) call.caller call.callee = contains_edge calls call (call_at i h) in
-          let caller = place_of list call.caller (order.listed call.caller (call.callee, inl edge)) in
-          let callee = place_of list call.callee (order.listed call.callee (call.caller, inr edge)) in
+          let caller = place_in list call.caller (order.listed call.caller (call.callee, inl edge)) in
+          let callee = place_in list call.callee (order.listed call.callee (call.caller, inr edge)) in
           (callee.0, (caller.0, (order.callees_first caller.0 callee.0 caller.1 callee.1 (rw (caller.2, callee.2) edge), caller.1, callee.2, caller.2)));
     }
 

@@ -2,7 +2,7 @@
 use Rattle.std.proofs.Common.{◌≡◌, ◌≢◌, ℕ, suc, zero, ◌+◌, ◌-◌, ◌<◌, ◌≤◌, ◌⊎◌, min, inl, inr, sym, ◌∙◌, ap, arith, subst, List, length}
 use Rattle.std.proofs.lemmas.Bool.{cases_eq, cases_lt}
 use Rattle.call_graph.specs.Calls.{Reaches}
-use Rattle.call_graph.specs.Walk.{State, Settled, Covers, Stands, Ordered, Kept, caller_at, callee_at}
+use Rattle.call_graph.specs.Walk.{State, Settled, StandsWith, Stands, Ordered, Kept, caller_at, callee_at}
 use Rattle.call_graph.specs.declared.edge.Edge.{Edge}
 use Rattle.call_graph.specs.declared.walk.Frame.{Frame}
 use Rattle.call_graph.specs.declared.walk.Mark.TheVariants.{Met, Done}
@@ -58,7 +58,7 @@ merge_kept edges s n m frame' kept last before_last done low other new =
     let weak : (k q : ℕ) → k < n → Settled s.mark (s.frame k).low q → Settled s.mark (frame' k).low q = λ k q h x. settled_low s.mark (s.frame k).low (frame' k).low q (under k h) x in
     let weak_last : (k q : ℕ) → k ≡ m → Settled s.mark (s.frame n).low q → Settled s.mark (frame' k).low q = λ k q e x. settled_low s.mark (s.frame n).low (frame' k).low q (under_last k e) x in
     let proc : (k : ℕ) → k < n → s.met (frame' k).place ≡ s.met (s.frame k).place = λ k h. ap s.met (place k h) in
-    let covers : (k j : ℕ) → Covers t k j → (k ≡ m → j < (s.frame n).place) → Covers s k j = λ k j c small.
+    let covers : (k j : ℕ) → StandsWith t k j → (k ≡ m → j < (s.frame n).place) → StandsWith s k j = λ k j c small.
     let on : k < n = c.on in
     let x : (frame' k).place ≡ (s.frame k).place = place k on in
     let y : (frame' k).place ≤ j = c.from in
@@ -72,7 +72,7 @@ merge_kept edges s n m frame' kept last before_last done low other new =
             let z : (frame' (k + 1)).place ≡ (s.frame (k + 1)).place = place (k + 1) more in let w : j < (frame' (k + 1)).place = c.below more in omega arith
       ];
     } in
-    let covers_last : (j : ℕ) → (s.frame n).place ≤ j → j < s.size → Covers s n j = λ j from inside. record { on = here; from = from; inside = inside; below = λ l. absurd (omega arith) } in
+    let covers_last : (j : ℕ) → (s.frame n).place ≤ j → j < s.size → StandsWith s n j = λ j from inside. record { on = here; from = from; inside = inside; below = λ l. absurd (omega arith) } in
     let down : Reaches edges (s.met (s.frame m).place) (s.met (s.frame n).place) =
     subst (λ x. Reaches edges (s.met (s.frame m).place) (s.met (s.frame x).place)) before_last (path_call edges s kept m (omega arith)) in
     let placed_last : (s.frame n).place < s.size = kept.stands.placed n here in
@@ -197,7 +197,7 @@ close_ordered edges s t n kept c last followed low =
     let here : n < s.depth = omega arith in
     let some : place < s.size = kept.stands.placed n here in
     let long : t.done + place ≡ s.done + s.size = c.done in
-    let covers : (j : ℕ) → place ≤ j → j < s.size → Covers s n j = λ j from inside. record { on = here; from = from; inside = inside; below = λ l. absurd (omega arith) } in
+    let covers : (j : ℕ) → place ≤ j → j < s.size → StandsWith s n j = λ j from inside. record { on = here; from = from; inside = inside; below = λ l. absurd (omega arith) } in
     let into_group : (q : ℕ) → Settled s.mark (s.frame n).low q → (b : ℕ) × (t.mark q ≡ Done b) × (b ≤ s.done) = λ q x. elim x [
       | inl d ↦ let y : d.0 < s.done = old.below q d.0 d.1 in (d.0, w.done_mark q d.0 d.1, omega arith)
       | inr m ↦ let y : (s.frame n).low ≤ m.0 = m.2 in (s.done, w.gone q m.0 m.1 (omega arith), omega arith)
@@ -283,7 +283,7 @@ close_kept edges s t n kept c last followed high =
     let low : (k : ℕ) → k < n → (t.frame k).low ≡ (s.frame k).low = λ k h. ap (λ f. f.low) (c.frame k h) in
     let short : (k : ℕ) → k < n → (s.frame k).place < l = λ k h. rises edges s kept.stands k n h here in
     let proc : (k : ℕ) → k < n → t.met (t.frame k).place ≡ s.met (s.frame k).place = λ k h. ap t.met (place k h) ∙ c.met (s.frame k).place (short k h) in
-    let covers : (k j : ℕ) → k < n → Covers t k j → Covers s k j = λ k j h v.
+    let covers : (k j : ℕ) → k < n → StandsWith t k j → StandsWith s k j = λ k j h v.
     let x : (t.frame k).place ≡ (s.frame k).place = place k h in let y : (t.frame k).place ≤ j = v.from in let z : j < t.size = v.inside in
     record {
       on = omega arith;
@@ -295,7 +295,7 @@ close_kept edges s t n kept c last followed high =
             let b : j < (t.frame (k + 1)).place = v.below (omega arith) in omega arith
       ];
     } in
-    let met : (k j : ℕ) → Covers t k j → t.met j ≡ s.met j = λ k j v. c.met j (let z : j < t.size = v.inside in omega arith) in
+    let met : (k j : ℕ) → StandsWith t k j → t.met j ≡ s.met j = λ k j v. c.met j (let z : j < t.size = v.inside in omega arith) in
     record {
       stands = record {
         known = λ q. elim (c.marks q) [

@@ -5,3 +5,4 @@ pub mod GroupLemmas
 pub mod OrderLemmas
 pub mod StateLemmas
 pub mod WalkLemmas
+pub mod SortedCalls

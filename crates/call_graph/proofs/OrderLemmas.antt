@@ -8,7 +8,7 @@ use Rattle.std.proofs.lemmas.List.{get_or_default}
 use Rattle.std.proofs.lemmas.List.Sorted.{Contains-permutation, IsPermutation-sym}
 use Rattle.call_graph.specs.Calls.{Calls, Occurs, Way, Reaches, IsCallOrder, IsCycle, IsFaultOf}
 use Rattle.call_graph.specs.Circle.{IsLowestStart}
-use Rattle.call_graph.specs.Walk.{State, Kept, ByCaller, Within, state_of, mark_at, caller_at, callee_at}
+use Rattle.call_graph.specs.Walk.{State, Kept, ByCaller, IsInGroup, state_of, mark_at, caller_at, callee_at}
 use Rattle.call_graph.proofs.CallLemmas.{calls_at, numbered, on_cycle, returns_of}
 use Rattle.call_graph.specs.declared.edge.Edge.{Edge}
 use Rattle.call_graph.specs.declared.fault.GraphFault.{GraphFault}
@@ -27,8 +27,8 @@ mark_cases (Done k) = inr (inr (k, refl))
 pub contains_at : (list : List ℕ) (k p : ℕ) → k < length list → get_or list k 0 ≡ p → Contains list p
 contains_at list k p h is = (k, h, get_or_default list k p 0 h ∙ is)
 
-pub place_of : (list : List ℕ) (p : ℕ) → Contains list p → (k : ℕ) × (k < length list) × (get_or list k 0 ≡ p)
-place_of list p c = (c.0, c.1, get_or_default list c.0 0 p c.1 ∙ c.2)
+pub place_in : (list : List ℕ) (p : ℕ) → Contains list p → (k : ℕ) × (k < length list) × (get_or list k 0 ≡ p)
+place_in list p c = (c.0, c.1, get_or_default list c.0 0 p c.1 ∙ c.2)
 
 -- whoever was seen is in order once the walk is over
 in_order : (edges : List Edge) (s : State) → Kept edges s → s.depth ≡ 0 → (p : ℕ) → s.mark p ≢ Unseen → (a : ℕ) × (s.mark p ≡ Done a)
@@ -60,7 +60,7 @@ way_group edges s kept p q a (suc n) way is =
 
 -- where no call stays within a group, the order of the groups is an order of the calls
 pub order_of : (edges : List Edge) (marks : List Mark) (met : List ℕ) (path : List Frame) (order : List ℕ) → Kept edges (state_of marks met path order) → length path ≡ 0 →
-    ((i : ℕ) → i < length edges → mark_at marks (caller_at edges i) ≢ Unseen) → ((i : ℕ) → i < length edges → Within edges marks i → ⊥) → IsCallOrder edges order
+    ((i : ℕ) → i < length edges → mark_at marks (caller_at edges i) ≢ Unseen) → ((i : ℕ) → i < length edges → IsInGroup edges marks i → ⊥) → IsCallOrder edges order
 order_of edges marks met path order kept empty seen none =
     let s : State = state_of marks met path order in
     let old = kept.ordered in
@@ -70,7 +70,7 @@ order_of edges marks met path order kept empty seen none =
         | inl call ↦ let z = caller_group edges s kept empty seen p occurs.0 call in listed p z.0 z.1
         | inr call ↦ let z = caller_group edges s kept empty seen occurs.0 p call in let y = callee_group edges s kept occurs.0 p z.0 call z.1 in listed p y.0 y.1
       ];
-      only = λ p c. let z = place_of order p c in
+      only = λ p c. let z = place_in order p c in
           let at = old.listed_at z.0 z.1 in
           let is : mark_at marks p ≡ Done at.0 = ap (mark_at marks) (sym z.2) ∙ at.1 in
           elim (kept.stands.known p) [ inl u ↦ absurd cc | inr k ↦ k ];
@@ -91,8 +91,8 @@ order_of edges marks met path order kept empty seen none =
 
 -- the caller of the first call that stays within a group is the lowest procedure that lies on a circle
 pub lowest_start : (edges : List Edge) (marks : List Mark) (met : List ℕ) (path : List Frame) (order : List ℕ) (p i : ℕ) → Kept edges (state_of marks met path order) → length path ≡ 0 →
-    ((i : ℕ) → i < length edges → mark_at marks (caller_at edges i) ≢ Unseen) → ByCaller edges → i < length edges → caller_at edges i ≡ p → Within edges marks i →
-    ((j : ℕ) → j < i → Within edges marks j → ⊥) → IsLowestStart edges p
+    ((i : ℕ) → i < length edges → mark_at marks (caller_at edges i) ≢ Unseen) → ByCaller edges → i < length edges → caller_at edges i ≡ p → IsInGroup edges marks i →
+    ((j : ℕ) → j < i → IsInGroup edges marks j → ⊥) → IsLowestStart edges p
 lowest_start edges marks met path order p i kept empty seen rising inside is within before =
     let s : State = state_of marks met path order in
     let q : ℕ = callee_at edges i in
@@ -111,7 +111,7 @@ lowest_start edges marks met path order p i kept empty seen rising inside is wit
           let falls : b.0 ≤ a.0 = b.2 in let more : c.0 ≤ b.0 = c.2 in
           let same : b.0 ≡ a.0 = omega arith in
           let e = numbered edges r z.0 z.1 in
-          let stays : Within edges marks e.at = (a.0, ap (mark_at marks) e.caller ∙ a.1, ap (mark_at marks) e.callee ∙ (b.1 ∙ ap Done same)) in
+          let stays : IsInGroup edges marks e.at = (a.0, ap (mark_at marks) e.caller ∙ a.1, ap (mark_at marks) e.callee ∙ (b.1 ∙ ap Done same)) in
           elim (cases_lt e.at i) [
             | inl l ↦ absurd (before e.at l stays)
             | inr l ↦ let up : caller_at edges i ≤ caller_at edges e.at = rising i e.at (record { caller = 0; callee = 0 }) l e.inside in
@@ -144,6 +144,7 @@ fault_same edges others moved (Cycle list) fault = record {
   cycle = cycle_same others edges list.items (IsPermutation-sym edges others moved) fault.cycle;
   lowest = λ other cycle. fault.lowest other (cycle_same edges others other moved cycle);
   shortest = λ other cycle. fault.shortest other (cycle_same edges others other moved cycle);
+  lowest_read = λ other cycle. fault.lowest_read other (cycle_same edges others other moved cycle);
 }
 fault_same edges others moved NoMemory h = tt
 
@@ -155,7 +156,7 @@ descends edges list circle order cycle first inside is (suc i) h =
     let before = descends edges list circle order cycle first inside is i (omega arith) in
     let step : i + 1 ≡ suc i = omega arith in
     let call : Calls edges (get_or circle i 0) (get_or circle (suc i) 0) = rw step at (cycle.next i (omega arith)) in
-    let place = place_of list (get_or circle (suc i) 0) (order.listed (get_or circle (suc i) 0) (get_or circle i 0, inr call)) in
+    let place = place_in list (get_or circle (suc i) 0) (order.listed (get_or circle (suc i) 0) (get_or circle i 0, inr call)) in
     let lower : place.0 < before.0 = order.callees_first before.0 place.0 before.1 place.1 (rw (before.2, place.2) call) in
     let far : before.0 + i ≤ first = before.3 in
     (place.0, place.1, place.2, omega arith)
@@ -164,7 +165,7 @@ pub no_circle : (edges : List Edge) (list circle : List ℕ) → IsCallOrder edg
 no_circle edges list circle order cycle =
     let some : 0 < length circle = cycle.some in
     let last : ℕ = length circle - 1 in
-    let place = place_of list (get_or circle 0 0) (order.listed (get_or circle 0 0) (get_or circle last 0, inr cycle.back)) in
+    let place = place_in list (get_or circle 0 0) (order.listed (get_or circle 0 0) (get_or circle last 0, inr cycle.back)) in
     let end = descends edges list circle order cycle place.0 place.1 place.2 last (omega arith) in
     let lower : place.0 < end.0 = order.callees_first end.0 place.0 end.1 place.1 (rw (end.2, place.2) cycle.back) in
     let far : end.0 + last ≤ place.0 = end.3 in

@@ -2,7 +2,7 @@
 use Rattle.std.proofs.Common.{◌≡◌, ◌≢◌, ℕ, ◌+◌, ◌<◌, ◌≤◌, min, inl, inr, sym, ◌∙◌, ap, arith, subst, List, length}
 use Rattle.std.proofs.lemmas.Bool.{cases_eq, cases_lt}
 use Rattle.call_graph.specs.Calls.{Occurs, Reaches}
-use Rattle.call_graph.specs.Walk.{State, Settled, Covers, Ordered, Kept, caller_at, callee_at}
+use Rattle.call_graph.specs.Walk.{State, Settled, StandsWith, Ordered, Kept, caller_at, callee_at}
 use Rattle.call_graph.specs.declared.edge.Edge.{Edge}
 use Rattle.call_graph.specs.declared.walk.Frame.{Frame}
 use Rattle.call_graph.specs.declared.walk.Mark.{Mark}
@@ -60,7 +60,7 @@ enter_kept edges s t p b kept e unseen known called fits before from =
     let next_new : (k : ℕ) → k ≡ s.depth → (t.frame k).next ≡ b = λ k h. ap (λ f. f.next) (e.frame_new k h) in
     let low_new : (k : ℕ) → k ≡ s.depth → (t.frame k).low ≡ s.size = λ k h. ap (λ f. f.low) (e.frame_new k h) in
     let proc_new : (k : ℕ) → k ≡ s.depth → t.met (t.frame k).place ≡ p = λ k h. e.met_new (t.frame k).place (place_new k h) in
-    let covers : (k j : ℕ) → k < s.depth → Covers t k j → Covers s k j = λ k j h c.
+    let covers : (k j : ℕ) → k < s.depth → StandsWith t k j → StandsWith s k j = λ k j h c.
     let a : (t.frame k).place ≡ (s.frame k).place = place k h in
     let f : (t.frame k).place ≤ j = c.from in
     let below : k + 1 < s.depth → j < (s.frame (k + 1)).place =
@@ -76,9 +76,9 @@ enter_kept edges s t p b kept e unseen known called fits before from =
       ];
       below = below;
     } in
-    let covers_new : (k j : ℕ) → k ≡ s.depth → Covers t k j → j ≡ s.size = λ k j h c.
+    let covers_new : (k j : ℕ) → k ≡ s.depth → StandsWith t k j → j ≡ s.size = λ k j h c.
     let x : (t.frame k).place ≡ s.size = place_new k h in let y : (t.frame k).place ≤ j = c.from in let z : j < t.size = c.inside in omega arith in
-    let met_same : (k j : ℕ) → (h : k < s.depth) → Covers t k j → t.met j ≡ s.met j = λ k j h c. e.met_old j (covers k j h c).inside in
+    let met_same : (k j : ℕ) → (h : k < s.depth) → StandsWith t k j → t.met j ≡ s.met j = λ k j h c. e.met_old j (covers k j h c).inside in
     record {
       stands = record {
         known = λ q. elim (cases_eq q p) [ inl same ↦ inr (subst (Occurs edges) (sym same) known) | inr ne ↦ elim (kept.stands.known q) [ inl u ↦ inl (e.mark_old q ne ∙ u) | inr k ↦ inr k ] ];
@@ -179,7 +179,7 @@ advance_kept edges s n to frame' kept last edge settled reaches other new =
       | inr ne ↦ let x : (frame' k).low ≡ (s.frame k).low = low_old k ne in omega arith
     ] in
     let weak : (k q : ℕ) → Settled s.mark (s.frame k).low q → Settled s.mark (frame' k).low q = λ k q x. settled_low s.mark (s.frame k).low (frame' k).low q (under k) x in
-    let covers : (k j : ℕ) → Covers t k j → Covers s k j = λ k j c. record {
+    let covers : (k j : ℕ) → StandsWith t k j → StandsWith s k j = λ k j c. record {
       on = c.on;
       from = let x : (frame' k).place ≡ (s.frame k).place = place k in let y : (frame' k).place ≤ j = c.from in omega arith;
       inside = c.inside;

@@ -1,5 +1,5 @@
 -- What an order of procedures and a circle of calls are.
-use Rattle.std.specs.Prelude.{◌≡◌, ◌≢◌, ℕ, ◌+◌, ◌-◌, ◌<◌, ◌≤◌, ◌⊎◌, List, length, Contains, slice_index}
+use Rattle.std.specs.Prelude.{◌≡◌, ◌≢◌, ℕ, ◌+◌, ◌-◌, ◌<◌, ◌≤◌, ◌⊎◌, List, [], ◌∷◌, length, Contains, slice_index}
 use Prim.Native.Nat.{zero, suc}
 use Rattle.call_graph.specs.declared.edge.Edge.{Edge}
 use Rattle.call_graph.specs.declared.fault.GraphFault.{GraphFault}
@@ -34,12 +34,20 @@ pub record IsCycle (edges : List Edge) (list : List ℕ) : Type 0 where
   pub next : (i : ℕ) → i + 1 < length list → Calls edges (slice_index list i) (slice_index list (i + 1))
   pub back : Calls edges (slice_index list (length list - 1)) (slice_index list 0)
 
--- a circle through the lowest procedure that lies on any, by a shortest way back to it. It begins with that procedure; a
--- circle can be begun at any of its procedures, so the others through it are those that begin with it too
+-- read in order, the first list is lower: where the two first differ, it has the lower number
+abbrev pub IsLower : List ℕ → List ℕ → Type 0
+IsLower [] ys = ⊥
+IsLower (x ∷ xs) [] = ⊥
+IsLower (x ∷ xs) (y ∷ ys) = (x < y) ⊎ ((x ≡ y) × IsLower xs ys)
+
+-- a circle through the lowest procedure that lies on any, by a shortest way back to it, and the lowest of those when they
+-- are read in order. It begins with that procedure; a circle can be begun at any of its procedures, so the others through
+-- it are those that begin with it too
 pub record IsLowestCycle (edges : List Edge) (list : List ℕ) : Type 0 where
   pub cycle : IsCycle edges list
   pub lowest : (other : List ℕ) → IsCycle edges other → (i : ℕ) → i < length other → slice_index list 0 ≤ slice_index other i
   pub shortest : (other : List ℕ) → IsCycle edges other → slice_index other 0 ≡ slice_index list 0 → length list ≤ length other
+  pub lowest_read : (other : List ℕ) → IsCycle edges other → slice_index other 0 ≡ slice_index list 0 → length other ≡ length list → (list ≡ other) ⊎ IsLower list other
 
 -- the circle that is named is the lowest of the edges, by a shortest way
 abbrev pub IsFaultOf : List Edge → GraphFault → Type 0

@@ -1,6 +1,6 @@
 -- What a search for a shortest circle of calls keeps true.
-use Rattle.std.specs.Prelude.{◌≡◌, ◌≢◌, ℕ, ◌+◌, ◌<◌, ◌≤◌, Bool, true, false, List, length, sum_by, slice_index, slice_index_or}
-use Rattle.call_graph.specs.Calls.{Calls, IsCycle, Way}
+use Rattle.std.specs.Prelude.{◌≡◌, ◌≢◌, ℕ, zero, suc, ◌+◌, ◌<◌, ◌≤◌, ◌⊎◌, Bool, true, false, List, [], ◌∷◌, ◌++◌, length, sum_by, slice_index, slice_index_or}
+use Rattle.call_graph.specs.Calls.{Calls, IsCycle, IsLower, Way}
 use Rattle.call_graph.specs.declared.circle.Step.{Step}
 use Rattle.call_graph.specs.declared.edge.Edge.{Edge}
 
@@ -8,11 +8,12 @@ use Rattle.call_graph.specs.declared.edge.Edge.{Edge}
 abbrev pub Returns : List Edge → ℕ → ℕ → Type 0
 Returns edges p n = (q : ℕ) × Way edges p q n × Calls edges q p
 
--- a shortest of the circles through p
+-- the lowest of the shortest circles through p
 pub record IsShortestFrom (edges : List Edge) (p : ℕ) (list : List ℕ) : Type 0 where
   pub cycle : IsCycle edges list
   pub first : slice_index list 0 ≡ p
   pub shortest : (n : ℕ) → Returns edges p n → length list ≤ n + 1
+  pub lowest : (other : List ℕ) → IsCycle edges other → slice_index other 0 ≡ p → length other ≡ length list → (list ≡ other) ⊎ IsLower list other
 
 abbrev pub step_at : List Step → ℕ → Step
 step_at steps i = slice_index_or steps i (record { proc = 0; from = 0; far = 0 })
@@ -39,22 +40,37 @@ pub record Traced (edges : List Edge) (start : ℕ) (steps : List Step) : Type 0
   pub low : (i : ℕ) → i < length steps → step_far steps i ≤ i
   pub farther : (i : ℕ) → 0 < i → i < length steps → step_far steps i ≡ step_far steps (step_from steps i) + 1
 
--- p has a place among the steps, at most so far
-pub record Place (steps : List Step) (p most : ℕ) : Type 0 where
+-- the procedures on the way to a step, from one call after the start on
+abbrev pub path_to : List Step → ℕ → ℕ → List ℕ
+path_to steps zero i = []
+path_to steps (suc n) i = path_to steps n (step_from steps i) ++ step_proc steps i ∷ []
+
+-- p has a place among the steps, at most so far, and whoever is first to call it has at most this place
+pub record Place (steps : List Step) (p most caller : ℕ) : Type 0 where
   pub at : ℕ
   pub inside : at < length steps
   pub is : step_proc steps at ≡ p
   pub near : step_far steps at ≤ most
+  pub from : step_from steps at ≤ caller
 
 -- the steps rise by how far they are, up to one more than the step that is next; whoever was seen has a place; and whoever
--- is called by one of the steps that are done has a place too, one call farther at most, and isn't the start
+-- is called by one of the steps that are done has a place too, one call farther at most, and isn't the start. The steps come
+-- by the places of those that call them, and those that one step calls by their numbers
 pub record Searched (edges : List Edge) (start : ℕ) (seen : List Bool) (steps : List Step) (done : ℕ) : Type 0 where
   pub room : length seen ≡ 65536
   pub traced : Traced edges start steps
   pub rising : (i j : ℕ) → i ≤ j → j < length steps → step_far steps i ≤ step_far steps j
   pub within : (j : ℕ) → j < length steps → done < length steps → step_far steps j ≤ step_far steps done + 1
   pub placed : (p : ℕ) → seen_at seen p ≡ true → (i : ℕ) × (i < length steps) × (step_proc steps i ≡ p)
-  pub spread : (i p : ℕ) → i < done → Calls edges (step_proc steps i) p → (p ≢ start) × Place steps p (step_far steps i + 1)
+  pub spread : (i p : ℕ) → i < done → Calls edges (step_proc steps i) p → (p ≢ start) × Place steps p (step_far steps i + 1) i
+  pub marked : (i : ℕ) → i < length steps → seen_at seen (step_proc steps i) ≡ true
+  pub behind : (i : ℕ) → i < length steps → step_from steps i ≤ done
+  pub in_turn : (i j : ℕ) → 0 < i → i ≤ j → j < length steps → step_from steps i ≤ step_from steps j
+  pub by_number : (i j : ℕ) → 0 < i → i < j → j < length steps → step_from steps i ≡ step_from steps j → step_proc steps i < step_proc steps j
+
+-- no step was called yet by the one at this place
+abbrev pub NoneFrom : List Step → ℕ → Type 0
+NoneFrom steps at = (i : ℕ) → 0 < i → i < length steps → step_from steps i < at
 
 -- how many procedures are unseen, or have a place: it stays the same
 abbrev pub unseen_one : Bool → ℕ

@@ -19,6 +19,11 @@ callee_at edges i = (slice_index_or edges i (record { caller = 0; callee = 0 }))
 abbrev pub ByCaller : List Edge → Type 0
 ByCaller edges = IsNonDecreasingBy (λ e. e.caller) edges
 
+-- the edges stand by their callers, and those of one caller by their callees
+pub record ByCall (edges : List Edge) : Type 0 where
+  pub by_caller : ByCaller edges
+  pub by_callee : (i j : ℕ) → i ≤ j → j < length edges → caller_at edges i ≡ caller_at edges j → callee_at edges i ≤ callee_at edges j
+
 abbrev pub mark_at : List Mark → ℕ → Mark
 mark_at marks p = slice_index_or marks p Unseen
 
@@ -40,7 +45,7 @@ abbrev pub Settled : (ℕ → Mark) → ℕ → ℕ → Type 0
 Settled mark low q = ((a : ℕ) × (mark q ≡ Done a)) ⊎ ((j : ℕ) × (mark q ≡ Met j) × (low ≤ j))
 
 -- the procedure met at j stands with the procedure at depth k of the path: it is met with or after that, and before the next
-pub record Covers (s : State) (k j : ℕ) : Type 0 where
+pub record StandsWith (s : State) (k j : ℕ) : Type 0 where
   pub on : k < s.depth
   pub from : (s.frame k).place ≤ j
   pub inside : j < s.size
@@ -62,12 +67,12 @@ pub record Stands (edges : List Edge) (s : State) : Type 0 where
       ((s.frame k).next < length edges) × (caller_at edges (s.frame k).next ≡ s.met (s.frame k).place) × (callee_at edges (s.frame k).next ≡ s.met (s.frame (k + 1)).place)
   pub ahead : (k i : ℕ) → k < s.depth → (s.frame k).next ≤ i → i < length edges → s.met (s.frame k).place ≤ caller_at edges i
   pub behind : (k i : ℕ) → k < s.depth → i < (s.frame k).next → caller_at edges i ≡ s.met (s.frame k).place → Settled s.mark (s.frame k).low (callee_at edges i)
-  pub shut : (k j i : ℕ) → Covers s k j → (s.frame k).place < j → i < length edges → caller_at edges i ≡ s.met j → Settled s.mark (s.frame k).low (callee_at edges i)
+  pub shut : (k j i : ℕ) → StandsWith s k j → (s.frame k).place < j → i < length edges → caller_at edges i ≡ s.met j → Settled s.mark (s.frame k).low (callee_at edges i)
 
 -- calls lead from a procedure on the path to those that stand with it and back, and to the one at its low place
 pub record Leads (edges : List Edge) (s : State) : Type 0 where
-  pub forth : (k j : ℕ) → Covers s k j → Reaches edges (s.met (s.frame k).place) (s.met j)
-  pub round : (k j : ℕ) → Covers s k j → Reaches edges (s.met j) (s.met (s.frame k).place)
+  pub forth : (k j : ℕ) → StandsWith s k j → Reaches edges (s.met (s.frame k).place) (s.met j)
+  pub round : (k j : ℕ) → StandsWith s k j → Reaches edges (s.met j) (s.met (s.frame k).place)
   pub back : (k : ℕ) → k < s.depth → Reaches edges (s.met (s.frame k).place) (s.met (s.frame k).low)
 
 -- the order has the procedures with a group, each once, by rising groups; no call leads to a higher group; and calls lead
@@ -98,7 +103,7 @@ state_of marks met path order = record {
 }
 
 -- the same of a walk along these edges, with a mark for each of the 65,536 numbers
-pub record Holds (edges : List Edge) (w : Walk) : Type 0 where
+pub record IsWalkOf (edges : List Edge) (w : Walk) : Type 0 where
   pub kept : Kept edges (state_of w.marks.items w.met.items w.path.items w.order.items)
   pub room : vec_len w.marks ≡ 65536
 
@@ -119,11 +124,11 @@ abbrev pub StaysSeen : Walk → Walk → Type 0
 StaysSeen v w = (p : ℕ) → mark_at v.marks.items p ≢ Unseen → mark_at w.marks.items p ≢ Unseen
 
 -- the edge of this number stays within a group
-abbrev pub Within : List Edge → List Mark → ℕ → Type 0
-Within edges marks i = (a : ℕ) × (mark_at marks (caller_at edges i) ≡ Done a) × (mark_at marks (callee_at edges i) ≡ Done a)
+abbrev pub IsInGroup : List Edge → List Mark → ℕ → Type 0
+IsInGroup edges marks i = (a : ℕ) × (mark_at marks (caller_at edges i) ≡ Done a) × (mark_at marks (callee_at edges i) ≡ Done a)
 
 -- a walk that is over and has seen each caller
 pub record AreGrouped (edges : List Edge) (w : Walk) : Type 0 where
-  pub holds : Holds edges w
+  pub holds : IsWalkOf edges w
   pub empty : length w.path.items ≡ 0
   pub seen : (i : ℕ) → i < length edges → mark_at w.marks.items (caller_at edges i) ≢ Unseen

@@ -1,8 +1,9 @@
-ghost use Rattle.std.specs.Prelude.{◌≡◌, ℕ, ◌+◌, ◌<◌, List, IfNone, IfOk, IfSome, OnOk, false, length, slice_index, vec_len};
+// A search for a shortest circle of calls, breadth first.
+ghost use Rattle.std.specs.Prelude.{◌≡◌, ℕ, ◌+◌, ◌<◌, ◌∷◌, List, IfNone, IfOk, IfSome, OnOk, false, length, slice_index, vec_len};
 ghost use Rattle.std.specs.Bool.{OnFalse, OnTrue};
 ghost use Rattle.call_graph.specs.Calls.{Calls, IsCycle};
-ghost use Rattle.call_graph.specs.Circle.{IsShortestFrom, Returns, Searched, Traced, left, seen_at, step_far, step_from, step_proc};
-ghost use Rattle.call_graph.specs.Walk.{ByCaller};
+ghost use Rattle.call_graph.specs.Circle.{IsShortestFrom, NoneFrom, Returns, Searched, Traced, left, path_to, seen_at, step_far, step_from, step_proc};
+ghost use Rattle.call_graph.specs.Walk.{ByCall};
 
 use crate::edge::{Edge, NUMBERS, ProcId, first_call};
 use std::alloc::{AllocError, Global};
@@ -16,13 +17,14 @@ pub(crate) struct Step {
     pub(crate) far: usize,
 }
 
-/// A shortest circle through this procedure, if there is one: a search from it, breadth first, along the calls.
+/// The lowest of the shortest circles through this procedure, if there are any: a search from it, breadth first, along the
+/// calls, those of each caller by their callees.
 pub(crate) fn circle_through(
     alloc: Global,
     calls: &[Edge],
     start: ProcId,
 ) -> Result<Option<Vec<ProcId>>, AllocError>
-    requires { ByCaller calls.now }
+    requires { ByCall calls.now }
     ensures some { IfOk result (λ found. IfSome found (λ list. IsShortestFrom calls.now start list.items)) }
     ensures none { IfOk result (λ found. IfNone found ((n : ℕ) → ¬ (Returns calls.now start n))) }
 {
@@ -47,7 +49,8 @@ fn none_of(alloc: Global, count: usize) -> Result<Vec<bool>, AllocError>
 
 /// A search that has seen its start alone.
 fn begin(alloc: Global, start: ProcId) -> Result<(Vec<bool>, Vec<Step>), AllocError>
-    ensures { IfOk result (λ x. (calls : List Edge) → Searched calls start x.0.items x.1.items 0) }
+    ensures searched { IfOk result (λ x. (calls : List Edge) → Searched calls start x.0.items x.1.items 0) }
+    ensures first { IfOk result (λ x. NoneFrom x.1.items 0) }
 {
     let mut seen = none_of(alloc, NUMBERS)?;
     seen[usize::from(start)] = true;
@@ -68,10 +71,12 @@ fn spread(
     steps: &mut Vec<Step>,
     at: usize,
 ) -> Result<bool, AllocError>
-    requires rising { ByCaller calls.now }
+    requires rising { ByCall calls.now }
+    requires first { NoneFrom steps.old.items at }
     requires searched { Searched calls.now start seen.old steps.old.items at }
     requires inside { at < length steps.old.items }
     ensures goes_on { IfOk result (λ closed. OnFalse closed (Searched calls.now start seen.new steps.new.items (at + 1))) }
+    ensures next { IfOk result (λ closed. OnFalse closed (NoneFrom steps.new.items (at + 1))) }
     ensures closed { IfOk result (λ closed. OnTrue closed (Searched calls.now start seen.new steps.new.items at × (at < length steps.new.items) × Calls calls.now (step_proc steps.new.items at) start)) }
     ensures left { OnOk result (left seen.new steps.new.items ≡ left seen.old steps.old.items) }
 {
@@ -100,7 +105,7 @@ fn spread(
 fn circle_from(alloc: Global, steps: &[Step], at: usize) -> Result<Vec<ProcId>, AllocError>
     requires inside { at < length steps.now }
     requires earlier { (i : ℕ) → 0 < i → i < length steps.now → step_from steps.now i < i }
-    ensures { IfOk result (λ list. (calls : List Edge) (start : ℕ) → Traced calls start steps.now → Calls calls (step_proc steps.now at) start → IsCycle calls list.items × (slice_index list.items 0 ≡ start) × (length list.items ≡ step_far steps.now at + 1)) }
+    ensures { IfOk result (λ list. (calls : List Edge) (start : ℕ) → Traced calls start steps.now → Calls calls (step_proc steps.now at) start → IsCycle calls list.items × (slice_index list.items 0 ≡ start) × (length list.items ≡ step_far steps.now at + 1) × (list.items ≡ start ∷ path_to steps.now (step_far steps.now at) at)) }
 {
     let mut list = Vec::new(alloc);
     let mut place = at;

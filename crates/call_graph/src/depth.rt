@@ -1,3 +1,4 @@
+// How deep the stack gets under each procedure.
 ghost use Rattle.std.specs.Prelude.{◌≡◌, ℕ, ◌+◌, ◌*◌, ◌<◌, ◌≤◌, ◌^◌, IfErr, IfOk, length, map, slice_index};
 ghost use Rattle.call_graph.specs.Calls.{IsFaultOf};
 ghost use Rattle.call_graph.specs.Depths.{AreDepths, AreNumbered, ByCaller, Orders, call_at, edge_of};
@@ -8,7 +9,7 @@ use crate::ordering::order;
 use std::alloc::{AllocError, Global};
 
 /// A call, and the bytes that the caller has on the stack when the callee begins, the return address with them.
-#[derive(Clone, Copy, Debug, PartialEq, Eq)]
+#[derive(Clone, Copy, PartialEq, Eq)]
 pub struct Held {
     pub caller: ProcId,
     pub callee: ProcId,

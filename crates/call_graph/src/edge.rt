@@ -1,3 +1,4 @@
+// Procedures, and the calls between them.
 ghost use Rattle.std.specs.Prelude.{◌≡◌, ℕ, ◌<◌, ◌≤◌, length, slice_index_or};
 ghost use Rattle.std.specs.List.Sorted.{IsNonDecreasingBy};
 
@@ -7,8 +8,9 @@ pub type ProcId = u16;
 /// How many numbers a procedure may have.
 pub(crate) const NUMBERS: usize = 65_536;
 
-/// A call: the procedure that calls, and the one that it calls.
-#[derive(Clone, Copy, Debug, PartialEq, Eq)]
+/// A call: the procedure that calls, and the one that it calls. Calls are ordered by their callers, and those of one caller
+/// by their callees.
+#[derive(Clone, Copy, PartialEq, Eq, PartialOrd, Ord)]
 pub struct Edge {
     pub caller: ProcId,
     pub callee: ProcId,

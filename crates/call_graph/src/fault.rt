@@ -1,3 +1,4 @@
+// Why there is no order of the procedures.
 use crate::edge::ProcId;
 use thiserror::Error;
 

@@ -1,4 +1,4 @@
-//! The order of procedures by their calls, and the stack that each of them needs (docs/CALLS.md).
+// The order of procedures by their calls, and the stack that each of them needs (docs/CALLS.md).
 #![tactic(auto)]
 
 mod circle;
@@ -12,6 +12,3 @@ pub use depth::{Held, depths};
 pub use edge::{Edge, ProcId};
 pub use fault::GraphFault;
 pub use ordering::order;
-
-#[cfg(test)]
-mod tests;

@@ -1,7 +1,8 @@
+// The order of procedures by their calls.
 ghost use Rattle.std.specs.Prelude.{ℕ, List, IfOk, IfErr, OnOk};
 ghost use Rattle.call_graph.specs.Calls.{IsCallOrder, IsCycle, IsFaultOf};
 ghost use Rattle.call_graph.specs.Circle.{IsLowestStart};
-ghost use Rattle.call_graph.specs.Walk.{AreGrouped, ByCaller};
+ghost use Rattle.call_graph.specs.Walk.{AreGrouped, ByCall, ByCaller};
 
 use crate::circle::circle_through;
 use crate::edge::{Edge, ProcId};
@@ -10,8 +11,8 @@ use crate::walk::Walk;
 use std::alloc::{AllocError, Global};
 
 /// The procedures of these calls, each of them once, and each callee before its callers. `Cycle` comes where
-/// there is no such order, with a shortest circle of calls through the lowest procedure that lies on any;
-/// `NoMemory` where memory was refused.
+/// there is no such order, with the lowest, read in order, of the shortest circles of calls through the lowest
+/// procedure that lies on any; `NoMemory` where memory was refused.
 pub fn order(alloc: Global, edges: &[Edge]) -> Result<Vec<ProcId>, GraphFault>
     ensures order { IfOk result (λ list. IsCallOrder edges.now list.items) }
     ensures acyclic { OnOk result ((list : List ℕ) → ¬ (IsCycle edges.now list)) }
@@ -20,13 +21,13 @@ pub fn order(alloc: Global, edges: &[Edge]) -> Result<Vec<ProcId>, GraphFault>
     let Ok(mut calls) = Vec::from_slice(alloc, edges) else {
         return Err(GraphFault::NoMemory);
     };
-    calls.sort_unstable_by_key(|edge| edge.caller);
+    calls.sort_unstable();
     order_by_caller(alloc, &calls)
 }
 
-/// The same of calls that stand by their callers.
+/// The same of calls that stand by their callers, and those of one caller by their callees.
 fn order_by_caller(alloc: Global, calls: &[Edge]) -> Result<Vec<ProcId>, GraphFault>
-    requires { ByCaller calls.now }
+    requires { ByCall calls.now }
     ensures order { IfOk result (λ list. IsCallOrder calls.now list.items) }
     ensures fault { IfErr result (IsFaultOf calls.now) }
 {
@@ -51,9 +52,9 @@ fn walk_along(alloc: Global, calls: &[Edge]) -> Result<Walk, AllocError>
     Ok(walk)
 }
 
-/// The fault that names a shortest circle through this procedure, the lowest that lies on any.
+/// The fault that names the lowest of the shortest circles through this procedure, the lowest that lies on any.
 fn circle_fault(alloc: Global, calls: &[Edge], start: ProcId) -> GraphFault
-    requires rising { ByCaller calls.now }
+    requires rising { ByCall calls.now }
     requires lowest { IsLowestStart calls.now start }
     ensures { IsFaultOf calls.now result }
 {

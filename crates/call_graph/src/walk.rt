@@ -1,6 +1,7 @@
+// A walk along the calls, depth first, that puts the procedures in order by groups.
 ghost use Rattle.std.specs.Prelude.{◌≡◌, ◌≢◌, ℕ, ◌+◌, ◌-◌, ◌<◌, ◌≤◌, ◌↔◌, ◌⊎◌, IsTrue, List, IfNone, IfOk, IfSome, OnOk, length, slice_index, sum_by, vec_len};
 ghost use Rattle.call_graph.specs.Calls.{Occurs, Reaches};
-ghost use Rattle.call_graph.specs.Walk.{ByCaller, Holds, Settled, StaysSeen, Within, caller_at, callee_at, frame_at, mark_at, mark_work, work};
+ghost use Rattle.call_graph.specs.Walk.{ByCaller, IsWalkOf, Settled, StaysSeen, IsInGroup, caller_at, callee_at, frame_at, mark_at, mark_work, work};
 
 use crate::edge::{Edge, NUMBERS, ProcId, first_call};
 use std::alloc::{AllocError, Global};
@@ -70,7 +71,7 @@ fn is_within(marks: &[Mark], edge: Edge) -> bool
 impl Walk {
     /// A walk that has seen nothing yet.
     pub(crate) fn new(alloc: Global) -> Result<Self, AllocError>
-        ensures holds { IfOk result (λ walk. (edges : List Edge) → Holds edges walk) }
+        ensures holds { IfOk result (λ walk. (edges : List Edge) → IsWalkOf edges walk) }
         ensures empty { IfOk result (λ walk. length walk.path.items ≡ 0) }
     {
         Ok(Walk {
@@ -84,11 +85,11 @@ impl Walk {
     /// Goes on to a procedure that was not seen, which the last one on the path calls, if there is one.
     fn enter(&mut self, calls: &[Edge], proc: ProcId) -> Result<(), AllocError>
         requires rising { ByCaller calls.now }
-        requires holds { Holds calls.now self.old }
+        requires holds { IsWalkOf calls.now self.old }
         requires unseen { mark_at self.old.marks.items proc ≡ Mark.Unseen }
         requires known { Occurs calls.now proc }
         requires called { (k : ℕ) → k + 1 ≡ length self.old.path.items → (frame_at self.old.path.items k).next < length calls.now × (caller_at calls.now (frame_at self.old.path.items k).next ≡ slice_index self.old.met.items (frame_at self.old.path.items k).place) × (callee_at calls.now (frame_at self.old.path.items k).next ≡ proc) }
-        ensures holds { OnOk result (Holds calls.now self.new) }
+        ensures holds { OnOk result (IsWalkOf calls.now self.new) }
         ensures less { OnOk result (work calls.now self.new < work calls.now self.old) }
         ensures seen { OnOk result (mark_at self.new.marks.items proc ≢ Mark.Unseen × StaysSeen self.old self.new) }
     {
@@ -106,12 +107,12 @@ impl Walk {
     /// Goes past the edge that is followed. Its callee is in order, or met at this place or later; and calls lead
     /// from the last procedure on the path to the one that is met at this place.
     fn advance(&mut self, calls: &[Edge], place: usize)
-        requires holds { Holds calls.now self.old }
+        requires holds { IsWalkOf calls.now self.old }
         requires some { 0 < length self.old.path.items }
         requires edge { (frame_at self.old.path.items (length self.old.path.items - 1)).next < length calls.now }
         requires settled { Settled (mark_at self.old.marks.items) place (callee_at calls.now (frame_at self.old.path.items (length self.old.path.items - 1)).next) }
         requires reaches { Reaches calls.now (slice_index self.old.met.items (frame_at self.old.path.items (length self.old.path.items - 1)).place) (slice_index self.old.met.items place) }
-        ensures holds { Holds calls.now self.new }
+        ensures holds { IsWalkOf calls.now self.new }
         ensures less { work calls.now self.new < work calls.now self.old }
         ensures marks { self.new.marks ≡ self.old.marks }
     {
@@ -127,11 +128,11 @@ impl Walk {
     /// Takes the last procedure off the path, whose edges were all followed, and from which calls lead to one that
     /// was met before it: it stands with the one before it on the path from now on.
     fn merge(&mut self, calls: &[Edge])
-        requires holds { Holds calls.now self.old }
+        requires holds { IsWalkOf calls.now self.old }
         requires some { 0 < length self.old.path.items }
         requires done { (i : ℕ) → i < length calls.now → caller_at calls.now i ≡ slice_index self.old.met.items (frame_at self.old.path.items (length self.old.path.items - 1)).place → i < (frame_at self.old.path.items (length self.old.path.items - 1)).next }
         requires low { (frame_at self.old.path.items (length self.old.path.items - 1)).low < (frame_at self.old.path.items (length self.old.path.items - 1)).place }
-        ensures holds { Holds calls.now self.new }
+        ensures holds { IsWalkOf calls.now self.new }
         ensures less { work calls.now self.new < work calls.now self.old }
         ensures marks { self.new.marks ≡ self.old.marks }
     {
@@ -149,11 +150,11 @@ impl Walk {
     /// Takes the last procedure off the path, whose edges were all followed, and puts it in order as a group with
     /// those that stand with it, from which calls lead to no procedure that was met before.
     fn close(&mut self, calls: &[Edge]) -> Result<(), AllocError>
-        requires holds { Holds calls.now self.old }
+        requires holds { IsWalkOf calls.now self.old }
         requires some { 0 < length self.old.path.items }
         requires done { (i : ℕ) → i < length calls.now → caller_at calls.now i ≡ slice_index self.old.met.items (frame_at self.old.path.items (length self.old.path.items - 1)).place → i < (frame_at self.old.path.items (length self.old.path.items - 1)).next }
         requires low { (frame_at self.old.path.items (length self.old.path.items - 1)).place ≤ (frame_at self.old.path.items (length self.old.path.items - 1)).low }
-        ensures holds { OnOk result (Holds calls.now self.new) }
+        ensures holds { OnOk result (IsWalkOf calls.now self.new) }
         ensures less { OnOk result (work calls.now self.new < work calls.now self.old) }
         ensures seen { OnOk result (StaysSeen self.old self.new) }
     {
@@ -171,9 +172,9 @@ impl Walk {
     /// callee it leaves the path.
     fn step(&mut self, calls: &[Edge]) -> Result<(), AllocError>
         requires rising { ByCaller calls.now }
-        requires holds { Holds calls.now self.old }
+        requires holds { IsWalkOf calls.now self.old }
         requires some { 0 < length self.old.path.items }
-        ensures holds { OnOk result (Holds calls.now self.new) }
+        ensures holds { OnOk result (IsWalkOf calls.now self.new) }
         ensures less { OnOk result (work calls.now self.new < work calls.now self.old) }
         ensures seen { OnOk result (StaysSeen self.old self.new) }
     {
@@ -197,10 +198,10 @@ impl Walk {
     /// Walks from a procedure until it is in order, with all that it leads to.
     pub(crate) fn visit(&mut self, calls: &[Edge], proc: ProcId) -> Result<(), AllocError>
         requires rising { ByCaller calls.now }
-        requires holds { Holds calls.now self.old }
+        requires holds { IsWalkOf calls.now self.old }
         requires known { Occurs calls.now proc }
         requires empty { length self.old.path.items ≡ 0 }
-        ensures holds { OnOk result (Holds calls.now self.new) }
+        ensures holds { OnOk result (IsWalkOf calls.now self.new) }
         ensures empty { OnOk result (length self.new.path.items ≡ 0) }
         ensures seen { OnOk result (mark_at self.new.marks.items proc ≢ Mark.Unseen × StaysSeen self.old self.new) }
     {
@@ -216,8 +217,8 @@ impl Walk {
     /// The caller of the first call that stays within a group.
     pub(crate) fn first_within(&self, calls: &[Edge]) -> Option<ProcId>
         requires { vec_len self.now.marks ≡ 65536 }
-        ensures some { IfSome result (λ p. (i : ℕ) × (i < length calls.now) × (caller_at calls.now i ≡ p) × Within calls.now self.now.marks.items i × ((j : ℕ) → j < i → Within calls.now self.now.marks.items j → ⊥)) }
-        ensures none { IfNone result ((j : ℕ) → j < length calls.now → Within calls.now self.now.marks.items j → ⊥) }
+        ensures some { IfSome result (λ p. (i : ℕ) × (i < length calls.now) × (caller_at calls.now i ≡ p) × IsInGroup calls.now self.now.marks.items i × ((j : ℕ) → j < i → IsInGroup calls.now self.now.marks.items j → ⊥)) }
+        ensures none { IfNone result ((j : ℕ) → j < length calls.now → IsInGroup calls.now self.now.marks.items j → ⊥) }
     {
         for edge in calls {
             if is_within(&self.marks, *edge) {

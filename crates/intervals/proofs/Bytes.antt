@@ -24,38 +24,41 @@ ones_from-is n =
     found_ones (λ ones. leb n ones) (0 ∷ 1 ∷ 3 ∷ 7 ∷ 15 ∷ 31 ∷ 63 ∷ 127 ∷ [])
     ((0, refl), ((1, refl), ((2, refl), ((3, refl), ((4, refl), ((5, refl), ((6, refl), ((7, refl), tt))))))))
 
-ones_from-above : (n : ℕ) → n ≤ 255 → n ≤ ones_from n
-ones_from-above n h = grind (arith, nat_tests)
+-- a byte that is not above a number is not above its row of ones
+ones_from-above : (n a : ℕ) → a ≤ n → a ≤ 255 → a ≤ ones_from n
+ones_from-above n a h p = grind (arith, nat_tests)
 
 below_ones : (m k x : ℕ) → m + 1 ≡ 2 ^ k → x < 2 ^ k → x ≤ m
 below_ones m k x e h = omega arith
 
-or_below : (n a b : ℕ) → n ≤ 255 → a ≤ n → b ≤ n → bit_or a b ≤ ones_from n
-or_below n a b h p q =
+or_below : (n a b : ℕ) → a ≤ n → b ≤ n → a ≤ 255 → b ≤ 255 → bit_or a b ≤ ones_from n
+or_below n a b p q a_low b_low =
     let ones = ones_from-is n in
-    let above = ones_from-above n h in
+    let a_under = ones_from-above n a p a_low in
+    let b_under = ones_from-above n b q b_low in
     let first : a < 2 ^ ones.0 = omega (arith, ones.1) in
     let second : b < 2 ^ ones.0 = omega (arith, ones.1) in
     below_ones _ _ _ ones.1 (or_lt ones.0 a b first second)
 
-xor_below : (n a b : ℕ) → n ≤ 255 → a ≤ n → b ≤ n → bit_xor a b ≤ ones_from n
-xor_below n a b h p q =
+xor_below : (n a b : ℕ) → a ≤ n → b ≤ n → a ≤ 255 → b ≤ 255 → bit_xor a b ≤ ones_from n
+xor_below n a b p q a_low b_low =
     let ones = ones_from-is n in
-    let above = ones_from-above n h in
+    let a_under = ones_from-above n a p a_low in
+    let b_under = ones_from-above n b q b_low in
     let first : a < 2 ^ ones.0 = omega (arith, ones.1) in
     let second : b < 2 ^ ones.0 = omega (arith, ones.1) in
     below_ones _ _ _ ones.1 (xor_lt ones.0 a b first second)
 
-pub or_within : (a b r : Interval) → a.high ≤ 255 → b.high ≤ 255 → r ≡ record { low = max a.low b.low; high = ones_from (max a.high b.high) } → (x y : ℕ) → Within a x → Within b y → Within r (bit_or x y)
-or_within a b r p q e x y in_a in_b =
+pub or_within : (a b r : Interval) → r ≡ record { low = max a.low b.low; high = ones_from (max a.high b.high) } → (x y : ℕ) → x ≤ 255 → y ≤ 255 → Within a x → Within b y → Within r (bit_or x y)
+or_within a b r e x y x_low y_low in_a in_b =
     let over_x = le_or_l x y in
     let over_y = le_or_r x y in
-    let below = or_below (max a.high b.high) x y (omega arith) (omega arith) (omega arith) in
+    let below = or_below (max a.high b.high) x y (omega arith) (omega arith) x_low y_low in
     rw e (omega arith, below)
 
-pub xor_within : (a b r : Interval) → a.high ≤ 255 → b.high ≤ 255 → r ≡ record { low = 0; high = ones_from (max a.high b.high) } → (x y : ℕ) → Within a x → Within b y → Within r (bit_xor x y)
-xor_within a b r p q e x y in_a in_b =
-    let below = xor_below (max a.high b.high) x y (omega arith) (omega arith) (omega arith) in
+pub xor_within : (a b r : Interval) → r ≡ record { low = 0; high = ones_from (max a.high b.high) } → (x y : ℕ) → x ≤ 255 → y ≤ 255 → Within a x → Within b y → Within r (bit_xor x y)
+xor_within a b r e x y x_low y_low in_a in_b =
+    let below = xor_below (max a.high b.high) x y (omega arith) (omega arith) x_low y_low in
     rw e (omega arith, below)
 
 pub rotate_left_byte : (n : ℕ) → n < 256 → rotate_left w8 n 1 ≡ rotation_left n

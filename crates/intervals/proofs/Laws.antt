@@ -102,8 +102,8 @@ module _ (a b : Interval) (x y : ℕ) (in_a : Within a x) (in_b : Within b y) wh
       let second = and_le_r x y in
       both_values bit_and _ (omega arith)
 
-  pub disjunction_holds : a.high ≤ 255 → b.high ≤ 255 → Within (disjunction a b) (bit_or x y)
-  disjunction_holds p q = both_values bit_or _ (or_within a b _ p q refl x y in_a in_b)
+  pub disjunction_holds : x ≤ 255 → y ≤ 255 → Within (disjunction a b) (bit_or x y)
+  disjunction_holds p q = both_values bit_or _ (or_within a b _ refl x y p q in_a in_b)
 
-  pub exclusive_disjunction_holds : a.high ≤ 255 → b.high ≤ 255 → Within (exclusive_disjunction a b) (bit_xor x y)
-  exclusive_disjunction_holds p q = both_values bit_xor _ (xor_within a b _ p q refl x y in_a in_b)
+  pub exclusive_disjunction_holds : x ≤ 255 → y ≤ 255 → Within (exclusive_disjunction a b) (bit_xor x y)
+  exclusive_disjunction_holds p q = both_values bit_xor _ (xor_within a b _ refl x y p q in_a in_b)

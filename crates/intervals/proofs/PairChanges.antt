@@ -33,11 +33,11 @@ normal_form_keeps p entry v h =
     (intersection_keeps p.word v h.word (words_of high low) (omega arith))
     (λ word in_word. record { word = in_word; high = in_high; low = in_low; origin = h.origin })))
 
-pub written_word_holds : (word : Interval) (entry : Entry) (v : ℕ) → word.high ≤ 65535 → Within word v → Holds (written_word word) entry v
-written_word_holds word entry v top h =
+pub written_word_holds : (word : Interval) (entry : Entry) (v : ℕ) → Within word v → Holds (written_word word) entry v
+written_word_holds word entry v h =
     record { word = h; high = omega arith; low = grind (arith, nat_tests); origin = tt }
 
-pub written_bytes_holds : (high low : Interval) (entry : Entry) (x y : ℕ) → low.high ≤ 255 → Within high x → Within low y → Holds (written_bytes high low) entry (x * 256 + y)
+pub written_bytes_holds : (high low : Interval) (entry : Entry) (x y : ℕ) → y ≤ 255 → Within high x → Within low y → Holds (written_bytes high low) entry (x * 256 + y)
 written_bytes_holds high low entry x y top h k =
     record { word = omega arith; high = omega arith; low = omega arith; origin = tt }
 

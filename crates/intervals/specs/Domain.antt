@@ -1,3 +1,4 @@
+-- What the pairs of registers held at the entry.
 use Rattle.std.specs.Prelude.{ℕ}
 use Rattle.intervals.specs.declared.reg_pair.RegPair.{RegPair}
 

@@ -36,9 +36,9 @@ complement a = record { low = 255 - a.high; high = 255 - a.low }
 abbrev pub halves : Interval → Interval
 halves a = record { low = a.low / 2; high = a.high / 2 }
 
--- SLA: known where both bounds are at most 127
+-- SLA: known where the range is at most 127
 abbrev pub doubles : Interval → Interval
-doubles a = if nat_le (max a.low a.high) 127 then record { low = 2 * a.low; high = 2 * a.high } else full 256
+doubles a = if nat_le a.high 127 then record { low = 2 * a.low; high = 2 * a.high } else full 256
 
 -- an operation that is known of one value only
 abbrev pub of_single : (ℕ → ℕ) → Interval → Interval

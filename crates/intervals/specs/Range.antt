@@ -1,10 +1,11 @@
 -- Ranges of bytes and of words (docs/CHECKER.md, "Ranges and their normal form").
 use Rattle.std.specs.Prelude.{ℕ, ◌+◌, ◌-◌, ◌≤◌, min, max, ◌==◌, nat_le, if◌then◌else◌, Option, Some, None}
-use Rattle.intervals.specs.declared.range.Bounds.{Bounds}
 
--- the whole numbers from low to high, both included: what a `ByteRange` and a `WordRange` are
-abbrev pub Interval : Type 0
-Interval = Bounds ℕ
+-- the whole numbers from low to high, both included: what contracts see of a `ByteRange` and of a `WordRange`, whose low
+-- bound is not above the high one
+pub record Interval : Type 0 where
+  pub low : ℕ
+  pub high : ℕ
 
 -- the value lies in the range
 abbrev pub Within : Interval → ℕ → Type 0

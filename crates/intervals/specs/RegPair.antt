@@ -1,3 +1,4 @@
+-- The order of the pairs of registers.
 use Rattle.std.specs.Prelude.{ℕ}
 use Rattle.intervals.specs.declared.reg_pair.RegPair.{RegPair}
 use Rattle.intervals.specs.declared.reg_pair.RegPair.TheVariants.{Af, Bc, De, Hl, Ix, Iy, AlternateAf, AlternateBc, AlternateDe, AlternateHl}

@@ -1,11 +1,12 @@
-ghost use Rattle.std.specs.Prelude.{◌≡◌, ℕ, ◌≢◌, ◌↔◌, IsTrue, SomeIff, IsSomeAnd};
+// Ranges of bytes: how they are made, what they hold, cuts and joins.
+ghost use Rattle.std.specs.Prelude.{◌≡◌, ℕ, ◌≤◌, ◌≢◌, ◌↔◌, IsTrue, SomeIff, IsSomeAnd};
 ghost use Rattle.std.proofs.Common.{rules};
 ghost use Rattle.intervals.specs.Range.{Within, Covers, Meets, single, full, between, hull, intersection, without};
 
 use crate::domain::Domain;
-use crate::range::{Bounds, ByteRange};
+use crate::range::ByteRange;
 
-impl Bounds<u8> {
+impl ByteRange {
     /// The range from low to high, or None where low is above high.
     pub fn new(low: u8, high: u8) -> Option<ByteRange>
         ensures { result ≡ between low high }
@@ -57,6 +58,24 @@ impl Bounds<u8> {
         }
     }
 
+    /// The lowest byte.
+    pub fn low(self) -> u8
+        ensures value { result ≡ self.low }
+        ensures order { self.low ≤ self.high }
+        ensures within { self.high ≤ 255 }
+    {
+        self.low
+    }
+
+    /// The highest byte.
+    pub fn high(self) -> u8
+        ensures value { result ≡ self.high }
+        ensures order { self.low ≤ self.high }
+        ensures within { self.high ≤ 255 }
+    {
+        self.high
+    }
+
     /// The byte, where the range is one byte.
     pub fn value(self) -> Option<u8>
         ensures { SomeIff result (self.low ≡ self.high) self.low }
@@ -78,7 +97,7 @@ impl Bounds<u8> {
         self.low <= value && value <= self.high
     }
 
-    /// Whether the ranges share a byte, where neither is empty.
+    /// Whether the ranges share a byte.
     pub fn meets(self, other: ByteRange) -> bool
         ensures { IsTrue result ↔ Meets self other }
     {
@@ -107,7 +126,7 @@ impl Bounds<u8> {
     }
 }
 
-impl Domain for Bounds<u8> {
+impl Domain for ByteRange {
     ghost holds = { λ r _ v. Within r v };
 
     ghost Covers = { Covers };

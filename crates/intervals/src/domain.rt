@@ -1,3 +1,4 @@
+// What ranges and pairs have in common: covering and joining.
 ghost use Rattle.std.specs.Prelude.{◌≡◌, ℕ, ◌↔◌, IsTrue};
 ghost use Rattle.intervals.specs.Domain.{Entry};
 

@@ -9,11 +9,9 @@ mod pair;
 mod range;
 mod reg_pair;
 mod sums;
-#[cfg(test)]
-mod tests;
 mod word_range;
 
 pub use domain::Domain;
 pub use pair::Pair;
-pub use range::{Bounds, ByteRange, WordRange};
+pub use range::{ByteRange, WordRange};
 pub use reg_pair::RegPair;

@@ -1,12 +1,14 @@
-ghost use Rattle.std.specs.Prelude.{◌≡◌, ◌-◌, ◌*◌, ◌/◌, ◌%◌, bit_and, bit_or, bit_xor};
+// Logic, shifts and rotates of ranges of bytes.
+ghost use Rattle.std.specs.Prelude.{◌≡◌, ◌≤◌, ◌-◌, ◌*◌, ◌/◌, ◌%◌, bit_and, bit_or, bit_xor};
 ghost use Rattle.intervals.specs.Range.{single, TakesInto, TakesBothInto};
 ghost use Rattle.intervals.specs.Logic.{ones_from, conjunction, disjunction, exclusive_disjunction, complement, halves, doubles, of_single, rotation_left, rotation_right, with_bit_set, with_bit_reset};
 
-use crate::range::{Bounds, ByteRange};
+use crate::range::ByteRange;
 
 /// The least of 0, 1, 3, 7 .. 255 that is not below the byte.
 fn ones_from(byte: u8) -> u8
-    ensures { result ≡ ones_from byte }
+    ensures value { result ≡ ones_from byte }
+    ensures above { byte ≤ result }
 {
     match byte {
         0 => 0,
@@ -23,7 +25,7 @@ fn ones_from(byte: u8) -> u8
 
 /// Logic, shifts and rotates of bytes (UM0080, "8-Bit Arithmetic Group", "General-Purpose Arithmetic" and "Rotate and
 /// Shift Group"). The instructions that are not here give full.
-impl Bounds<u8> {
+impl ByteRange {
     /// AND s.
     pub fn and(self, other: ByteRange) -> ByteRange
         ensures exact { result ≡ conjunction self other }
@@ -95,7 +97,7 @@ impl Bounds<u8> {
         ensures exact { result ≡ doubles self }
         ensures contains { TakesInto (λ x. 2 * x % 256) self result }
     {
-        if self.low.max(self.high) <= 127 {
+        if self.high <= 127 {
             ByteRange {
                 low: 2 * self.low,
                 high: 2 * self.high,

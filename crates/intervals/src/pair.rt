@@ -1,15 +1,16 @@
+// Pairs of registers: the ranges of their word and bytes, and their origin.
 ghost use Rattle.std.specs.Prelude.{◌≡◌, ℕ, ◌+◌, ◌*◌, ◌/◌, ◌%◌, ◌≤◌, ◌≢◌, ◌↔◌, IsTrue, Some, IsSomeAnd};
 ghost use Rattle.intervals.specs.Domain.{Entry};
 ghost use Rattle.intervals.specs.Range.{Within, intersection, without};
 
 use crate::domain::Domain;
-use crate::range::{Bounds, ByteRange, WordRange};
+use crate::range::{ByteRange, WordRange};
 use crate::reg_pair::RegPair;
 
 /// What is known of a pair of registers or of a word on the stack: the range of the word, those of its high and its
 /// low byte, and whether it is what some pair was when the activation was entered. A pair that a certificate gives
-/// needs no normal form, and may hold of no value.
-#[derive(Clone, Copy, Debug, PartialEq, Eq)]
+/// needs no normal form: its ranges may contradict one another, and it then holds of no value.
+#[derive(Clone, Copy, PartialEq, Eq)]
 pub struct Pair {
     pub word: WordRange,
     pub high: ByteRange,
@@ -17,7 +18,7 @@ pub struct Pair {
     pub origin: Option<RegPair>,
 }
 
-impl Bounds<u16> {
+impl WordRange {
     ghost use Rattle.intervals.specs.Pair.{words_of, high_bytes, low_bytes};
 
     /// The words that the ends of two ranges of bytes make.
@@ -118,7 +119,7 @@ impl Pair {
     /// A pair that a word was written into, which makes its bytes full first. It has no origin, and is in normal form.
     pub fn of_word(word: WordRange) -> Pair
         ensures exact { result ≡ written_word word }
-        ensures normal { word.low ≤ word.high → normal_form (record full_pair { word = word }) ≡ Some result }
+        ensures normal { normal_form (record full_pair { word = word }) ≡ Some result }
         ensures contains { (entry : Entry) (v : ℕ) → Within word v → Holds result entry v }
     {
         Pair {
@@ -132,7 +133,7 @@ impl Pair {
     /// A pair that two bytes were written into, which make its word. It has no origin, and is in normal form.
     pub fn of_bytes(high: ByteRange, low: ByteRange) -> Pair
         ensures exact { result ≡ written_bytes high low }
-        ensures normal { high.low ≤ high.high → low.low ≤ low.high → normal_form result ≡ Some result }
+        ensures normal { normal_form result ≡ Some result }
         ensures contains { (entry : Entry) (x y : ℕ) → Within high x → Within low y
             → Holds result entry (x * 256 + y) }
     {

@@ -1,12 +1,43 @@
-/// The numbers from one to another, both included. Where the first is above the second it holds nothing.
-#[derive(Clone, Copy, Debug, PartialEq, Eq)]
-pub struct Bounds<T> {
-    pub low: T,
-    pub high: T,
+// The types of ranges of bytes and of words.
+
+use std::marker::Model;
+
+/// The bytes from one to another, both included, 0 to 255. The first is not above the second, so it holds a byte.
+#[derive(Clone, Copy, PartialEq, Eq)]
+pub struct ByteRange {
+    pub(crate) low: u8,
+    pub(crate) high: u8,
 }
 
-/// A range of bytes, 0 to 255.
-pub type ByteRange = Bounds<u8>;
+impl Model for ByteRange {
+    ghost use Rattle.std.specs.Prelude.{◌≤◌};
+    ghost use Rattle.intervals.specs.Range.{Interval};
 
-/// A range of words, 0 to 65,535.
-pub type WordRange = Bounds<u16>;
+    ghost Value = { Interval };
+
+    ghost view = { λ r. record { low = r.low; high = r.high } };
+
+    ghost invariant = { λ r. r.low ≤ r.high };
+
+    ghost inverse = { λ r. record { low = r.low; high = r.high } };
+}
+
+/// The words from one to another, both included, 0 to 65,535. The first is not above the second, so it holds a word.
+#[derive(Clone, Copy, PartialEq, Eq)]
+pub struct WordRange {
+    pub(crate) low: u16,
+    pub(crate) high: u16,
+}
+
+impl Model for WordRange {
+    ghost use Rattle.std.specs.Prelude.{◌≤◌};
+    ghost use Rattle.intervals.specs.Range.{Interval};
+
+    ghost Value = { Interval };
+
+    ghost view = { λ r. record { low = r.low; high = r.high } };
+
+    ghost invariant = { λ r. r.low ≤ r.high };
+
+    ghost inverse = { λ r. record { low = r.low; high = r.high } };
+}

@@ -1,7 +1,8 @@
+// The pairs of registers, by their names.
 ghost use Rattle.std.specs.Prelude.{◌≡◌, ◌<◌};
 
 /// A pair of registers, of the main or the alternate set (UM0080, "CPU Registers").
-#[derive(Clone, Copy, Debug, PartialEq, Eq)]
+#[derive(Clone, Copy, PartialEq, Eq)]
 pub enum RegPair {
     Af,
     Bc,

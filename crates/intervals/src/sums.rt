@@ -1,11 +1,13 @@
+// Sums and differences of ranges by the window rule.
 ghost use Rattle.std.specs.Prelude.{◌≡◌, ℕ, ◌+◌, ◌-◌, ◌%◌, ◌≤◌};
 ghost use Rattle.intervals.specs.Range.{single, TakesInto, TakesBothInto};
 ghost use Rattle.intervals.specs.Sums.{window, sum, sum_with_carry, difference, difference_with_carry, increment, decrement, negation, displacement_of, displacement};
 
-use crate::range::{Bounds, ByteRange, WordRange};
+use crate::range::{ByteRange, WordRange};
 
 /// The residues modulo 256 of the results from low to high, if they lie in one window.
 fn bytes_in_window(low: u16, high: u16) -> ByteRange
+    requires { low ≤ high }
     ensures { result ≡ window 256 low high }
 {
     if low / 256 == high / 256 {
@@ -20,6 +22,7 @@ fn bytes_in_window(low: u16, high: u16) -> ByteRange
 
 /// The residues modulo 65,536 of the results from low to high, if they lie in one window.
 fn words_in_window(low: u32, high: u32) -> WordRange
+    requires { low ≤ high }
     ensures { result ≡ window 65536 low high }
 {
     if low / 65_536 == high / 65_536 {
@@ -34,21 +37,14 @@ fn words_in_window(low: u32, high: u32) -> WordRange
 
 /// Sums and differences of bytes by the window rule (UM0080, "8-Bit Arithmetic Group"). A difference is raised by 256
 /// on the way, which changes no residue.
-impl Bounds<u8> {
-    fn ends(self) -> (u16, u16)
-        ensures low { result.0 ≡ self.low }
-        ensures high { result.1 ≡ self.high }
-        ensures within { (self.low ≤ 255) × (self.high ≤ 255) }
-    {
-        (u16::from(self.low), u16::from(self.high))
-    }
-
+impl ByteRange {
     /// ADD A,s.
     pub fn sum(self, other: ByteRange) -> ByteRange
         ensures exact { result ≡ sum 256 self other }
         ensures contains { TakesBothInto (λ x y. (x + y) % 256) self other result }
     {
-        let ((low, high), (other_low, other_high)) = (self.ends(), other.ends());
+        let (low, high) = (u16::from(self.low), u16::from(self.high));
+        let (other_low, other_high) = (u16::from(other.low), u16::from(other.high));
         bytes_in_window(low + other_low, high + other_high)
     }
 
@@ -58,7 +54,8 @@ impl Bounds<u8> {
         ensures contains { (carry : ℕ) → carry ≤ 1
             → TakesBothInto (λ x y. (x + y + carry) % 256) self other result }
     {
-        let ((low, high), (other_low, other_high)) = (self.ends(), other.ends());
+        let (low, high) = (u16::from(self.low), u16::from(self.high));
+        let (other_low, other_high) = (u16::from(other.low), u16::from(other.high));
         bytes_in_window(low + other_low, high + other_high + 1)
     }
 
@@ -67,7 +64,8 @@ impl Bounds<u8> {
         ensures exact { result ≡ difference 256 self other }
         ensures contains { TakesBothInto (λ x y. (256 + x - y) % 256) self other result }
     {
-        let ((low, high), (other_low, other_high)) = (self.ends(), other.ends());
+        let (low, high) = (u16::from(self.low), u16::from(self.high));
+        let (other_low, other_high) = (u16::from(other.low), u16::from(other.high));
         bytes_in_window(256 + low - other_high, 256 + high - other_low)
     }
 
@@ -77,7 +75,8 @@ impl Bounds<u8> {
         ensures contains { (carry : ℕ) → carry ≤ 1
             → TakesBothInto (λ x y. (256 + x - y - carry) % 256) self other result }
     {
-        let ((low, high), (other_low, other_high)) = (self.ends(), other.ends());
+        let (low, high) = (u16::from(self.low), u16::from(self.high));
+        let (other_low, other_high) = (u16::from(other.low), u16::from(other.high));
         bytes_in_window(256 + low - other_high - 1, 256 + high - other_low)
     }
 
@@ -94,7 +93,7 @@ impl Bounds<u8> {
         ensures exact { result ≡ increment 256 self }
         ensures contains { TakesInto (λ x. (x + 1) % 256) self result }
     {
-        let (low, high) = self.ends();
+        let (low, high) = (u16::from(self.low), u16::from(self.high));
         bytes_in_window(low + 1, high + 1)
     }
 
@@ -103,7 +102,7 @@ impl Bounds<u8> {
         ensures exact { result ≡ decrement 256 self }
         ensures contains { TakesInto (λ x. (256 + x - 1) % 256) self result }
     {
-        let (low, high) = self.ends();
+        let (low, high) = (u16::from(self.low), u16::from(self.high));
         bytes_in_window(256 + low - 1, 256 + high - 1)
     }
 
@@ -112,28 +111,21 @@ impl Bounds<u8> {
         ensures exact { result ≡ negation self }
         ensures contains { TakesInto (λ x. (256 - x) % 256) self result }
     {
-        let (low, high) = self.ends();
+        let (low, high) = (u16::from(self.low), u16::from(self.high));
         bytes_in_window(256 - high, 256 - low)
     }
 }
 
 /// Sums and differences of words by the window rule (UM0080, "16-Bit Arithmetic Group"). A difference is raised by
 /// 65,536 on the way, which changes no residue.
-impl Bounds<u16> {
-    fn ends(self) -> (u32, u32)
-        ensures low { result.0 ≡ self.low }
-        ensures high { result.1 ≡ self.high }
-        ensures within { (self.low ≤ 65535) × (self.high ≤ 65535) }
-    {
-        (u32::from(self.low), u32::from(self.high))
-    }
-
+impl WordRange {
     /// ADD HL,ss, ADD IX,pp and ADD IY,rr.
     pub fn sum(self, other: WordRange) -> WordRange
         ensures exact { result ≡ sum 65536 self other }
         ensures contains { TakesBothInto (λ x y. (x + y) % 65536) self other result }
     {
-        let ((low, high), (other_low, other_high)) = (self.ends(), other.ends());
+        let (low, high) = (u32::from(self.low), u32::from(self.high));
+        let (other_low, other_high) = (u32::from(other.low), u32::from(other.high));
         words_in_window(low + other_low, high + other_high)
     }
 
@@ -143,7 +135,8 @@ impl Bounds<u16> {
         ensures contains { (carry : ℕ) → carry ≤ 1
             → TakesBothInto (λ x y. (x + y + carry) % 65536) self other result }
     {
-        let ((low, high), (other_low, other_high)) = (self.ends(), other.ends());
+        let (low, high) = (u32::from(self.low), u32::from(self.high));
+        let (other_low, other_high) = (u32::from(other.low), u32::from(other.high));
         words_in_window(low + other_low, high + other_high + 1)
     }
 
@@ -153,7 +146,8 @@ impl Bounds<u16> {
         ensures contains { (carry : ℕ) → carry ≤ 1
             → TakesBothInto (λ x y. (65536 + x - y - carry) % 65536) self other result }
     {
-        let ((low, high), (other_low, other_high)) = (self.ends(), other.ends());
+        let (low, high) = (u32::from(self.low), u32::from(self.high));
+        let (other_low, other_high) = (u32::from(other.low), u32::from(other.high));
         words_in_window(65_536 + low - other_high - 1, 65_536 + high - other_low)
     }
 
@@ -162,7 +156,7 @@ impl Bounds<u16> {
         ensures exact { result ≡ increment 65536 self }
         ensures contains { TakesInto (λ x. (x + 1) % 65536) self result }
     {
-        let (low, high) = self.ends();
+        let (low, high) = (u32::from(self.low), u32::from(self.high));
         words_in_window(low + 1, high + 1)
     }
 
@@ -171,7 +165,7 @@ impl Bounds<u16> {
         ensures exact { result ≡ decrement 65536 self }
         ensures contains { TakesInto (λ x. (65536 + x - 1) % 65536) self result }
     {
-        let (low, high) = self.ends();
+        let (low, high) = (u32::from(self.low), u32::from(self.high));
         words_in_window(65_536 + low - 1, 65_536 + high - 1)
     }
 
@@ -180,7 +174,7 @@ impl Bounds<u16> {
         ensures exact { result ≡ displacement self pattern }
         ensures contains { TakesInto (λ x. (x + displacement_of pattern) % 65536) self result }
     {
-        let (low, high) = self.ends();
+        let (low, high) = (u32::from(self.low), u32::from(self.high));
         let raised = if pattern < 128 {
             65_536 + u32::from(pattern)
         } else {

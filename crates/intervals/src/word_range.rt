@@ -1,11 +1,12 @@
-ghost use Rattle.std.specs.Prelude.{◌≡◌, ℕ, ◌≢◌, ◌↔◌, IsTrue, SomeIff, IsSomeAnd};
+// Ranges of words: how they are made, what they hold, cuts and joins.
+ghost use Rattle.std.specs.Prelude.{◌≡◌, ℕ, ◌≤◌, ◌≢◌, ◌↔◌, IsTrue, SomeIff, IsSomeAnd};
 ghost use Rattle.std.proofs.Common.{rules};
 ghost use Rattle.intervals.specs.Range.{Within, Covers, Meets, single, full, between, hull, intersection, without};
 
 use crate::domain::Domain;
-use crate::range::{Bounds, WordRange};
+use crate::range::WordRange;
 
-impl Bounds<u16> {
+impl WordRange {
     /// The range from low to high, or None where low is above high.
     pub fn new(low: u16, high: u16) -> Option<WordRange>
         ensures { result ≡ between low high }
@@ -57,6 +58,24 @@ impl Bounds<u16> {
         }
     }
 
+    /// The lowest word.
+    pub fn low(self) -> u16
+        ensures value { result ≡ self.low }
+        ensures order { self.low ≤ self.high }
+        ensures within { self.high ≤ 65535 }
+    {
+        self.low
+    }
+
+    /// The highest word.
+    pub fn high(self) -> u16
+        ensures value { result ≡ self.high }
+        ensures order { self.low ≤ self.high }
+        ensures within { self.high ≤ 65535 }
+    {
+        self.high
+    }
+
     /// The word, where the range is one word.
     pub fn value(self) -> Option<u16>
         ensures { SomeIff result (self.low ≡ self.high) self.low }
@@ -78,7 +97,7 @@ impl Bounds<u16> {
         self.low <= value && value <= self.high
     }
 
-    /// Whether the ranges share a word, where neither is empty.
+    /// Whether the ranges share a word.
     pub fn meets(self, other: WordRange) -> bool
         ensures { IsTrue result ↔ Meets self other }
     {
@@ -107,7 +126,7 @@ impl Bounds<u16> {
     }
 }
 
-impl Domain for Bounds<u16> {
+impl Domain for WordRange {
     ghost holds = { λ r _ v. Within r v };
 
     ghost Covers = { Covers };

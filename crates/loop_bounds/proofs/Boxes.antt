@@ -1,56 +1,56 @@
 -- The least value of a sum over a box: it is a bound, and it is reached.
-use Rattle.std.proofs.Common.{◌≡◌, ◌≢◌, ℕ, suc, ◌+◌, ◌*◌, ◌<◌, ◌≤◌, min, max, ◌^◌, Bool, true, false, cond, eqb, List, [], ◌∷◌, ◌++◌, length, get_or, take, ℤ, pos, negsuc, ◌+ℤ◌, ◌*ℤ◌, ◌≤ℤ◌, refl, sym, subst, ap, ◌∙◌, arith, rules, All, unsigned_abs, take_all}
+use Rattle.std.proofs.Common.{◌≡◌, ◌≢◌, ℕ, suc, ◌+◌, ◌*◌, ◌<◌, ◌≤◌, ◌^◌, Bool, true, false, cond, eqb, List, [], ◌∷◌, ◌++◌, length, get_or, take, ℤ, pos, negsuc, ◌+ℤ◌, ◌*ℤ◌, ◌≤ℤ◌, refl, sym, subst, ap, ◌∙◌, arith, rules, All, unsigned_abs, take_all}
 use Rattle.std.proofs.Math.IntN.{pos-*ℤ-pos, negsuc-*ℤ-pos, +ℤ_idr}
 use Rattle.std.proofs.lemmas.Int.{ints, unsigned_abs-mul}
 use Rattle.std.proofs.lemmas.Nat.{mul-le}
 use Rattle.std.proofs.lemmas.List.{take_more}
 use Rattle.std.proofs.lemmas.List.Sums.{sum_by-append, sum_by-take-le}
-use Rattle.loop_bounds.proofs.SoFar.{IsLeastSoFar}
+use Rattle.loop_bounds.proofs.SoFar.{AreOrdered, IsLeastSoFar}
 use Rattle.loop_bounds.proofs.FormLemmas.{abs_sum}
 use Rattle.std.proofs.lemmas.List.Elements.{All-head, All-tail}
-use Rattle.intervals.specs.Range.{Interval}
+use Rattle.intervals.specs.Range.{Interval, Within}
 use Rattle.loop_bounds.specs.declared.variable.Variable.{Variable}
 use Rattle.loop_bounds.specs.declared.linear.Term.{Term}
-use Rattle.loop_bounds.specs.Variable.{place_of}
+use Rattle.loop_bounds.specs.Variable.{rank_of}
 use Rattle.loop_bounds.specs.Linear.{Sum, total, value}
 use Rattle.loop_bounds.specs.Effect.{Valuation, whole}
-use Rattle.loop_bounds.specs.Ranges.{Box, IsBetween, LiesIn}
-use Rattle.loop_bounds.proofs.VariableLemmas.{same_from_place, choice_same, choice_other}
+use Rattle.loop_bounds.specs.Ranges.{Box, LiesIn}
+use Rattle.loop_bounds.proofs.VariableLemmas.{same_from_rank, choice_same, choice_other}
 use Rattle.loop_bounds.specs.Form.{AreDistinct, weight, end_of, least_total}
 
 -- a multiple is least at its end
-pub multiple_bound : (c : ℤ) (r : Interval) (x : ℕ) → IsBetween r x → (c *ℤ pos (end_of r c)) ≤ℤ (c *ℤ pos x)
+pub multiple_bound : (c : ℤ) (r : Interval) (x : ℕ) → Within r x → (c *ℤ pos (end_of r c)) ≤ℤ (c *ℤ pos x)
 multiple_bound (pos n) r x h =
-    rw (pos-*ℤ-pos n (min r.low r.high), pos-*ℤ-pos n x) (omega (arith, ints, mul-le n (min r.low r.high) n x (omega arith) h.0))
+    rw (pos-*ℤ-pos n r.low, pos-*ℤ-pos n x) (omega (arith, ints, mul-le n r.low n x (omega arith) h.0))
 multiple_bound (negsuc n) r x h =
-    rw (negsuc-*ℤ-pos n (max r.low r.high), negsuc-*ℤ-pos n x) (omega (arith, ints, mul-le (suc n) x (suc n) (max r.low r.high) (omega arith) h.1))
+    rw (negsuc-*ℤ-pos n r.high, negsuc-*ℤ-pos n x) (omega (arith, ints, mul-le (suc n) x (suc n) r.high (omega arith) h.1))
 
-pub least_bound : (box : Box) (ts : List Term) → (x : Valuation) → LiesIn box x → least_total box ts ≤ℤ total (whole x) ts
-least_bound box [] x inside = omega (arith, ints)
-least_bound box (t ∷ ts) x inside =
-    let first = multiple_bound t.coefficient (box t.variable) (x t.variable) (inside t.variable) in
-    let rest = least_bound box ts x inside in
+pub least_bound : (box : Box) (ts : List Term) → AreOrdered box ts → (x : Valuation) → LiesIn box x → least_total box ts ≤ℤ total (whole x) ts
+least_bound box [] ordered x inside = omega (arith, ints)
+least_bound box (t ∷ ts) ordered x inside =
+    let first = multiple_bound t.coefficient (box t.variable) (x t.variable) (inside t.variable ordered.0) in
+    let rest = least_bound box ts ordered.1 x inside in
     omega (arith, ints, first, rest)
 
 -- the valuation that has each variable of the terms at its end
 worst : Box → List Term → Valuation
 worst box [] v = (box v).low
-worst box (t ∷ ts) v = cond (eqb (place_of v) (place_of t.variable)) (end_of (box t.variable) t.coefficient) (worst box ts v)
+worst box (t ∷ ts) v = cond (eqb (rank_of v) (rank_of t.variable)) (end_of (box t.variable) t.coefficient) (worst box ts v)
 
-end_inside : (c : ℤ) (r : Interval) → IsBetween r (end_of r c)
-end_inside (pos n) r = omega arith
-end_inside (negsuc n) r = omega arith
+end_inside : (c : ℤ) (r : Interval) → r.low ≤ r.high → Within r (end_of r c)
+end_inside (pos n) r h = omega arith
+end_inside (negsuc n) r h = omega arith
 
 worst_inside : (box : Box) (ts : List Term) → LiesIn box (worst box ts)
 unfolding worst
-worst_inside box [] v = omega arith
-worst_inside box (t ∷ ts) v =
-    let at : (b : Bool) → eqb (place_of v) (place_of t.variable) ≡ b → IsBetween (box v) (cond b (end_of (box t.variable) t.coefficient) (worst box ts v)) =
+worst_inside box [] v h = omega arith
+worst_inside box (t ∷ ts) v h =
+    let at : (b : Bool) → eqb (rank_of v) (rank_of t.variable) ≡ b → Within (box v) (cond b (end_of (box t.variable) t.coefficient) (worst box ts v)) =
     elim [
-      | true ↦ λ e. let same : v ≡ t.variable = same_from_place v t.variable (search rules) in subst (λ w. IsBetween (box v) (end_of (box w) t.coefficient)) same (end_inside t.coefficient (box v))
-      | false ↦ λ e. worst_inside box ts v
+      | true ↦ λ e. let same : v ≡ t.variable = same_from_rank v t.variable (search rules) in subst (λ w. Within (box v) (end_of (box w) t.coefficient)) same (end_inside t.coefficient (box v) h)
+      | false ↦ λ e. worst_inside box ts v h
     ] in
-    at (eqb (place_of v) (place_of t.variable)) refl
+    at (eqb (rank_of v) (rank_of t.variable)) refl
 
 pub total_agree : (x y : Variable → ℤ) (ts : List Term) → All (λ t. x t.variable ≡ y t.variable) ts → total x ts ≡ total y ts
 total_agree x y [] h = refl
@@ -88,22 +88,27 @@ pub multiple_size : (c : ℤ) (n : ℕ) → n ≤ 65535 → unsigned_abs (c *ℤ
 multiple_size c n h = rw unsigned_abs-mul (omega (arith, mul-le (unsigned_abs c) n (unsigned_abs c) 65535 (omega arith) h))
 
 pub least_none : (box : Box) (c : ℤ) → IsLeastSoFar box c [] c
-least_none box c = record { exact = sym (+ℤ_idr c); size = omega arith }
+least_none box c = record { exact = sym (+ℤ_idr c); size = omega arith; ordered = tt }
 
-pub least_push : (box : Box) (c : ℤ) (ts : List Term) (t : Term) (r : Interval) (least m : ℤ) → IsLeastSoFar box c ts least → r ≡ box t.variable → m ≡ t.coefficient *ℤ pos (end_of r t.coefficient) → unsigned_abs m ≤ 65535 * unsigned_abs t.coefficient → IsLeastSoFar box c (ts ++ t ∷ []) (least +ℤ m)
-least_push box c ts t r least m h e is small =
+ordered_push : (box : Box) (ts : List Term) (t : Term) → AreOrdered box ts → (box t.variable).low ≤ (box t.variable).high → AreOrdered box (ts ++ t ∷ [])
+ordered_push box [] t h k = (k, tt)
+ordered_push box (u ∷ ts) t h k = (h.0, ordered_push box ts t h.1 k)
+
+pub least_push : (box : Box) (c : ℤ) (ts : List Term) (t : Term) (r : Interval) (least m : ℤ) → IsLeastSoFar box c ts least → r ≡ box t.variable → m ≡ t.coefficient *ℤ pos (end_of r t.coefficient) → unsigned_abs m ≤ 65535 * unsigned_abs t.coefficient → r.low ≤ r.high → IsLeastSoFar box c (ts ++ t ∷ []) (least +ℤ m)
+least_push box c ts t r least m h e is small order =
     let here : m ≡ t.coefficient *ℤ pos (end_of (box t.variable) t.coefficient) = is ∙ ap (λ (q : Interval). t.coefficient *ℤ pos (end_of q t.coefficient)) e in
     let heavier = sum_by-append (λ (u : Term). unsigned_abs u.coefficient) ts (t ∷ []) in
     let sum : unsigned_abs (least +ℤ m) ≤ unsigned_abs least + unsigned_abs m = abs_sum least m in
     record {
       exact = omega (arith, ints, h.exact, here, least_total_push box ts t);
       size = omega (arith, h.size, heavier);
+      ordered = ordered_push box ts t h.ordered (subst (λ (q : Interval). q.low ≤ q.high) e order);
     }
 
-pub least_more : (box : Box) (c : ℤ) (ts : List Term) (k : ℕ) (t : Term) (r : Interval) (least m : ℤ) → IsLeastSoFar box c (take k ts) least → k < length ts → t ≡ get_or ts k t → r ≡ box t.variable → m ≡ t.coefficient *ℤ pos (end_of r t.coefficient) → unsigned_abs m ≤ 65535 * unsigned_abs t.coefficient → IsLeastSoFar box c (take (k + 1) ts) (least +ℤ m)
-least_more box c ts k t r least m h inside at e is small =
+pub least_more : (box : Box) (c : ℤ) (ts : List Term) (k : ℕ) (t : Term) (r : Interval) (least m : ℤ) → IsLeastSoFar box c (take k ts) least → k < length ts → t ≡ get_or ts k t → r ≡ box t.variable → m ≡ t.coefficient *ℤ pos (end_of r t.coefficient) → unsigned_abs m ≤ 65535 * unsigned_abs t.coefficient → r.low ≤ r.high → IsLeastSoFar box c (take (k + 1) ts) (least +ℤ m)
+least_more box c ts k t r least m h inside at e is small order =
     let more : take (k + 1) ts ≡ take k ts ++ t ∷ [] = take_more ts k t inside ∙ ap (λ (u : Term). take k ts ++ u ∷ []) (sym at) in
-    rw more (least_push box c (take k ts) t r least m h e is small)
+    rw more (least_push box c (take k ts) t r least m h e is small order)
 
 -- the size of the least value of a sum that has not too great coefficients
 pub least_fits : (box : Box) (c : ℤ) (ts : List Term) (k : ℕ) (least : ℤ) → IsLeastSoFar box c (take k ts) least → unsigned_abs c < 2 ^ 60 → weight ts < 2 ^ 31 → unsigned_abs least < 2 ^ 61
@@ -117,7 +122,7 @@ module _ (box : Box) (s : Sum) (ts : List Term) (k : ℕ) (least : ℤ) (h : IsL
 
   pub whole_bound : (x : Valuation) → LiesIn box x → least ≤ℤ value (whole x) s
   whole_bound x inside =
-      let bound = least_bound box (take k ts) x inside in
+      let bound = least_bound box (take k ts) h.ordered x inside in
       let same : total (whole x) (take k ts) ≡ total (whole x) s.terms = ap (total (whole x)) seen in
       omega (arith, ints, h.exact, bound, same)
 

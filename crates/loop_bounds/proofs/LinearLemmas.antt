@@ -5,7 +5,7 @@ use Rattle.std.proofs.lemmas.List.{take_more_set, get_or_append_left}
 use Rattle.std.proofs.lemmas.List.Elements.{All-push}
 use Rattle.std.proofs.lemmas.List.Quantifiers.{all_pairs_push}
 use Rattle.loop_bounds.specs.declared.linear.Term.{Term}
-use Rattle.loop_bounds.specs.Variable.{place_of}
+use Rattle.loop_bounds.specs.Variable.{rank_of}
 use Rattle.loop_bounds.specs.Linear.{Sum, IsLinear, IsStored, extended, padding, padded}
 use Rattle.loop_bounds.specs.LinearLaws.{length-stored, length-front}
 
@@ -35,7 +35,7 @@ stored_more c terms count t h l =
     }
 
 abbrev IsBefore : Term → Term → Type 0
-IsBefore t u = place_of t.variable < place_of u.variable
+IsBefore t u = rank_of t.variable < rank_of u.variable
 
 abbrev IsSmall : Term → Type 0
 IsSmall t = (0 < unsigned_abs t.coefficient) × (unsigned_abs t.coefficient ≤ 1000000)

@@ -1,5 +1,5 @@
 -- What the loops over terms keep.
-use Rattle.std.proofs.Common.{◌≡◌, ◌≢◌, ℕ, ◌+◌, ◌*◌, ◌≤◌, Bool, List, ℤ, ◌+ℤ◌, unsigned_abs, All}
+use Rattle.std.proofs.Common.{◌≡◌, ◌≢◌, ℕ, ◌+◌, ◌*◌, ◌≤◌, Bool, List, [], ◌∷◌, ℤ, ◌+ℤ◌, unsigned_abs, All}
 use Rattle.loop_bounds.specs.declared.rewritten.Rewritten.{Rewritten}
 use Rattle.loop_bounds.specs.declared.effect.Effect.{Effect}
 use Rattle.loop_bounds.specs.declared.effect.Change.TheVariants.{Unknown}
@@ -12,10 +12,16 @@ use Rattle.loop_bounds.specs.Signed.{signed}
 use Rattle.loop_bounds.specs.Rewritten.{HasRoom, value_of_both}
 use Rattle.loop_bounds.specs.Tighten.{greatest_total}
 
+-- each variable of the terms has a range that holds a value
+abbrev pub AreOrdered : Box → List Term → Type 0
+AreOrdered box [] = Unit {0}
+AreOrdered box (t ∷ ts) = ((box t.variable).low ≤ (box t.variable).high) × AreOrdered box ts
+
 -- what the least value of a sum is over a box, as far as its terms were seen
 pub record IsLeastSoFar (box : Box) (constant : ℤ) (seen : List Term) (least : ℤ) : Type 0 where
   pub exact : least ≡ constant +ℤ least_total box seen
   pub size : unsigned_abs least ≤ unsigned_abs constant + 65535 * weight seen
+  pub ordered : AreOrdered box seen
 
 -- what the greatest value of some terms is, as far as they were seen
 pub record IsGreatestSoFar (box : Box) (seen : List Term) (greatest : ℤ) : Type 0 where

@@ -16,11 +16,11 @@ use Rattle.loop_bounds.specs.declared.linear.Term.{Term}
 use Rattle.loop_bounds.specs.declared.variable.Variable.{Variable}
 use Rattle.loop_bounds.specs.Linear.{Sum, total, value, IsLinear}
 use Rattle.loop_bounds.specs.Effect.{Valuation, whole}
-use Rattle.loop_bounds.specs.Ranges.{Box, IsBetween}
+use Rattle.loop_bounds.specs.Ranges.{Box}
 use Rattle.loop_bounds.specs.Form.{weight, least_total, end_of}
 use Rattle.loop_bounds.proofs.FormLemmas.{abs_sum}
 use Rattle.loop_bounds.proofs.Boxes.{multiple_bound}
-use Rattle.loop_bounds.specs.Tighten.{quotient_up, multiples_between, balancing, top_of, greatest_total, share_left, tightened_from, tightened}
+use Rattle.loop_bounds.specs.Tighten.{quotient_up, multiples_between, balancing, top_of, greatest_total, share_left, tightened_from, tightened, after_last_cut_from}
 
 pub between_multiples : (from to : ℤ) (factor : ℕ) (r : Interval) (low high : ℕ) (result : Option Interval) → pos 0 ≤ℤ to → low ≡ max r.low (quotient_up from factor) → high ≡ min r.high (unsigned_abs to / factor) → result ≡ between low high → result ≡ multiples_between from to factor r
 between_multiples from (pos n) factor r low high result h e f is =
@@ -105,24 +105,21 @@ total-remove x [] k d h = absurd (omega arith)
 total-remove x (t ∷ ts) zero d h = omega (arith, ints)
 total-remove x (t ∷ ts) (suc k) d h = omega (arith, ints, total-remove x ts k d (omega arith))
 
-multiple_below_top : (c : ℤ) (r : Interval) (x : ℕ) → IsBetween r x → (c *ℤ pos x) ≤ℤ (c *ℤ pos (top_of r c))
+multiple_below_top : (c : ℤ) (r : Interval) (x : ℕ) → Within r x → (c *ℤ pos x) ≤ℤ (c *ℤ pos (top_of r c))
 multiple_below_top (pos n) r x h =
-    rw (pos-*ℤ-pos n (max r.low r.high), pos-*ℤ-pos n x) (omega (arith, ints, mul-le n x n (max r.low r.high) (omega arith) h.1))
+    rw (pos-*ℤ-pos n r.high, pos-*ℤ-pos n x) (omega (arith, ints, mul-le n x n r.high (omega arith) h.1))
 multiple_below_top (negsuc n) r x h =
-    rw (negsuc-*ℤ-pos n (min r.low r.high), negsuc-*ℤ-pos n x) (omega (arith, ints, mul-le (suc n) (min r.low r.high) (suc n) x (omega arith) h.0))
-
-between_within : (r : Interval) (n : ℕ) → Within r n → IsBetween r n
-between_within r n h = omega arith
+    rw (negsuc-*ℤ-pos n r.low, negsuc-*ℤ-pos n x) (omega (arith, ints, mul-le (suc n) r.low (suc n) x (omega arith) h.0))
 
 total_above_least : (box : Box) (x : Valuation) → ((v : Variable) → Within (box v) (x v)) → (ts : List Term) → least_total box ts ≤ℤ total (whole x) ts
 total_above_least box x h [] = omega (arith, ints)
 total_above_least box x h (t ∷ ts) =
-    omega (arith, ints, multiple_bound t.coefficient (box t.variable) (x t.variable) (between_within (box t.variable) (x t.variable) (h t.variable)), total_above_least box x h ts)
+    omega (arith, ints, multiple_bound t.coefficient (box t.variable) (x t.variable) (h t.variable), total_above_least box x h ts)
 
 total_below_greatest : (box : Box) (x : Valuation) → ((v : Variable) → Within (box v) (x v)) → (ts : List Term) → total (whole x) ts ≤ℤ greatest_total box ts
 total_below_greatest box x h [] = omega (arith, ints)
 total_below_greatest box x h (t ∷ ts) =
-    omega (arith, ints, multiple_below_top t.coefficient (box t.variable) (x t.variable) (between_within (box t.variable) (x t.variable) (h t.variable)), total_below_greatest box x h ts)
+    omega (arith, ints, multiple_below_top t.coefficient (box t.variable) (x t.variable) (h t.variable), total_below_greatest box x h ts)
 
 quotient_up_below : (z : ℤ) (factor n : ℕ) → 0 < factor → z ≤ℤ pos (factor * n) → quotient_up z factor ≤ n
 quotient_up_below (negsuc z) factor n h k = omega arith
@@ -172,6 +169,20 @@ module _ {S : Type 0} (range_of : S → Box) (cut_to : S → Variable → Interv
 
   pub goes_on : (left : Interval) (next : S) → share_left fact (range_of s) k t ≡ Some left → cut_to s t.variable left ≡ Some next → tightened_from range_of cut_to fact k (drop k items) s ≡ tightened_from range_of cut_to fact (k + 1) (drop (k + 1) items) next
   goes_on left next e f = rest_is ∙ rw (e, f) refl
+
+  rest_after : after_last_cut_from range_of cut_to fact k (drop k items) s ≡ after_last_cut_from range_of cut_to fact k (t ∷ drop (k + 1) items) s
+  rest_after =
+      let here : drop k items ≡ t ∷ drop (k + 1) items = rw (add-one, drop-cons items k t) (ap (λ (u : Term). u ∷ drop (suc k) items) (sym at)) in
+      ap (λ (ts : List Term). after_last_cut_from range_of cut_to fact k ts s) here
+
+  pub goes_after : (left : Interval) (next : S) → share_left fact (range_of s) k t ≡ Some left → cut_to s t.variable left ≡ Some next → after_last_cut_from range_of cut_to fact k (drop k items) s ≡ after_last_cut_from range_of cut_to fact (k + 1) (drop (k + 1) items) next
+  goes_after left next e f = rest_after ∙ rw (e, f) refl
+
+  pub no_share_after : share_left fact (range_of s) k t ≡ None → after_last_cut_from range_of cut_to fact k (drop k items) s ≡ s
+  no_share_after e = rest_after ∙ rw e refl
+
+  pub no_cut_after : (left : Interval) → share_left fact (range_of s) k t ≡ Some left → cut_to s t.variable left ≡ None → after_last_cut_from range_of cut_to fact k (drop k items) s ≡ s
+  no_cut_after left e f = rest_after ∙ rw (e, f) refl
 
 pub share_kept : (box : Box) (fact : Sum) (items : List Term) (k : ℕ) (t : Term) (x : Valuation) → items ≡ fact.terms → IsLinear fact → k < length items → t ≡ get_or items k t → ((v : Variable) → Within (box v) (x v)) → value (whole x) fact ≡ pos 0 → IsSomeAnd (share_left fact box k t) (λ q. Within q (x t.variable))
 share_kept box fact items k t x same linear inside at within none =

@@ -1,11 +1,11 @@
--- Two variables at one place are one.
+-- Two variables of one rank are one.
 use Rattle.std.proofs.Common.{◌≡◌, ◌≢◌, ℕ, ◌+◌, ◌-◌, ◌*◌, ◌/◌, ◌%◌, ◌==◌, cond, eqb, refl, sym, ap, ◌∙◌, arith}
 use Rattle.std.proofs.lemmas.Bool.Decides.{nat_tests}
 use Rattle.loop_bounds.specs.declared.variable.Variable.{Variable}
 use Rattle.loop_bounds.specs.declared.variable.Variable.TheVariants.{A, B, C, D, E, H, L, Bc, De, Hl, Ix, Iy, Slot}
 use Rattle.loop_bounds.specs.declared.variable.Part.{Part}
 use Rattle.loop_bounds.specs.declared.variable.Part.TheVariants.{Word, High, Low}
-use Rattle.loop_bounds.specs.Variable.{place_of, part_place}
+use Rattle.loop_bounds.specs.Variable.{rank_of, part_rank}
 
 part_at : ℕ → Part
 part_at n = cond (n == 0) Word (cond (n == 1) High Low)
@@ -22,7 +22,7 @@ beyond : (n : ℕ) → variable_at (12 + n) ≡ slot_at n
 unfolding variable_at
 beyond n = grind (arith, nat_tests)
 
-slot_again : (n : ℕ) (p : Part) → slot_at (3 * n + part_place p) ≡ Slot n p
+slot_again : (n : ℕ) (p : Part) → slot_at (3 * n + part_rank p) ≡ Slot n p
 unfolding slot_at part_at
 slot_again n Word =
     let q : (3 * n + 0) / 3 ≡ n = omega arith in
@@ -37,35 +37,35 @@ slot_again n Low =
     let r : (3 * n + 2) % 3 ≡ 2 = omega arith in
     rw (q, r) refl
 
-variable_at-place : (v : Variable) → variable_at (place_of v) ≡ v
+variable_at-rank : (v : Variable) → variable_at (rank_of v) ≡ v
 unfolding variable_at
-variable_at-place A = refl
-variable_at-place B = refl
-variable_at-place C = refl
-variable_at-place D = refl
-variable_at-place E = refl
-variable_at-place H = refl
-variable_at-place L = refl
-variable_at-place Bc = refl
-variable_at-place De = refl
-variable_at-place Hl = refl
-variable_at-place Ix = refl
-variable_at-place Iy = refl
-variable_at-place (Slot n p) =
-    let e : 12 + 3 * n + part_place p ≡ 12 + (3 * n + part_place p) = omega arith in
-    ap variable_at e ∙ beyond (3 * n + part_place p) ∙ slot_again n p
+variable_at-rank A = refl
+variable_at-rank B = refl
+variable_at-rank C = refl
+variable_at-rank D = refl
+variable_at-rank E = refl
+variable_at-rank H = refl
+variable_at-rank L = refl
+variable_at-rank Bc = refl
+variable_at-rank De = refl
+variable_at-rank Hl = refl
+variable_at-rank Ix = refl
+variable_at-rank Iy = refl
+variable_at-rank (Slot n p) =
+    let e : 12 + 3 * n + part_rank p ≡ 12 + (3 * n + part_rank p) = omega arith in
+    ap variable_at e ∙ beyond (3 * n + part_rank p) ∙ slot_again n p
 
--- two variables at one place are one
-pub same_from_place : (v w : Variable) → place_of v ≡ place_of w → v ≡ w
-same_from_place v w e = sym (variable_at-place v) ∙ ap variable_at e ∙ variable_at-place w
+-- two variables of one rank are one
+pub same_from_rank : (v w : Variable) → rank_of v ≡ rank_of w → v ≡ w
+same_from_rank v w e = sym (variable_at-rank v) ∙ ap variable_at e ∙ variable_at-rank w
 
 -- a choice by whether two variables are one
-pub choice_same : {X : Type 0} (v w : Variable) (a b : X) → v ≡ w → cond (eqb (place_of v) (place_of w)) a b ≡ a
+pub choice_same : {X : Type 0} (v w : Variable) (a b : X) → v ≡ w → cond (eqb (rank_of v) (rank_of w)) a b ≡ a
 choice_same v w a b e =
-    let same : place_of v ≡ place_of w = ap place_of e in
+    let same : rank_of v ≡ rank_of w = ap rank_of e in
     grind (arith, nat_tests)
 
-pub choice_other : {X : Type 0} (v w : Variable) (a b : X) → v ≢ w → cond (eqb (place_of v) (place_of w)) a b ≡ b
+pub choice_other : {X : Type 0} (v w : Variable) (a b : X) → v ≢ w → cond (eqb (rank_of v) (rank_of w)) a b ≡ b
 choice_other v w a b ne =
-    let other : place_of v ≢ place_of w = λ e. ne (same_from_place v w e) in
+    let other : rank_of v ≢ rank_of w = λ e. ne (same_from_rank v w e) in
     grind (arith, nat_tests)

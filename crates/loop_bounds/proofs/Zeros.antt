@@ -5,7 +5,7 @@ use Rattle.std.proofs.lemmas.Int.{ints}
 use Rattle.std.proofs.lemmas.List.Elements.{All-head, All-tail, All-cons, All-nil}
 use Rattle.loop_bounds.specs.declared.variable.Variable.{Variable}
 use Rattle.loop_bounds.specs.declared.linear.Term.{Term}
-use Rattle.loop_bounds.specs.Variable.{place_of}
+use Rattle.loop_bounds.specs.Variable.{rank_of}
 use Rattle.loop_bounds.specs.Linear.{Sum, total, value}
 use Rattle.loop_bounds.specs.Effect.{Valuation, whole}
 use Rattle.loop_bounds.specs.Form.{AreDistinct}
@@ -32,7 +32,7 @@ total_zero x (t ∷ ts) h =
 
 -- 1 at one variable and 0 elsewhere
 only : Variable → Valuation
-only v w = cond (eqb (place_of w) (place_of v)) 1 0
+only v w = cond (eqb (rank_of w) (rank_of v)) 1 0
 
 coefficient_found : (t : Term) (ts : List Term) → AreDistinct (t ∷ ts) → total (whole (only t.variable)) (t ∷ ts) ≡ t.coefficient
 unfolding only nothing one

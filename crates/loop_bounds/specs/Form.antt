@@ -1,5 +1,5 @@
 -- Sums of terms with distinct variables, as the decisions keep them.
-use Rattle.std.specs.Prelude.{◌≡◌, ◌≢◌, ℕ, ◌≤◌, List, [], ◌∷◌, length, take, ℤ, pos, negsuc, ◌+ℤ◌, ◌*ℤ◌, unsigned_abs, sum_by, min, max, AllPairs}
+use Rattle.std.specs.Prelude.{◌≡◌, ◌≢◌, ℕ, ◌≤◌, List, [], ◌∷◌, length, take, ℤ, pos, negsuc, ◌+ℤ◌, ◌*ℤ◌, unsigned_abs, sum_by, AllPairs}
 use Rattle.intervals.specs.Range.{Interval}
 use Rattle.loop_bounds.specs.declared.linear.Term.{Term}
 use Rattle.loop_bounds.specs.Ranges.{Box}
@@ -14,8 +14,8 @@ weight ts = sum_by (λ t. unsigned_abs t.coefficient) ts
 
 -- the end of a range at which a multiple is least
 abbrev pub end_of : Interval → ℤ → ℕ
-end_of r (pos n) = min r.low r.high
-end_of r (negsuc n) = max r.low r.high
+end_of r (pos n) = r.low
+end_of r (negsuc n) = r.high
 
 -- what the terms come to, each at the end where it is least
 abbrev pub least_total : Box → List Term → ℤ

@@ -3,7 +3,7 @@ use Rattle.std.specs.Prelude.{ℕ, ◌-◌, ◌≤◌, ◌<◌, List, [], ◌∷
 use Rattle.loop_bounds.specs.declared.linear.Term.{Term}
 use Rattle.loop_bounds.specs.declared.variable.Variable.{Variable}
 use Rattle.loop_bounds.specs.declared.variable.Variable.TheVariants.{A}
-use Rattle.loop_bounds.specs.Variable.{place_of}
+use Rattle.loop_bounds.specs.Variable.{rank_of}
 
 -- a constant and some terms
 pub record Sum : Type 0 where
@@ -15,7 +15,7 @@ pub record IsLinear (s : Sum) : Type 0 where
   pub constant : unsigned_abs s.constant ≤ 1000000000
   pub count : length s.terms ≤ 3
   pub coefficients : All (λ t. (0 < unsigned_abs t.coefficient) × (unsigned_abs t.coefficient ≤ 1000000)) s.terms
-  pub rising : AllPairs (λ t u. place_of t.variable < place_of u.variable) s.terms
+  pub rising : AllPairs (λ t u. rank_of t.variable < rank_of u.variable) s.terms
 
 -- the sum with one more term at its end
 abbrev pub extended : Sum → Term → Sum

@@ -1,3 +1,4 @@
+-- Numbers and their negations.
 use Rattle.std.specs.Prelude.{Bool, ℤ, neg_ℤ, if◌then◌else◌}
 
 -- the number, or its negation

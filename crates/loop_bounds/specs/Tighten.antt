@@ -1,6 +1,6 @@
 -- A linear that is 0 cuts each of its variables to what the others leave (docs/CHECKER.md, "Linear bounds, effects and
 -- tightening").
-use Rattle.std.specs.Prelude.{ℕ, suc, ◌+◌, ◌/◌, min, max, List, [], ◌∷◌, remove, ℤ, pos, negsuc, neg_ℤ, ◌+ℤ◌, ◌*ℤ◌, Option, Some, None, option_and_then}
+use Rattle.std.specs.Prelude.{ℕ, suc, ◌+◌, ◌/◌, List, [], ◌∷◌, remove, ℤ, pos, negsuc, neg_ℤ, ◌+ℤ◌, ◌*ℤ◌, Option, Some, None, option_and_then, option_map, unwrap_or}
 use Rattle.std.specs.Int.{div_ceil}
 use Rattle.intervals.specs.Range.{Interval, intersection}
 use Rattle.loop_bounds.specs.declared.linear.Term.{Term}
@@ -11,8 +11,8 @@ use Rattle.loop_bounds.specs.Form.{least_total}
 
 -- the end of a range at which a multiple is greatest
 abbrev pub top_of : Interval → ℤ → ℕ
-top_of r (pos n) = max r.low r.high
-top_of r (negsuc n) = min r.low r.high
+top_of r (pos n) = r.high
+top_of r (negsuc n) = r.low
 
 -- what the terms come to, each at the end where it is greatest
 abbrev pub greatest_total : Box → List Term → ℤ
@@ -53,3 +53,15 @@ tightened_from range_of cut_to fact place (t ∷ ts) s =
 -- every variable of the fact cut
 abbrev pub tightened : {S : Type 0} → (S → Box) → (S → Variable → Interval → Option S) → Sum → S → Option S
 tightened range_of cut_to fact s = tightened_from range_of cut_to fact 0 fact.terms s
+
+-- from a place on, the state after the last cut that left anything
+abbrev pub after_last_cut_from : {S : Type 0} → (S → Box) → (S → Variable → Interval → Option S) → Sum → ℕ → List Term → S → S
+after_last_cut_from range_of cut_to fact place [] s = s
+after_last_cut_from range_of cut_to fact place (t ∷ ts) s =
+    unwrap_or (option_and_then (λ left.
+    option_map (λ next. after_last_cut_from range_of cut_to fact (place + 1) ts next) (cut_to s t.variable left))
+    (share_left fact (range_of s) place t)) s
+
+-- the state after the last cut that left anything
+abbrev pub after_last_cut : {S : Type 0} → (S → Box) → (S → Variable → Interval → Option S) → Sum → S → S
+after_last_cut range_of cut_to fact s = after_last_cut_from range_of cut_to fact 0 fact.terms s

@@ -5,24 +5,24 @@ use Rattle.loop_bounds.specs.declared.variable.Variable.TheVariants.{A, B, C, D,
 use Rattle.loop_bounds.specs.declared.variable.Part.{Part}
 use Rattle.loop_bounds.specs.declared.variable.Part.TheVariants.{Word, High, Low}
 
--- the place of a part of a slot among the three, from 0
-abbrev pub part_place : Part → ℕ
-part_place Word = 0
-part_place High = 1
-part_place Low = 2
+-- the rank of a part of a slot among the three, from 0
+abbrev pub part_rank : Part → ℕ
+part_rank Word = 0
+part_rank High = 1
+part_rank Low = 2
 
--- the place of a variable in the order A B C D E H L BC DE HL IX IY s0 s0h s0l s1 s1h .. s63l, from 0
-abbrev pub place_of : Variable → ℕ
-place_of A = 0
-place_of B = 1
-place_of C = 2
-place_of D = 3
-place_of E = 4
-place_of H = 5
-place_of L = 6
-place_of Bc = 7
-place_of De = 8
-place_of Hl = 9
-place_of Ix = 10
-place_of Iy = 11
-place_of (Slot number part) = 12 + 3 * number + part_place part
+-- the rank of a variable in the order A B C D E H L BC DE HL IX IY s0 s0h s0l s1 s1h .. s63l, from 0
+abbrev pub rank_of : Variable → ℕ
+rank_of A = 0
+rank_of B = 1
+rank_of C = 2
+rank_of D = 3
+rank_of E = 4
+rank_of H = 5
+rank_of L = 6
+rank_of Bc = 7
+rank_of De = 8
+rank_of Hl = 9
+rank_of Ix = 10
+rank_of Iy = 11
+rank_of (Slot number part) = 12 + 3 * number + part_rank part

@@ -1,3 +1,4 @@
+// The decisions on linears: whether one decreases, vanishes or becomes another.
 ghost use Rattle.std.specs.Prelude.{◌≡◌, ◌↔◌, ◌⊎◌, ◌≢◌, ◌<◌, ◌≤◌, ◌^◌, All, IsTrue, not, pos, ◌+ℤ◌, ◌-ℤ◌, unsigned_abs};
 ghost use Rattle.loop_bounds.specs.declared.effect.Change.TheVariants.{Unknown};
 ghost use Rattle.loop_bounds.specs.Linear.{value};

@@ -1,9 +1,10 @@
+// What a step leaves in each variable.
 ghost use Rattle.std.specs.Prelude.{◌≡◌};
 
-use crate::variable::{Part, Variable};
+use crate::variable::{Part, SlotNumber, Variable};
 
 /// What a step leaves in a variable.
-#[derive(Clone, Copy, Debug, PartialEq, Eq)]
+#[derive(Clone, Copy, PartialEq, Eq)]
 pub enum Change {
     /// What a variable, this one or another, held before the step.
     Old(Variable),
@@ -17,17 +18,16 @@ pub enum Change {
 }
 
 /// What a step leaves in a slot that it writes.
-#[derive(Clone, Copy, Debug, PartialEq, Eq)]
+#[derive(Clone, Copy, PartialEq, Eq)]
 pub struct SlotChange {
-    /// The number of the slot, 0 to 63.
-    pub number: u8,
+    pub number: SlotNumber,
     pub word: Change,
     pub high: Change,
     pub low: Change,
 }
 
 /// What a step leaves in each variable. It writes at most one slot.
-#[derive(Clone, Copy, Debug, PartialEq, Eq)]
+#[derive(Clone, Copy, PartialEq, Eq)]
 pub struct Effect {
     pub a: Change,
     pub b: Change,

@@ -1,3 +1,4 @@
+// Sums of at most six terms, and their least values over ranges.
 ghost use Rattle.std.specs.Prelude.{◌≡◌, ◌≢◌, ◌+◌, ◌*◌, ◌<◌, ◌≤◌, ◌^◌, ◌↔◌, IsTrue, [], length, MatchOption, All, HoldsAt, ℤ, pos, ◌+ℤ◌, ◌*ℤ◌, ◌≤ℤ◌, unsigned_abs, FitsSigned};
 ghost use Rattle.std.specs.Int.{w32};
 ghost use Rattle.loop_bounds.specs.declared.variable.Variable.{Variable};
@@ -54,9 +55,10 @@ pub fn multiple(coefficient: i32, value: u16) -> i128
 /// The least multiple of a value in the range.
 pub fn least_multiple(coefficient: i32, range: WordRange) -> i128
     ensures value { result ≡ coefficient *ℤ pos (end_of range coefficient) }
+    ensures order { range.low ≤ range.high }
     ensures size { unsigned_abs result ≤ 65535 * unsigned_abs coefficient }
 {
-    let (low, high) = (range.low.min(range.high), range.low.max(range.high));
+    let (low, high) = (range.low(), range.high());
     multiple(coefficient, if coefficient >= 0 { low } else { high })
 }
 

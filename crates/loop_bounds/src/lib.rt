@@ -8,8 +8,6 @@ mod form;
 mod linear;
 mod ranges;
 mod rewritten;
-#[cfg(test)]
-mod tests;
 mod tightening;
 mod variable;
 
@@ -18,4 +16,4 @@ pub use effect::{Change, Effect, SlotChange};
 pub use linear::{Linear, Term};
 pub use ranges::{Ranges, Tightenable};
 pub use tightening::tighten;
-pub use variable::{Part, Variable};
+pub use variable::{Part, SlotNumber, Variable};

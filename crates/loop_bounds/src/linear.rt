@@ -1,5 +1,6 @@
+// Linears: a constant and at most three terms.
 ghost use Rattle.std.specs.Prelude.{◌≡◌, ◌↔◌, IsTrue, ◌≤◌, ◌<◌, [], length, take, pos, unsigned_abs, SomeIff, All};
-ghost use Rattle.loop_bounds.specs.Variable.{place_of};
+ghost use Rattle.loop_bounds.specs.Variable.{rank_of};
 
 use crate::variable::Variable;
 use std::marker::Model;
@@ -11,7 +12,7 @@ const GREATEST_CONSTANT: u32 = 1_000_000_000;
 const GREATEST_COEFFICIENT: u32 = 1_000_000;
 
 /// A multiple of a variable.
-#[derive(Clone, Copy, Debug, PartialEq, Eq)]
+#[derive(Clone, Copy, PartialEq, Eq)]
 pub struct Term {
     pub coefficient: i32,
     pub variable: Variable,
@@ -25,7 +26,7 @@ const PADDING: Term = Term {
 
 /// A constant and at most three terms, whose variables rise strictly. The constant is up to 1,000,000,000 in size, each
 /// coefficient 1 to 1,000,000.
-#[derive(Clone, Copy, Debug, PartialEq, Eq)]
+#[derive(Clone, Copy, PartialEq, Eq)]
 pub struct Linear {
     constant: i32,
     terms: [Term; 3],
@@ -58,10 +59,10 @@ fn is_coefficient(coefficient: i32) -> bool
 
 /// Whether each of the terms has a variable that comes before this one.
 fn all_before(terms: &[Term], variable: Variable) -> bool
-    ensures { IsTrue result ↔ All (λ t. place_of t.variable < place_of variable) terms.now }
+    ensures { IsTrue result ↔ All (λ t. rank_of t.variable < rank_of variable) terms.now }
 {
-    let place = variable.place();
-    terms.iter().all(|term| term.variable.place() < place)
+    let rank = variable.rank();
+    terms.iter().all(|term| term.variable.rank() < rank)
 }
 
 impl Linear {

@@ -1,4 +1,6 @@
+// What gives a range for each variable, and takes a cut of one.
 ghost use Rattle.std.specs.Prelude.{◌≡◌, ℕ, Option, Some, None, IsSomeAnd, MatchBool};
+ghost use Rattle.std.specs.Bool.{OnFalse};
 ghost use Rattle.intervals.specs.Range.{Interval, Within};
 ghost use Rattle.loop_bounds.specs.declared.variable.Variable.{Variable};
 
@@ -21,9 +23,10 @@ pub trait Tightenable: Ranges {
 
     ghost cut_to: { Self → Variable → Interval → Option Self };
 
-    /// Cuts a variable to a range, and tells whether anything is left.
+    /// Cuts a variable to a range, and tells whether anything is left. Where nothing is, the state stays as it was.
     fn cut(&mut self, variable: Variable, to: WordRange) -> bool
-        ensures { MatchBool result (cut_to self.old variable to ≡ Some self.new) (cut_to self.old variable to ≡ None) };
+        ensures exact { MatchBool result (cut_to self.old variable to ≡ Some self.new) (cut_to self.old variable to ≡ None) }
+        ensures unchanged { OnFalse result (self.new ≡ self.old) };
 
     ghost in_ranges: { (s : Self) (x : Variable → ℕ) (v : Variable) → holds s x → Within (Self.range_of s v) (x v) };
 

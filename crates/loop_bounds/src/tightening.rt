@@ -1,8 +1,10 @@
+// The cuts that a linear which is 0 makes.
 ghost use Rattle.std.specs.Prelude.{◌≡◌, ◌+◌, ◌*◌, ◌<◌, ◌≤◌, ◌^◌, length, All, ℤ, pos, ◌+ℤ◌, ◌-ℤ◌, ◌*ℤ◌, unsigned_abs, Some, None, IsTrue, MatchBool, slice_index_or, if◌then◌else◌};
+ghost use Rattle.std.specs.Bool.{OnFalse};
 ghost use Rattle.loop_bounds.specs.Linear.{value};
 ghost use Rattle.loop_bounds.specs.Effect.{Valuation, whole};
 ghost use Rattle.loop_bounds.specs.Form.{least_total};
-ghost use Rattle.loop_bounds.specs.Tighten.{greatest_total, top_of, quotient_up, multiples_between, balancing, share_left, tightened};
+ghost use Rattle.loop_bounds.specs.Tighten.{greatest_total, top_of, quotient_up, multiples_between, balancing, share_left, tightened, after_last_cut};
 
 use crate::form::{least_multiple, multiple};
 use crate::linear::{Linear, Term};
@@ -31,8 +33,8 @@ fn multiples_between(from: i128, to: i128, factor: u32, range: WordRange) -> Opt
     if to < 0 {
         return None;
     }
-    let low = u128::from(range.low).max(quotient_up(from, factor));
-    let high = u128::from(range.high).min(to.unsigned_abs() / u128::from(factor));
+    let low = u128::from(range.low()).max(quotient_up(from, factor));
+    let high = u128::from(range.high()).min(to.unsigned_abs() / u128::from(factor));
     if low > high {
         return None;
     }
@@ -77,7 +79,7 @@ fn greatest_multiple(coefficient: i32, range: WordRange) -> i128
     ensures value { result ≡ coefficient *ℤ pos (top_of range coefficient) }
     ensures size { unsigned_abs result ≤ 65535 * unsigned_abs coefficient }
 {
-    let (low, high) = (range.low.min(range.high), range.low.max(range.high));
+    let (low, high) = (range.low(), range.high());
     multiple(coefficient, if coefficient >= 0 { high } else { low })
 }
 
@@ -114,11 +116,13 @@ fn without(constant: i128, total: i128, part: i128) -> i128
 }
 
 /// Cuts each variable of a fact, which is 0, to what the ranges of the others leave, in the order of the terms, each cut
-/// seen by the next, and rounded inwards. Tells whether anything is left; where nothing is, the state is of no use.
+/// seen by the next, and rounded inwards. Tells whether anything is left; where nothing is, the state keeps the cuts
+/// before the one that left nothing.
 pub fn tighten<S: Tightenable>(fact: &Linear, state: &mut S) -> bool
     ensures exact { MatchBool result
         (tightened S.range_of S.cut_to fact.now state.old ≡ Some state.new)
         (tightened S.range_of S.cut_to fact.now state.old ≡ None) }
+    ensures stopped { OnFalse result (state.new ≡ after_last_cut S.range_of S.cut_to fact.now state.old) }
     ensures keeps { (x : Valuation) → S.holds state.old x → value (whole x) fact.now ≡ pos 0
         → IsTrue result × S.holds state.new x }
 {

@@ -1,15 +1,39 @@
-ghost use Rattle.std.specs.Prelude.{◌≡◌, ◌<◌};
+// The variables of linears: registers, pairs, slots and their bytes.
+ghost use Rattle.std.specs.Prelude.{◌≡◌, ◌<◌, ◌≤◌, SomeIff};
+
+use std::marker::Model;
 
 /// A slot's word, or one of its bytes.
-#[derive(Clone, Copy, Debug, PartialEq, Eq)]
+#[derive(Clone, Copy, PartialEq, Eq)]
 pub enum Part {
     Word,
     High,
     Low,
 }
 
+/// How many slots a shape has at most.
+const SLOTS: u8 = 64;
+
+/// The number of a slot, 0 to 63, where slot 0 was pushed first. No shape has more slots.
+#[derive(Clone, Copy, PartialEq, Eq)]
+pub struct SlotNumber {
+    number: u8,
+}
+
+impl Model for SlotNumber {
+    ghost use Rattle.std.specs.Prelude.{ℕ, ◌<◌};
+
+    ghost Value = { ℕ };
+
+    ghost view = { λ s. s.number };
+
+    ghost invariant = { λ s. s.number < 64 };
+
+    ghost inverse = { λ n. record { number = n } };
+}
+
 /// What a linear may speak of: a register, a pair, a slot of the stack shape, or a byte of a slot.
-#[derive(Clone, Copy, Debug, PartialEq, Eq)]
+#[derive(Clone, Copy, PartialEq, Eq)]
 pub enum Variable {
     A,
     B,
@@ -23,15 +47,35 @@ pub enum Variable {
     Hl,
     Ix,
     Iy,
-    /// The slot of a number from 0 to 63, where slot 0 was pushed first. No shape has more slots.
-    Slot(u8, Part),
+    Slot(SlotNumber, Part),
+}
+
+impl SlotNumber {
+    /// The slot of this number, or None from 64 on.
+    pub fn new(number: u8) -> Option<SlotNumber>
+        ensures { SomeIff result (number < 64) number }
+    {
+        if number < SLOTS {
+            Some(SlotNumber { number })
+        } else {
+            None
+        }
+    }
+
+    /// The number, 0 to 63.
+    pub fn number(self) -> u8
+        ensures value { result ≡ self }
+        ensures within { result < 64 }
+    {
+        self.number
+    }
 }
 
 impl Part {
-    ghost use Rattle.loop_bounds.specs.Variable.{part_place};
+    ghost use Rattle.loop_bounds.specs.Variable.{part_rank};
 
-    fn place(self) -> u16
-        ensures value { result ≡ part_place self }
+    fn rank(self) -> u16
+        ensures value { result ≡ part_rank self }
         ensures within { result < 3 }
     {
         match self {
@@ -43,11 +87,12 @@ impl Part {
 }
 
 impl Variable {
-    ghost use Rattle.loop_bounds.specs.Variable.{place_of};
+    ghost use Rattle.loop_bounds.specs.Variable.{rank_of};
 
-    /// The place in the order A B C D E H L BC DE HL IX IY s0 s0h s0l s1 s1h .. s63l, 0 to 203.
-    pub fn place(self) -> u16
-        ensures { result ≡ place_of self }
+    /// The rank in the order A B C D E H L BC DE HL IX IY s0 s0h s0l s1 s1h .. s63l, 0 to 203.
+    pub fn rank(self) -> u16
+        ensures value { result ≡ rank_of self }
+        ensures within { result < 204 }
     {
         match self {
             Variable::A => 0,
@@ -62,7 +107,7 @@ impl Variable {
             Variable::Hl => 9,
             Variable::Ix => 10,
             Variable::Iy => 11,
-            Variable::Slot(slot, part) => 12 + 3 * u16::from(slot) + part.place(),
+            Variable::Slot(slot, part) => 12 + 3 * u16::from(slot.number()) + part.rank(),
         }
     }
 }

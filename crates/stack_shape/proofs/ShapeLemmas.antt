@@ -1,13 +1,8 @@
 -- Covering and joins of shapes, by the laws of pairs.
-use Rattle.std.proofs.Common.{◌≡◌, ℕ, Bool, List, [], ◌∷◌, ◌++◌, length, arith}
+use Rattle.std.proofs.Common.{◌≡◌, ℕ, List, [], ◌∷◌, ◌++◌, length, arith}
 use Rattle.std.proofs.lemmas.Slice.Zip.{all_zipped_more}
-use Rattle.std.specs.Bool.{Decides}
-use Rattle.std.proofs.lemmas.Grind.{common_steps}
-use Rattle.std.specs.Cmp.Lexicographic.{pointwise}
-use Rattle.std.proofs.lemmas.Slice.Eq.{slice_eq-Decides}
 use Rattle.intervals.specs.Domain.{Entry}
 use Rattle.intervals.specs.PairLaws.{covers_itself, covers_along, holds_wider, hull_covers_first, hull_covers_second}
-use Rattle.stack_shape.specs.contracts.slot.SlotPartialEq.TheImpl.{eq-value}
 use Rattle.stack_shape.specs.declared.slot.Slot.{Slot}
 use Rattle.stack_shape.specs.Slot.{HoldsSlot, CoversSlot}
 use Rattle.stack_shape.specs.Shape.{HoldsShape, CoversShape, hull_of_shapes}
@@ -49,10 +44,3 @@ module _ (below whole : List Slot) (slot : Slot) (entry : Entry) (words : List �
   pub holds_popped : whole ≡ below ++ slot ∷ [] → HoldsShape whole entry (words ++ word ∷ []) → HoldsSlot slot entry word × HoldsShape below entry words
   holds_popped e h =
       let k = AllZip-last (λ s w. HoldsSlot s entry w) below words slot word (rw e at h) in (k.1, k.0)
-
--- `==` of two slots, and of two shapes, tells whether they are the same
-slot_equal : (a b : Slot) → Decides (eq-value.it a b) (a ≡ b)
-slot_equal a b = grind (arith, common_steps)
-
-pub shape_equal : (a b : List Slot) (r : Bool) → r ≡ pointwise eq-value.it a b → Decides r (a ≡ b)
-shape_equal = slice_eq-Decides slot_equal

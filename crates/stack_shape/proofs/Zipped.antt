@@ -1,5 +1,5 @@
 -- Facts of two lists, place by place.
-use Rattle.std.proofs.Common.{◌≡◌, ℕ, zero, suc, ◌<◌, Bool, true, false, List, [], ◌∷◌, ◌++◌, length, arith, rules, IsTrue, ◌↔◌}
+use Rattle.std.proofs.Common.{◌≡◌, ℕ, zero, suc, ◌<◌, Bool, true, false, List, [], ◌∷◌, ◌++◌, length, set, ◌≤◌, arith, rules, IsTrue, ◌↔◌}
 use Rattle.std.specs.Prelude.{MatchBool}
 use Rattle.std.specs.List.{AllZip, AllWithin, HoldsAt, zip}
 
@@ -12,6 +12,22 @@ module _ {A B : Type 0} (R : A → B → Type 0) where
   AllZip-last (a ∷ []) [] x y h = absurd h.1
   AllZip-last (a ∷ c ∷ xs) [] x y h = absurd h.1
   AllZip-last (a ∷ xs) (b ∷ ys) x y h = let k = AllZip-last xs ys x y h.1 in ((h.0, k.0), k.1)
+
+  -- one place written anew in both lists
+  pub AllZip-set : (xs : List A) (ys : List B) (k : ℕ) (x : A) (y : B) → AllZip R xs ys → R x y → AllZip R (set xs k x) (set ys k y)
+  AllZip-set [] [] k x y h r = tt
+  AllZip-set [] (b ∷ ys) k x y h r = absurd h
+  AllZip-set (a ∷ xs) [] k x y h r = absurd h
+  AllZip-set (a ∷ xs) (b ∷ ys) zero x y h r = (r, h.1)
+  AllZip-set (a ∷ xs) (b ∷ ys) (suc k) x y h r = (h.0, AllZip-set xs ys k x y h.1 r)
+
+  -- a place past the ends is not written
+  pub AllZip-past : (xs : List A) (ys : List B) (k : ℕ) (y : B) → length xs ≤ k → AllZip R xs ys → AllZip R xs (set ys k y)
+  AllZip-past [] [] k y l h = tt
+  AllZip-past [] (b ∷ ys) k y l h = absurd h
+  AllZip-past (a ∷ xs) [] k y l h = absurd h
+  AllZip-past (a ∷ xs) (b ∷ ys) zero y l h = absurd (omega arith)
+  AllZip-past (a ∷ xs) (b ∷ ys) (suc k) y l h = (h.0, AllZip-past xs ys k y (omega arith) h.1)
 
   -- a fact of each pair is a fact of the lists, and one pair without it is enough against it
   each_zipped : (xs : List A) (ys : List B) → length xs ≡ length ys → AllWithin (λ p. R p.0 p.1) (zip xs ys) 0 (length (zip xs ys)) → AllZip R xs ys

@@ -2,7 +2,7 @@
 use Rattle.std.specs.Prelude.{ℕ}
 use Rattle.stack_shape.specs.declared.slot.Slot.{Slot}
 use Rattle.intervals.specs.Domain.{Entry}
-use Rattle.intervals.specs.Pair.{Holds, CoversPair, hull_of_pairs}
+use Rattle.intervals.specs.Pair.{Holds, CoversPair, MeetsPair, hull_of_pairs}
 
 -- the word is in the slot's pair
 abbrev pub HoldsSlot : Slot → Entry → ℕ → Type 0
@@ -11,6 +11,10 @@ HoldsSlot slot entry word = Holds slot.pair entry word
 -- the pair of the first covers that of the second
 abbrev pub CoversSlot : Slot → Slot → Type 0
 CoversSlot a b = CoversPair a.pair b.pair
+
+-- range by range, the two pairs share a value
+abbrev pub MeetsSlot : Slot → Slot → Type 0
+MeetsSlot a b = MeetsPair a.pair b.pair
 
 -- the join of the two pairs
 abbrev pub hull_of_slots : Slot → Slot → Slot

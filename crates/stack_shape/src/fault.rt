@@ -1,3 +1,4 @@
+// The faults of changes of a shape.
 use thiserror::Error;
 
 /// Why a shape could not be changed.

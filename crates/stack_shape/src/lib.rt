@@ -4,8 +4,6 @@
 mod fault;
 mod shape;
 mod slot;
-#[cfg(test)]
-mod tests;
 
 pub use fault::ShapeFault;
 pub use shape::{SLOTS, Shape};

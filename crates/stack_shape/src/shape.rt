@@ -1,6 +1,6 @@
-ghost use Rattle.std.specs.Prelude.{◌≡◌, ◌+◌, ◌*◌, ◌<◌, ◌≤◌, ◌↔◌, ◌⊎◌, ⊤, ℕ, List, [], ◌∷◌, ◌++◌, length, IsTrue, IsOk, IsNone, IfOk, IfErr, IfSome, OnOk, OnErr, SomeIff};
+// Shapes: the slots of an activation, first pushed first.
+ghost use Rattle.std.specs.Prelude.{IsSome, IfNone, slice_index_or, slice_set, ◌≡◌, ◌+◌, ◌*◌, ◌<◌, ◌≤◌, ◌↔◌, ◌⊎◌, ⊤, ℕ, List, [], ◌∷◌, ◌++◌, length, IsTrue, IsOk, IsNone, IfOk, IfErr, IfSome, OnOk, OnErr, SomeIff};
 ghost use Rattle.intervals.specs.Domain.{Entry};
-ghost use Rattle.stack_shape.specs.declared.shape.TheConstants.{SLOTS};
 
 use crate::fault::ShapeFault;
 use crate::slot::Slot;
@@ -12,9 +12,11 @@ use std::marker::Model;
 /// How many slots a shape has at most.
 pub const SLOTS: usize = 64;
 
+const _: () = prove!(SLOTS == 64);
+
 /// What is known of the words that one activation has on the stack: at most 64 slots, first pushed first
 /// (docs/SHAPES.md).
-#[derive(Debug, Drop, PartialEq, Eq)]
+#[derive(Drop, PartialEq, Eq)]
 pub struct Shape {
     slots: ArrayVec<Slot, SLOTS>,
 }
@@ -22,13 +24,12 @@ pub struct Shape {
 impl Model for Shape {
     ghost use Rattle.std.specs.Prelude.{List, length, ◌≤◌};
     ghost use Rattle.stack_shape.specs.declared.slot.Slot.{Slot};
-    ghost use Rattle.stack_shape.specs.declared.shape.TheConstants.{SLOTS};
 
     ghost Value = { List Slot };
 
     ghost view = { λ s. s.slots.items };
 
-    ghost invariant = { λ s. length s.slots.items ≤ SLOTS };
+    ghost invariant = { λ s. length s.slots.items ≤ 64 };
 
     ghost inverse = { λ slots. record { slots = record { items = slots } } };
 }
@@ -47,7 +48,7 @@ impl Clone for Shape {
 impl Shape {
     ghost use Rattle.stack_shape.specs.declared.slot.Slot.{Slot};
     ghost use Rattle.stack_shape.specs.Slot.{HoldsSlot};
-    ghost use Rattle.stack_shape.specs.Shape.{HoldsShape, CoversShape, hull_of_shapes};
+    ghost use Rattle.stack_shape.specs.Shape.{HoldsShape, CoversShape, MeetsShape, hull_of_shapes};
 
     /// The shape without words, which an activation begins with.
     pub fn empty() -> Shape
@@ -70,7 +71,7 @@ impl Shape {
     /// The slots, first pushed first, 0 to 64.
     pub fn slots(&self) -> &[Slot]
         ensures value { result.now ≡ self.now }
-        ensures within { length result.now ≤ SLOTS }
+        ensures within { length result.now ≤ 64 }
     {
         self.slots.as_slice()
     }
@@ -78,7 +79,7 @@ impl Shape {
     /// How many slots there are, 0 to 64.
     pub fn len(&self) -> usize
         ensures value { result ≡ length self.now }
-        ensures within { result ≤ SLOTS }
+        ensures within { result ≤ 64 }
     {
         self.slots.len()
     }
@@ -108,9 +109,9 @@ impl Shape {
 
     /// Pushes a slot. At 64 slots it is Full, and the shape stays as it was.
     pub fn push(&mut self, slot: Slot) -> Result<(), ShapeFault>
-        ensures ok { IsOk result ↔ (length self.old < SLOTS) }
+        ensures ok { IsOk result ↔ (length self.old < 64) }
         ensures pushed { OnOk result (self.new ≡ self.old ++ slot ∷ []) }
-        ensures full { IfErr result (λ fault. (fault ≡ ShapeFault.Full) × (length self.old ≡ SLOTS)) }
+        ensures full { IfErr result (λ fault. (fault ≡ ShapeFault.Full) × (length self.old ≡ 64)) }
         ensures unchanged { OnErr result (self.new ≡ self.old) }
         ensures holds { (entry : Entry) (words : List ℕ) (word : ℕ)
             → HoldsShape self.old entry words → HoldsSlot slot entry word
@@ -147,6 +148,31 @@ impl Shape {
         let top = self.slots.pop().ok_or(ShapeFault::Empty)?;
         self.slots.push(slot);
         Ok(top)
+    }
+
+    /// Puts a slot in the place of another, where place 0 has the slot that was pushed first, and gives the one that was
+    /// there. From the length on there is none: it is None, and the shape stays as it was.
+    pub fn replace(&mut self, place: usize, slot: Slot) -> Option<Slot>
+        ensures some { IsSome result ↔ (place < length self.old) }
+        ensures given { IfSome result (λ before. before ≡ slice_index_or self.old place slot) }
+        ensures replaced { self.new ≡ slice_set self.old place slot }
+        ensures unchanged { IfNone result (self.new ≡ self.old) }
+        ensures holds { (entry : Entry) (words : List ℕ) (word : ℕ)
+            → HoldsShape self.old entry words → HoldsSlot slot entry word
+            → HoldsShape self.new entry (slice_set words place word) }
+    {
+        let there = self.slots.get_mut(place)?;
+        let before = *there;
+        *there = slot;
+        Some(before)
+    }
+
+    /// Whether the shapes have one length and, place by place, the ranges of their slots share a value.
+    pub fn meets(&self, other: &Shape) -> bool
+        ensures { IsTrue result ↔ MeetsShape self.now other.now }
+    {
+        let (mine, theirs) = (self.slots(), other.slots());
+        mine.len() == theirs.len() && mine.iter().zip(theirs).all(|(a, b)| a.pair.meets(b.pair))
     }
 
     /// Whether this shape covers the other one: they have one length, and each slot covers the other's slot in its

@@ -1,9 +1,10 @@
+// Slots: what is known of a word on the stack.
 ghost use Rattle.std.specs.Prelude.{◌≡◌};
 
 use intervals::{Domain, Pair};
 
 /// What is known of a word on the stack: the same as of a pair of registers.
-#[derive(Clone, Copy, Debug, PartialEq, Eq)]
+#[derive(Clone, Copy, PartialEq, Eq)]
 pub struct Slot {
     pub pair: Pair,
 }

@@ -6,8 +6,8 @@ use Rattle.z80_decode.specs.declared.operands.Register16.{Register16}
 use Rattle.z80_decode.specs.declared.operands.Register16.TheVariants as words
 use Rattle.z80_decode.specs.declared.operands.StackPair.{StackPair}
 use Rattle.z80_decode.specs.declared.operands.StackPair.TheVariants as stack_pairs
-use Rattle.z80_decode.specs.declared.operands.Pair.{Pair}
-use Rattle.z80_decode.specs.declared.operands.Pair.TheVariants as pairs
+use Rattle.z80_decode.specs.declared.operands.OperandPair.{OperandPair}
+use Rattle.z80_decode.specs.declared.operands.OperandPair.TheVariants as pairs
 use Rattle.z80_decode.specs.declared.operands.IndexPair.{IndexPair}
 use Rattle.z80_decode.specs.declared.operands.IndexPair.TheVariants as index_pairs
 use Rattle.z80_decode.specs.declared.operands.Pointer.{Pointer}
@@ -32,8 +32,8 @@ use Rattle.z80_decode.specs.declared.kinds.Bit.{Bit}
 use Rattle.z80_decode.specs.declared.kinds.Bit.TheVariants as bits
 use Rattle.z80_decode.specs.declared.kinds.RestartAddress.{RestartAddress}
 use Rattle.z80_decode.specs.declared.kinds.RestartAddress.TheVariants as restarts
-use Rattle.z80_decode.specs.declared.kinds.Mode.{Mode}
-use Rattle.z80_decode.specs.declared.kinds.Mode.TheVariants as modes
+use Rattle.z80_decode.specs.declared.kinds.MaskableMode.{MaskableMode}
+use Rattle.z80_decode.specs.declared.kinds.MaskableMode.TheVariants as modes
 use Rattle.z80_decode.specs.declared.operands.Memory.{Memory}
 use Rattle.z80_decode.specs.declared.operands.Memory.TheVariants as memories
 use Rattle.z80_decode.specs.declared.operands.Place.{Place}
@@ -75,10 +75,10 @@ each_stack_pair f g same stack_pairs.Af = ap (λ xs. get_or xs 3 (f stack_pairs.
 each_stack_pair f g same stack_pairs.Ix = ap (λ xs. get_or xs 4 (f stack_pairs.Ix)) same
 each_stack_pair f g same stack_pairs.Iy = ap (λ xs. get_or xs 5 (f stack_pairs.Iy)) same
 
-abbrev pub pairs_all : List Pair
+abbrev pub pairs_all : List OperandPair
 pairs_all = pairs.Bc ∷ pairs.De ∷ pairs.Hl ∷ pairs.Sp ∷ []
 
-pub each_pair : {X : Type 0} (f g : Pair → X) → map f pairs_all ≡ map g pairs_all → (x : Pair) → f x ≡ g x
+pub each_pair : {X : Type 0} (f g : OperandPair → X) → map f pairs_all ≡ map g pairs_all → (x : OperandPair) → f x ≡ g x
 each_pair f g same pairs.Bc = ap (λ xs. get_or xs 0 (f pairs.Bc)) same
 each_pair f g same pairs.De = ap (λ xs. get_or xs 1 (f pairs.De)) same
 each_pair f g same pairs.Hl = ap (λ xs. get_or xs 2 (f pairs.Hl)) same
@@ -206,10 +206,10 @@ each_restart f g same restarts.At28 = ap (λ xs. get_or xs 5 (f restarts.At28)) 
 each_restart f g same restarts.At30 = ap (λ xs. get_or xs 6 (f restarts.At30)) same
 each_restart f g same restarts.At38 = ap (λ xs. get_or xs 7 (f restarts.At38)) same
 
-abbrev pub modes_all : List Mode
+abbrev pub modes_all : List MaskableMode
 modes_all = modes.Zero ∷ modes.One ∷ modes.Two ∷ []
 
-pub each_mode : {X : Type 0} (f g : Mode → X) → map f modes_all ≡ map g modes_all → (x : Mode) → f x ≡ g x
+pub each_mode : {X : Type 0} (f g : MaskableMode → X) → map f modes_all ≡ map g modes_all → (x : MaskableMode) → f x ≡ g x
 each_mode f g same modes.Zero = ap (λ xs. get_or xs 0 (f modes.Zero)) same
 each_mode f g same modes.One = ap (λ xs. get_or xs 1 (f modes.One)) same
 each_mode f g same modes.Two = ap (λ xs. get_or xs 2 (f modes.Two)) same

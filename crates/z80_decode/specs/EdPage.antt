@@ -3,7 +3,7 @@ use Rattle.std.specs.Prelude.{ℕ, ◌/◌, ◌%◌, Option, Some, None, if◌th
 use Rattle.z80_decode.specs.declared.operands.Register8.{Register8}
 use Rattle.z80_decode.specs.declared.operands.Direct.TheVariants as directs
 use Rattle.z80_decode.specs.declared.operands.Special.TheVariants as specials
-use Rattle.z80_decode.specs.declared.kinds.Mode.TheVariants as modes
+use Rattle.z80_decode.specs.declared.kinds.MaskableMode.TheVariants as modes
 use Rattle.z80_decode.specs.declared.instr.Instr.{Instr}
 use Rattle.z80_decode.specs.declared.instr.Instr.TheVariants as instrs
 use Rattle.z80_decode.specs.Operands.{register_of, word_of, pair_of}

@@ -4,8 +4,8 @@ ghost use Rattle.z80_decode.specs.EdPage.{behind_ed, port_or_pair, block_instr, 
 
 use crate::fields::Fields;
 use crate::instr::Instr;
-use crate::kinds::{BlockKind, Mode};
-use crate::operands::{Direct, Pair, Register8, Register16, Special};
+use crate::kinds::{BlockKind, MaskableMode};
+use crate::operands::{Direct, OperandPair, Register8, Register16, Special};
 
 /// The instruction of an opcode behind the prefix ED, with the word that follows it.
 pub(crate) fn behind_ed(opcode: u8, word: u16) -> Option<Instr>
@@ -27,8 +27,8 @@ fn port_or_pair(y: u8, z: u8, word: u16) -> Option<Instr>
     match z {
         0 => Some(Instr::InputRegister(Register8::of(y)?)),
         1 => Some(Instr::OutputRegister(Register8::of(y)?)),
-        2 if y % 2 == 0 => Some(Instr::SbcHl(Pair::of(y / 2))),
-        2 => Some(Instr::AdcHl(Pair::of(y / 2))),
+        2 if y % 2 == 0 => Some(Instr::SbcHl(OperandPair::of(y / 2))),
+        2 => Some(Instr::AdcHl(OperandPair::of(y / 2))),
         _ if y % 2 == 0 => Some(Instr::StorePairDirect(Direct::Pair(Register16::of(y / 2)), word)),
         _ => Some(Instr::LoadPairDirect(Direct::Pair(Register16::of(y / 2)), word)),
     }
@@ -41,13 +41,13 @@ fn single(opcode: u8) -> Option<Instr>
     match opcode {
         0x44 => Some(Instr::Negate),
         0x45 => Some(Instr::ReturnFromNonMaskable),
-        0x46 => Some(Instr::InterruptMode(Mode::Zero)),
+        0x46 => Some(Instr::InterruptMode(MaskableMode::Zero)),
         0x47 => Some(Instr::StoreASpecial(Special::I)),
         0x4D => Some(Instr::ReturnFromInterrupt),
         0x4F => Some(Instr::StoreASpecial(Special::R)),
-        0x56 => Some(Instr::InterruptMode(Mode::One)),
+        0x56 => Some(Instr::InterruptMode(MaskableMode::One)),
         0x57 => Some(Instr::LoadASpecial(Special::I)),
-        0x5E => Some(Instr::InterruptMode(Mode::Two)),
+        0x5E => Some(Instr::InterruptMode(MaskableMode::Two)),
         0x5F => Some(Instr::LoadASpecial(Special::R)),
         0x67 => Some(Instr::RotateDigitsRight),
         0x6F => Some(Instr::RotateDigitsLeft),

@@ -1,10 +1,10 @@
 // The documented instructions.
 use crate::kinds::{
-    AccumulatorRotate, ArithmeticKind, Bit, BlockKind, Condition, Mode, RestartAddress, ShiftKind,
-    ShortCondition,
+    AccumulatorRotate, ArithmeticKind, Bit, BlockKind, Condition, MaskableMode, RestartAddress,
+    ShiftKind, ShortCondition,
 };
 use crate::operands::{
-    Address, Direct, Index, IndexPair, Memory, Operand, Pair, Place, Pointer, Register8,
+    Address, Direct, Index, IndexPair, Memory, Operand, OperandPair, Place, Pointer, Register8,
     Register16, Special, StackPair,
 };
 
@@ -26,7 +26,7 @@ pub enum Instr {
     /// EI
     EnableInterrupts,
     /// IM 0, IM 1, IM 2
-    InterruptMode(Mode),
+    InterruptMode(MaskableMode),
     /// LD r,r'; LD r,(HL); LD r,(IX+d); LD r,(IY+d)
     LoadRegister(Register8, Place),
     /// LD r,n; LD (HL),n; LD (IX+d),n; LD (IY+d),n
@@ -86,11 +86,11 @@ pub enum Instr {
     /// SCF
     SetCarry,
     /// ADD HL,ss
-    AddHl(Pair),
+    AddHl(OperandPair),
     /// ADC HL,ss
-    AdcHl(Pair),
+    AdcHl(OperandPair),
     /// SBC HL,ss
-    SbcHl(Pair),
+    SbcHl(OperandPair),
     /// ADD IX,pp; ADD IY,rr
     AddIndex(Index, IndexPair),
     /// INC ss; INC IX; INC IY

@@ -96,7 +96,7 @@ pub enum RestartAddress {
 
 /// An interrupt mode of IM.
 #[derive(Clone, Copy)]
-pub enum Mode {
+pub enum MaskableMode {
     Zero,
     One,
     Two,

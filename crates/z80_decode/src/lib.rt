@@ -17,11 +17,11 @@ pub use decoding::decode;
 pub use fault::DecodeFault;
 pub use instr::Instr;
 pub use kinds::{
-    AccumulatorRotate, ArithmeticKind, Bit, BlockKind, Condition, Mode, RestartAddress, ShiftKind,
-    ShortCondition,
+    AccumulatorRotate, ArithmeticKind, Bit, BlockKind, Condition, MaskableMode, RestartAddress,
+    ShiftKind, ShortCondition,
 };
 pub use operands::{
-    Address, Direct, Index, IndexPair, Memory, Operand, Pair, Place, Pointer, Register8,
+    Address, Direct, Index, IndexPair, Memory, Operand, OperandPair, Place, Pointer, Register8,
     Register16, Special, StackPair,
 };
 pub use spelling::one_spelling;

@@ -39,7 +39,7 @@ pub enum StackPair {
 
 /// The second operand of ADD HL,ss, ADC HL,ss and SBC HL,ss: `ss` of the manual.
 #[derive(Clone, Copy)]
-pub enum Pair {
+pub enum OperandPair {
     Bc,
     De,
     Hl,
@@ -175,16 +175,16 @@ impl StackPair {
     }
 }
 
-impl Pair {
+impl OperandPair {
     /// The pair with a code of two bits.
-    pub(crate) fn of(code: u8) -> Pair
+    pub(crate) fn of(code: u8) -> OperandPair
         ensures { result ≡ pair_of code }
     {
         match code {
-            0 => Pair::Bc,
-            1 => Pair::De,
-            2 => Pair::Hl,
-            _ => Pair::Sp,
+            0 => OperandPair::Bc,
+            1 => OperandPair::De,
+            2 => OperandPair::Hl,
+            _ => OperandPair::Sp,
         }
     }
 }

@@ -5,7 +5,9 @@ ghost use Rattle.z80_decode.specs.UnprefixedPage.{unprefixed, first_quarter, rel
 use crate::fields::Fields;
 use crate::instr::Instr;
 use crate::kinds::{AccumulatorRotate, ArithmeticKind, Condition, RestartAddress, ShortCondition};
-use crate::operands::{Address, Direct, Operand, Pair, Place, Pointer, Register16, StackPair};
+use crate::operands::{
+    Address, Direct, Operand, OperandPair, Place, Pointer, Register16, StackPair,
+};
 
 /// The instruction of an opcode without a prefix, with the byte and the word that follow it. None
 /// at the four prefixes.
@@ -28,7 +30,7 @@ fn first_quarter(y: u8, z: u8, byte: u8, word: u16) -> Instr
     match z {
         0 => relative_jump(y, byte),
         1 if y % 2 == 0 => Instr::LoadPair(Register16::of(y / 2), word),
-        1 => Instr::AddHl(Pair::of(y / 2)),
+        1 => Instr::AddHl(OperandPair::of(y / 2)),
         2 => indirect_load(y, word),
         3 if y % 2 == 0 => Instr::IncrementPair(Register16::of(y / 2)),
         3 => Instr::DecrementPair(Register16::of(y / 2)),

@@ -1,4 +1,4 @@
-// What each instruction does, as a list of moves of few kinds (docs/INSTRUCTIONS.md, "Effects"): the machine runs these
+// What each instruction does, as a list of moves of few kinds (docs/INSTRUCTIONS.md, "Moves"): the machine runs these
 // lists, and so does whoever reasons about a program.
 #![tactic(auto)]
 

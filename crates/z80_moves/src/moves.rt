@@ -21,7 +21,7 @@ pub enum Test {
     SearchGoesOn,
 }
 
-/// One of the few kinds of move that instructions are made of (docs/INSTRUCTIONS.md, "Effects").
+/// One of the few kinds of move that instructions are made of (docs/INSTRUCTIONS.md, "Moves").
 #[derive(Clone, Copy)]
 pub enum Move {
     /// Sets a byte to a constant, 0 to 255.

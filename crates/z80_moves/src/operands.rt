@@ -5,7 +5,7 @@ ghost use Rattle.z80_moves.specs.Operands.{byte_register, word_register, stack_r
 
 use crate::registers::{ByteRegister, WordRegister};
 use z80_decode::{
-    Condition, Direct, Index, IndexPair, Pair, Place, Pointer, Register8, Register16,
+    Condition, Direct, Index, IndexPair, OperandPair, Place, Pointer, Register8, Register16,
     ShortCondition, StackPair,
 };
 
@@ -50,14 +50,14 @@ pub(crate) fn stack_register(pair: StackPair) -> WordRegister
     }
 }
 
-pub(crate) fn pair_register(pair: Pair) -> WordRegister
+pub(crate) fn pair_register(pair: OperandPair) -> WordRegister
     ensures { result ≡ pair_register pair }
 {
     match pair {
-        Pair::Bc => WordRegister::Bc,
-        Pair::De => WordRegister::De,
-        Pair::Hl => WordRegister::Hl,
-        Pair::Sp => WordRegister::Sp,
+        OperandPair::Bc => WordRegister::Bc,
+        OperandPair::De => WordRegister::De,
+        OperandPair::Hl => WordRegister::Hl,
+        OperandPair::Sp => WordRegister::Sp,
     }
 }
 

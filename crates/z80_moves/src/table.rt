@@ -22,7 +22,7 @@ use crate::registers::WordRegister;
 use z80_decode::{Instr, Memory, Place};
 
 /// What an instruction does, move by move, once the program counter stands behind it: the table in
-/// docs/INSTRUCTIONS.md, section "Effects". Instructions of input and output have no moves.
+/// docs/INSTRUCTIONS.md, section "Moves". Instructions of input and output have no moves.
 pub fn moves_for(instr: &Instr) -> Moves
     ensures { result ≡ moves_of instr.now }
 {

@@ -1,8 +1,9 @@
 // The decoder against UM0080: each table was written from the manual's list of codes, not from the code.
 use z80_decode::{
     AccumulatorRotate, Address, ArithmeticKind, Bit, BlockKind, Condition, DecodeFault, Direct,
-    Index, IndexPair, Instr, Memory, Mode, Operand, Pair, Place, Pointer, Register8, Register16,
-    RestartAddress, ShiftKind, ShortCondition, Special, StackPair, decode, one_spelling,
+    Index, IndexPair, Instr, MaskableMode, Memory, Operand, OperandPair, Place, Pointer, Register8,
+    Register16, RestartAddress, ShiftKind, ShortCondition, Special, StackPair, decode,
+    one_spelling,
 };
 
 /// How many bytes the instruction takes behind each first byte, with zeros after it, sixteen codes
@@ -282,8 +283,18 @@ fn decodes_arithmetic(rt: HostRuntime) {
             ))
         )
     );
-    assert!(rt; matches!(decode(&[0xED, 0x5A]), Ok((Instr::AdcHl(Pair::De), 2))));
-    assert!(rt; matches!(decode(&[0xED, 0x42]), Ok((Instr::SbcHl(Pair::Bc), 2))));
+    assert!(rt;
+        matches!(
+            decode(&[0xED, 0x5A]),
+            Ok((Instr::AdcHl(OperandPair::De), 2))
+        )
+    );
+    assert!(rt;
+        matches!(
+            decode(&[0xED, 0x42]),
+            Ok((Instr::SbcHl(OperandPair::Bc), 2))
+        )
+    );
     assert!(rt;
         matches!(
             decode(&[0xFD, 0x29]),
@@ -369,7 +380,7 @@ fn decodes_control_and_ports(rt: HostRuntime) {
     assert!(rt;
         matches!(
             decode(&[0xED, 0x5E]),
-            Ok((Instr::InterruptMode(Mode::Two), 2))
+            Ok((Instr::InterruptMode(MaskableMode::Two), 2))
         )
     );
     assert!(rt;

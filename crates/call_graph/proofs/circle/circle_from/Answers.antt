@@ -1,7 +1,7 @@
-use Rattle.std.proofs.Common.{refl, ◌≡◌, ℕ, ◌+◌, ◌<◌, ◌++◌, ◌∷◌, [], length, arith, ap, reverse, ◌∙◌, length-append}
+use Rattle.std.proofs.Common.{refl, suc, sym, add-one, ◌≡◌, ℕ, ◌+◌, ◌<◌, ◌++◌, ◌∷◌, [], length, arith, ap, reverse, ◌∙◌, length-append}
 use Rattle.std.proofs.lemmas.Grind.{common_steps}
-use Rattle.std.proofs.lemmas.List.{reverse-append, length-reverse}
-use Rattle.call_graph.specs.Circle.{step_from, step_far, step_proc}
+use Rattle.std.proofs.lemmas.List.{append_assoc, reverse-append, length-reverse}
+use Rattle.call_graph.specs.Circle.{path_to, step_from, step_far, step_proc}
 use Rattle.call_graph.proofs.CircleLemmas.{Trail, trail_cycle}
 use Rattle.call_graph.proofs.circle.circle_from.Goals as goal
 
@@ -22,6 +22,11 @@ loop-place-preserved c =
       long = λ calls start traced.
           let old : length list + step_far steps place ≡ step_far steps c.args.at = c.loop-place.invariant.long calls start traced in
           let far : step_far steps place ≡ step_far steps (step_from steps place) + 1 = traced.farther place some here in omega arith;
+      path = λ calls start traced.
+          let far : step_far steps place ≡ suc (step_far steps (step_from steps place)) = traced.farther place some here ∙ add-one (step_far steps (step_from steps place)) in
+          let old : path_to steps (step_far steps place) place ++ reverse list ≡ path_to steps (step_far steps c.args.at) c.args.at = c.loop-place.invariant.path calls start traced in
+          rw turned (sym (append_assoc (path_to steps (step_far steps (step_from steps place)) (step_from steps place)) (step_proc steps place ∷ []) (reverse list))
+          ∙ ap (λ n. path_to steps n place ++ reverse list) (sym far) ∙ old);
     }
 
 pub returns : goal.returns
@@ -39,4 +44,7 @@ returns c = λ calls start traced call.
     let near : step_far steps 0 ≡ 0 = traced.near in
     let far : length list + step_far steps 0 ≡ step_far steps c.args.at = rw first at (c.loop-place.invariant.long calls start traced) in
     let long : length (reverse list) ≡ length list = length-reverse list in
-    rw items (trail_cycle calls start (reverse list) (step_proc steps c.args.at) trail call, refl, omega arith)
+    let none : step_far steps c.loop-place.place ≡ 0 = ap (step_far steps) first ∙ near in
+    let path : reverse list ≡ path_to steps (step_far steps c.args.at) c.args.at =
+    ap (λ n. path_to steps n c.loop-place.place ++ reverse list) (sym none) ∙ c.loop-place.invariant.path calls start traced in
+    rw items (trail_cycle calls start (reverse list) (step_proc steps c.args.at) trail call, refl, omega arith, ap (λ xs. start ∷ xs) path)

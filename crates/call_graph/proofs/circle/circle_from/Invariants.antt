@@ -1,5 +1,5 @@
-use Rattle.std.proofs.Common.{◌≡◌, ℕ, ◌+◌, ◌<◌, List, length, reverse}
-use Rattle.call_graph.specs.Circle.{Traced, step_proc, step_far}
+use Rattle.std.proofs.Common.{◌≡◌, ℕ, ◌+◌, ◌<◌, ◌++◌, List, length, reverse}
+use Rattle.call_graph.specs.Circle.{Traced, path_to, step_proc, step_far}
 use Rattle.call_graph.specs.declared.edge.Edge.{Edge}
 use Rattle.call_graph.proofs.CircleLemmas.{Trail}
 use Rattle.call_graph.proofs.circle.circle_from.Given as goal
@@ -9,6 +9,7 @@ invariant-loop-place l = record {
   inside : l.place < length l.steps;
   trail : (calls : List Edge) (start : ℕ) → Traced calls start l.steps → Trail calls (step_proc l.steps l.place) (reverse l.list.items) (step_proc l.steps l.at);
   long : (calls : List Edge) (start : ℕ) → Traced calls start l.steps → length l.list.items + step_far l.steps l.place ≡ step_far l.steps l.at;
+  path : (calls : List Edge) (start : ℕ) → Traced calls start l.steps → path_to l.steps (step_far l.steps l.place) l.place ++ reverse l.list.items ≡ path_to l.steps (step_far l.steps l.at) l.at;
 }
 
 abbrev pub decreases-loop-place : goal.decreases-loop-place

@@ -6,7 +6,7 @@ circle_fault-requires-clause-lowest c =
     let w = c.in-Ok.walk in
     let g = c.in-Ok.ensures in
     let z = c.in-Some.ensures.some in
-    lowest_start c.args.calls.now w.marks.items w.met.items w.path.items w.order.items c.in-Some.start z.0 g.holds.kept g.empty g.seen c.requires z.1 z.2 z.3 z.4
+    lowest_start c.args.calls.now w.marks.items w.met.items w.path.items w.order.items c.in-Some.start z.0 g.holds.kept g.empty g.seen c.requires.by_caller z.1 z.2 z.3 z.4
 
 pub returns-in-None-clause-order : goal.returns-in-None-clause-order
 returns-in-None-clause-order c =

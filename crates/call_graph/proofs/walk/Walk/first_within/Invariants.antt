@@ -1,6 +1,6 @@
 use Rattle.std.proofs.Common.{ℕ, ◌<◌}
-use Rattle.call_graph.specs.Walk.{Within}
+use Rattle.call_graph.specs.Walk.{IsInGroup}
 use Rattle.call_graph.proofs.walk.Walk.first_within.Given as goal
 
 abbrev pub invariant-loop-edge : goal.invariant-loop-edge
-invariant-loop-edge l = (j : ℕ) → j < l.edge-index → Within l.calls l.self.marks.items j → ⊥
+invariant-loop-edge l = (j : ℕ) → j < l.edge-index → IsInGroup l.calls l.self.marks.items j → ⊥

@@ -1,7 +1,7 @@
 use Rattle.std.proofs.Common.{length, ◌+ℤ◌, ◌*ℤ◌, rules, ap, ◌∙◌, FitsSigned}
 use Rattle.std.specs.Int.{w32}
 use Rattle.std.proofs.lemmas.Int.{to_z-of_z}
-use Rattle.loop_bounds.specs.Linear.{Sum, padding, total}
+use Rattle.loop_bounds.specs.Linear.{Sum, total}
 use Rattle.loop_bounds.proofs.FormLemmas.{raised_form, raised_total, raised_weight, pushed_form, pushed_total}
 use Rattle.loop_bounds.proofs.form.Form.add.Goals as goal
 
@@ -10,7 +10,7 @@ invariant_of-self c =
     let fits : FitsSigned w32 c.args.term.coefficient = search rules in
     let is = simp to_z-of_z at c.raised-raised.ensures in
     let h = c.in-Some.ensures in
-    raised_form _ _ _ padding c.args.term _ c.self.invariant h.0 h.1 is
+    raised_form _ _ _ c.index-self-place.result c.args.term _ c.self.invariant h.0 h.1 is
 
 pub invariant_of-self-in-None : goal.invariant_of-self-in-None
 invariant_of-self-in-None c =
@@ -22,7 +22,7 @@ returns-in-Some-clause-total c = λ x.
     let fits : FitsSigned w32 c.args.term.coefficient = search rules in
     let is = simp to_z-of_z at c.raised-raised.ensures in
     let h = c.in-Some.ensures in
-    raised_total _ _ _ padding c.args.term _ c.self.invariant h.0 h.1 is x
+    raised_total _ _ _ c.index-self-place.result c.args.term _ c.self.invariant h.0 h.1 is x
     ∙ ap (λ (s : Sum). total x s.terms +ℤ c.args.term.coefficient *ℤ x c.args.term.variable) c.self.view_is
 
 pub returns-in-Some-clause-weight : goal.returns-in-Some-clause-weight
@@ -30,7 +30,7 @@ returns-in-Some-clause-weight c =
     let fits : FitsSigned w32 c.args.term.coefficient = search rules in
     let is = simp to_z-of_z at c.raised-raised.ensures in
     let h = c.in-Some.ensures in
-    let r = raised_weight _ _ _ padding c.args.term _ c.self.invariant h.0 h.1 is in
+    let r = raised_weight _ _ _ c.index-self-place.result c.args.term _ c.self.invariant h.0 h.1 is in
     rw (← c.self.view_is) r
 
 pub returns-in-None-clause-total : goal.returns-in-None-clause-total

@@ -1,9 +1,7 @@
-use Rattle.std.proofs.Common.{get_or, ◌≤◌, ◌*◌, unsigned_abs, rules, refl, arith, ap, FitsSigned, take, ◌<◌, ◌^◌}
+use Rattle.std.proofs.Common.{◌≤◌, ◌*◌, unsigned_abs, rules, refl, arith, ap, FitsSigned, take, ◌<◌, ◌^◌}
 use Rattle.std.specs.Int.{w128}
 use Rattle.loop_bounds.specs.Linear.{Sum}
 use Rattle.loop_bounds.specs.Form.{weight}
-use Rattle.std.proofs.lemmas.List.{get_or_default}
-use Rattle.loop_bounds.specs.Linear.{padding}
 use Rattle.loop_bounds.proofs.Boxes.{least_more, least_fits, whole_bound, whole_reached}
 use Rattle.loop_bounds.proofs.Signed.{fits_128, sum_fits, sum_kept}
 use Rattle.loop_bounds.proofs.form.Form.least.Goals as goal
@@ -11,8 +9,8 @@ use Rattle.loop_bounds.proofs.form.Form.least.Goals as goal
 pub overflow_add-least : goal.overflow_add-least
 overflow_add-least g c =
     let m = c.least_multiple-least in
-    let m_small : unsigned_abs m.result ≤ 65535 * unsigned_abs (get_or (take c.self.inside.count c.self.inside.terms) c.loop-term.term-index padding).coefficient = search rules in
-    let next = least_more _ _ _ _ (get_or (take c.self.inside.count c.self.inside.terms) c.loop-term.term-index padding) c.range.result _ m.result c.loop-term.invariant c.loop-term-test.true (get_or_default (take c.self.inside.count c.self.inside.terms) c.loop-term.term-index padding (get_or (take c.self.inside.count c.self.inside.terms) c.loop-term.term-index padding) c.loop-term-test.true) (search rules) (search rules) m_small in
+    let m_small : unsigned_abs m.result ≤ 65535 * unsigned_abs c.term-item.result.coefficient = search rules in
+    let next = least_more _ _ _ _ c.term-item.result c.range.result _ m.result c.loop-term.invariant c.loop-term-test.true c.term-item.is (search rules) (search rules) m_small m.ensures.order in
     let light : weight (take c.self.inside.count c.self.inside.terms) < 2 ^ 31 = rw (← c.self.view_is) at c.requires.light in
     let small = least_fits _ _ _ _ _ next c.requires.small light in
     let fits : FitsSigned w128 m.result = search rules in
@@ -21,8 +19,8 @@ overflow_add-least g c =
 pub loop-term-preserved : goal.loop-term-preserved
 loop-term-preserved g c =
     let m = c.least_multiple-least in
-    let m_small : unsigned_abs m.result ≤ 65535 * unsigned_abs (get_or (take c.self.inside.count c.self.inside.terms) c.loop-term.term-index padding).coefficient = search rules in
-    let next = least_more _ _ _ _ (get_or (take c.self.inside.count c.self.inside.terms) c.loop-term.term-index padding) c.range.result _ m.result c.loop-term.invariant c.loop-term-test.true (get_or_default (take c.self.inside.count c.self.inside.terms) c.loop-term.term-index padding (get_or (take c.self.inside.count c.self.inside.terms) c.loop-term.term-index padding) c.loop-term-test.true) (search rules) (search rules) m_small in
+    let m_small : unsigned_abs m.result ≤ 65535 * unsigned_abs c.term-item.result.coefficient = search rules in
+    let next = least_more _ _ _ _ c.term-item.result c.range.result _ m.result c.loop-term.invariant c.loop-term-test.true c.term-item.is (search rules) (search rules) m_small m.ensures.order in
     let light : weight (take c.self.inside.count c.self.inside.terms) < 2 ^ 31 = rw (← c.self.view_is) at c.requires.light in
     let small = least_fits _ _ _ _ _ next c.requires.small light in
     let fits : FitsSigned w128 m.result = search rules in

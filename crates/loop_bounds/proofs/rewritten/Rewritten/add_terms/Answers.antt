@@ -1,8 +1,6 @@
-use Rattle.std.proofs.Common.{get_or, ◌+◌, rules, arith, FitsSigned}
+use Rattle.std.proofs.Common.{◌+◌, rules, arith, FitsSigned}
 use Rattle.std.specs.Int.{w32}
 use Rattle.std.proofs.lemmas.Int.{to_z-of_z}
-use Rattle.std.proofs.lemmas.List.{get_or_default}
-use Rattle.loop_bounds.specs.Linear.{padding}
 use Rattle.loop_bounds.proofs.RewrittenLemmas.{room_wider, added_more}
 use Rattle.loop_bounds.proofs.rewritten.Rewritten.add_terms.Goals as goal
 
@@ -12,12 +10,12 @@ add-requires-clause-room c =
 
 pub loop-term-preserved : goal.loop-term-preserved
 loop-term-preserved c =
-    let fits : FitsSigned w32 (get_or c.args.terms.now c.loop-term.term-index padding).coefficient = search rules in
+    let fits : FitsSigned w32 c.term-item.result.coefficient = search rules in
     let small : FitsSigned w32 c.negated_if.result = search rules in
     let is = simp to_z-of_z at c.negated_if.ensures.value in
     let value = simp to_z-of_z at c.add.ensures.value in
     added_more c.args.self.now c.loop-term.self c.add.new.self c.args.effect.now c.args.negated c.args.terms.now c.loop-term.term-index
-    (get_or c.args.terms.now c.loop-term.term-index padding) c.negated_if.result c.change-change.result c.loop-term.invariant c.loop-term-test.true (get_or_default c.args.terms.now c.loop-term.term-index padding (get_or c.args.terms.now c.loop-term.term-index padding) c.loop-term-test.true) is (search rules)
+    c.term-item.result c.negated_if.result c.change-change.result c.loop-term.invariant c.loop-term-test.true c.term-item.is is (search rules)
     value c.add.ensures.room c.add.ensures.known
 
 pub returns-clause-room : goal.returns-clause-room

@@ -1,0 +1,67 @@
+// The program that bench/ times and compares: EVENTS of a mixed loop on the checked step, ORDERS of calls without a circle and
+// CIRCLES with one (each skipped where it is 0), and the steps that standard input tells, one a line.
+#![tactic(auto)]
+
+mod call_order;
+mod mixed_loop;
+mod vectors;
+
+use std::{env, io};
+
+/// The first three arguments: 0 where there is none.
+fn counts(rt: &HostRuntime) -> [u64; 3] {
+    let mut counts = [0; 3];
+    let Ok(words) = env::args(rt) else {
+        return counts;
+    };
+    let mut words = words.skip(1);
+    for count in &mut counts {
+        if let Some(word) = words.next() {
+            *count = word.as_str().parse().unwrap_or(0);
+        }
+    }
+    counts
+}
+
+fn main(rt: HostRuntime) -> io::Result<()> {
+    let [events, orders, circles] = counts(&rt);
+    if events > 0 {
+        let (traps, a, b) = mixed_loop::played(events);
+        println!(rt; "{traps} traps, A {a}, B {b}")?;
+    }
+    if orders > 0 {
+        print_order(&rt, orders)?;
+    }
+    if circles > 0 {
+        print_circle(&rt, circles)?;
+    }
+    compare_steps(&rt)
+}
+
+fn print_order(rt: &HostRuntime, times: u64) -> io::Result<()> {
+    let Ok(calls) = call_order::calls_down(rt.alloc(), call_order::CALLS) else {
+        return println!(rt; "out of memory");
+    };
+    let (procs, first, last) = call_order::answer(rt.alloc(), &calls, times);
+    println!(rt; "{} calls: {procs} procedures from {first} to {last}", calls.len())
+}
+
+fn print_circle(rt: &HostRuntime, times: u64) -> io::Result<()> {
+    let Ok(calls) = call_order::calls_with_circle(rt.alloc()) else {
+        return println!(rt; "out of memory");
+    };
+    let (procs, first, last) = call_order::answer(rt.alloc(), &calls, times);
+    println!(rt; "{} calls: a circle of {procs} from {first} to {last}", calls.len())
+}
+
+fn compare_steps(rt: &HostRuntime) -> io::Result<()> {
+    let mut right: u32 = 0;
+    for line in rt.lines(rt.alloc()) {
+        let line = line?;
+        match vectors::row_of(line.as_str()) {
+            (Some(row), _) if vectors::agrees(&row) => right = right.wrapping_add(1),
+            (_, name) => println!(rt; "not as it should be: {name}")?,
+        }
+    }
+    println!(rt; "{right} steps as they should be")
+}
