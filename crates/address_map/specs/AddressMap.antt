@@ -1,4 +1,4 @@
--- The address map as a value: its zones, its law, and the faults that a list of zones may have.
+-- Trusted: the address map as a value: its zones, its law, and the faults that a list of zones may have.
 use Rattle.std.specs.Prelude.{ℕ, ◌<◌, ◌≤◌, ◌≡◌, Bool, true, false, ◌&&◌, ◌==◌, nat_lt, List}
 use Rattle.std.specs.List.{count_by, list_all}
 use Rattle.address_map.specs.declared.fault.MapFault.{MapFault}

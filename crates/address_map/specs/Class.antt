@@ -1,4 +1,4 @@
--- What each address of a map reads and writes, and the cell of RAM that it is.
+-- Trusted: what each address of a map reads and writes, and the cell of RAM that it is.
 use Rattle.std.specs.Prelude.{ℕ, ◌%◌, Option, Some, None}
 use Rattle.address_map.specs.AddressMap.{AddressMap}
 use Rattle.address_map.specs.RamKind.{size_of}

@@ -1,3 +1,4 @@
+-- The definitions of address maps. The first line of each file says whether the word "safe" reaches it (Trusted) or not (Helper).
 pub mod AddressMap
 pub mod Boards
 pub mod Class

@@ -1,4 +1,4 @@
--- The table by the high bits of an address, from which `class` begins its search.
+-- Helper: the table by the high bits of an address, from which `class` begins its search.
 use Rattle.std.specs.Prelude.{ℕ, ◌<◌, ◌≡◌, List, slice_index}
 use Rattle.std.specs.List.{position_or_len}
 use Rattle.address_map.specs.Zone.{reaches}

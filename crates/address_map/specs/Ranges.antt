@@ -1,4 +1,4 @@
--- What is asked of the addresses of a range, each of which the statements speak of by itself.
+-- Helper: what is asked of the addresses of a range, each of which the statements speak of by itself.
 use Rattle.std.specs.Prelude.{ℕ, ◌<◌, ◌≤◌, ◌≡◌, ◌≢◌, ◌%◌, Some}
 use Rattle.address_map.specs.AddressMap.{AddressMap}
 use Rattle.address_map.specs.Class.{class_of, cell_of}

@@ -1,4 +1,4 @@
--- The tests by which `ranges` looks at what a zone and a range share.
+-- Helper: the tests by which `ranges` looks at what a zone and a range share.
 use Rattle.std.specs.Prelude.{ℕ, ◌+◌, ◌-◌, ◌%◌, Bool, true, false, ◌&&◌, nat_le, nat_lt, min, max}
 use Rattle.address_map.specs.Zone.{writes_rom, writes_work}
 use Rattle.address_map.specs.declared.zone.WriteUse.{WriteUse}

@@ -1,4 +1,4 @@
--- What one zone of an address map holds, and what its addresses read and write.
+-- Trusted: what one zone of an address map holds, and what its addresses read and write.
 use Rattle.std.specs.Prelude.{ℕ, ◌+◌, ◌%◌, ◌/◌, Bool, true, false, not, ◌&&◌, ◌||◌, nat_le, ◌==◌, if◌then◌else◌, List, [], ◌∷◌}
 use Rattle.address_map.specs.declared.cell.RamKind.{RamKind}
 use Rattle.address_map.specs.declared.cell.RamKind.TheVariants.{Work, Video, Object}

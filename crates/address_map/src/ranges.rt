@@ -2,7 +2,7 @@
 ghost use Rattle.std.specs.Prelude.{◌≡◌, ◌↔◌, ◌≤◌, ◌<◌, IsTrue, min, max};
 ghost use Rattle.std.specs.List.{list_any};
 ghost use Rattle.address_map.specs.Ranges.{AllData, SomeWrite, SomeAtCell, SomeInRegion};
-ghost use Rattle.address_map.specs.Shared.{share_cell, meets, rom_in, unmapped_in, enable_in, cell_in};
+ghost use Rattle.address_map.specs.Shared.{share_cell, rom_in, unmapped_in, enable_in, cell_in};
 
 use crate::cell::RamKind;
 use crate::map::{Map, WriteClass};
@@ -40,25 +40,18 @@ impl Zone {
         self.last.min(range.high())
     }
 
-    /// Whether the zone and a range share an address.
-    fn meets(&self, range: WordRange) -> bool
-        ensures { result ≡ meets range self.now }
-    {
-        self.low(range) <= self.high(range)
-    }
-
     /// Whether an address of the range is of this zone, and ROM for writing.
     fn has_rom(&self, range: WordRange) -> bool
         ensures { result ≡ rom_in range self.now }
     {
-        matches!(self.write, WriteUse::Rom) && self.meets(range)
+        matches!(self.write, WriteUse::Rom) && self.low(range) <= self.high(range)
     }
 
     /// Whether an address of the range is of this zone, and unmapped.
     fn has_unmapped(&self, range: WordRange) -> bool
         ensures { result ≡ unmapped_in range self.now }
     {
-        matches!(self.write, WriteUse::Open) && self.meets(range)
+        matches!(self.write, WriteUse::Open) && self.low(range) <= self.high(range)
     }
 
     /// Whether an address of the range is of this zone, and the NMI enable.

@@ -1,6 +1,6 @@
 // A zone of an address map: its addresses, and what they are for reading and for writing.
 ghost use Rattle.std.specs.Prelude.{◌≡◌, ◌<◌};
-ghost use Rattle.address_map.specs.Zone.{in_zone, reaches, class_in, write_class, upper_latch, one_ram, same_kind, names_work, fits_ram, names_rom, fits_rom, no_zone};
+ghost use Rattle.address_map.specs.Zone.{in_zone, reaches, class_in, write_class, upper_latch, names_work, fits_ram, names_rom, fits_rom, no_zone};
 
 use crate::cell::RamKind;
 use crate::map::{Class, ReadClass, WriteClass};
@@ -82,17 +82,6 @@ impl Zone {
         self.first / 0x100 <= page && page <= self.last / 0x100
     }
 
-    /// Whether the zone names one RAM for reading and for writing, or none for either.
-    fn has_one_ram(&self) -> bool
-        ensures { result ≡ one_ram self.now.read self.now.write }
-    {
-        match (self.read, self.write) {
-            (ReadClass::Ram(read), WriteUse::Ram(written)) => read.is(written),
-            (ReadClass::Ram(_), _) | (_, WriteUse::Ram(_)) => false,
-            _ => true,
-        }
-    }
-
     /// Whether the zone names work RAM.
     pub(crate) fn names_work(&self) -> bool
         ensures { result ≡ names_work self.now }
@@ -105,7 +94,12 @@ impl Zone {
     pub(crate) fn fits_ram(&self) -> bool
         ensures { result ≡ fits_ram self.now }
     {
-        self.has_one_ram()
+        let is_one_ram = match (self.read, self.write) {
+            (ReadClass::Ram(read), WriteUse::Ram(written)) => read.is(written),
+            (ReadClass::Ram(_), _) | (_, WriteUse::Ram(_)) => false,
+            _ => true,
+        };
+        is_one_ram
             && (!self.names_work()
                 || (self.first % 0x400 == 0
                     && u32::from(self.first) + 0x400 <= u32::from(self.last) + 1))

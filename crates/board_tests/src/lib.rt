@@ -1,5 +1,11 @@
-// Tests of the address maps, by rows worked by hand.
+// The tests of the board: its address maps, and its machine, by rows worked by hand.
 #![tactic(auto)]
 
 #[cfg(test)]
+mod acceptance;
+#[cfg(test)]
+mod machine;
+#[cfg(test)]
 mod maps;
+#[cfg(test)]
+mod rows;

@@ -9,11 +9,11 @@ mod operations;
 mod performing;
 
 use crate::access::{StackAccess, Write};
-use z80_moves::{ByteRegister, WordRegister};
 use arrayvec::ArrayVec;
 pub use memory::displace;
 use std::marker::Model;
 use z80_alu::{Flags, Regs};
+use z80_moves::{ByteRegister, WordRegister};
 
 /// What an event has done so far, before anything of it reaches the board.
 #[derive(Drop)]

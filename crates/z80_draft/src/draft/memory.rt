@@ -6,8 +6,8 @@ ghost use Rattle.z80_draft.specs.Draft.{displaced, read_byte, read_word, word_re
 use crate::access::{StackAccess, Write};
 use crate::bus::Bus;
 use crate::draft::Draft;
-use z80_moves::{ByteRegister, WordRegister};
 use z80_alu::Word;
+use z80_moves::{ByteRegister, WordRegister};
 
 impl Draft {
     pub(crate) fn read_byte<B: Bus>(&mut self, bus: &B, register: ByteRegister, at: u16)

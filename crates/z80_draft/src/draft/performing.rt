@@ -7,8 +7,8 @@ ghost use Rattle.z80_draft.specs.Room.{writes_by, accesses_by, writes_in, access
 use crate::bus::Bus;
 use crate::draft::Draft;
 use crate::draft::memory::displace;
-use z80_moves::{Move, Moves};
 use z80_alu::{ccf, dec16, inc16, scf};
+use z80_moves::{Move, Moves};
 
 impl Draft {
     /// The moves, one after another, where there is room for their accesses.

@@ -1,0 +1,338 @@
+// Steps whose answers come from the manual by hand. Those of another program are in crates/step_vectors.
+
+ghost use Rattle.std.specs.Prelude.{◌≡◌, ◌<◌, length};
+ghost use Rattle.t_states.specs.Frame.{frame};
+
+use crate::rows::{BEFORE, BY_HAND, TRAPS};
+use address_map::{Map, RamKind, Region, Rom, Starts};
+use board_step::{Board, Costs, Env, Event, Inputs, Kind, Known, Profile, Reset, Trap, fetch};
+use t_states::cost;
+use z80_alu::{RegisterSet, Regs};
+
+// Each number of it is another, where a step can tell: an open read gives AA first and then BB, and R is 5C.
+fn environment() -> Env {
+    let first = Inputs {
+        in0: 0x10,
+        in1: 0x11,
+        in2: 0x92,
+        bus: 0xAA,
+    };
+    let second = Inputs {
+        in0: 0x20,
+        in1: 0x21,
+        in2: 0xA2,
+        bus: 0xBB,
+    };
+    Env {
+        inputs: [first, second],
+        noise: 0,
+        r: 0x5C,
+        latch: false,
+    }
+}
+
+fn set_of(af: u16, bc: u16, de: u16, hl: u16) -> RegisterSet {
+    let mut set = RegisterSet::default();
+    set.set_af(af);
+    set.set_bc(bc);
+    set.set_de(de);
+    set.set_hl(hl);
+    set
+}
+
+// AF BC DE HL IX IY SP AF' BC' DE' HL'
+fn regs_of(words: &[u16; 11]) -> Regs {
+    let [
+        af,
+        bc,
+        de,
+        hl,
+        ix,
+        iy,
+        sp,
+        other_af,
+        other_bc,
+        other_de,
+        other_hl,
+    ] = *words;
+    Regs {
+        main: set_of(af, bc, de, hl),
+        alternate: set_of(other_af, other_bc, other_de, other_hl),
+        ix,
+        iy,
+        sp,
+        ..Regs::default()
+    }
+}
+
+// The same, and I with IFF1 and IFF2 as bits 1 and 0.
+fn words_of(regs: &Regs) -> [u16; 12] {
+    let latches = u16::from(regs.iff1) * 2 + u16::from(regs.iff2);
+    [
+        regs.main.af(),
+        regs.main.bc(),
+        regs.main.de(),
+        regs.main.hl(),
+        regs.ix,
+        regs.iy,
+        regs.sp,
+        regs.alternate.af(),
+        regs.alternate.bc(),
+        regs.alternate.de(),
+        regs.alternate.hl(),
+        u16::from(regs.i) * 256 + latches,
+    ]
+}
+
+// Cell i of work RAM holds 7i + 3, cell i of video RAM 5i + 1, modulo 256, and object RAM 0.
+fn board_with(regs: Regs, phase: u32) -> Board
+    requires { phase < frame }
+{
+    let mut work = [0; 0x400];
+    let mut video = [0; 0x400];
+    for (i, cell) in work.iter_mut().enumerate() {
+        *cell = ((i * 7 + 3) % 256) as u8;
+    }
+    for (i, cell) in video.iter_mut().enumerate() {
+        *cell = ((i * 5 + 1) % 256) as u8;
+    }
+    Board::reset(&Reset {
+        work,
+        video,
+        object: [0; 0x100],
+        regs,
+        phase,
+    })
+}
+
+fn all_starts() -> Starts {
+    let mut starts = Starts::new();
+    for at in 0..0x4000 {
+        starts.insert(at);
+    }
+    starts
+}
+
+// The Galaxian board's map for a ROM.
+#[tactic(auto, unfolding(address_map::specs::Boards::galaxian))]
+pub(crate) fn map_for(rom: &Rom) -> Map
+    ensures { result.rom_len ≡ length rom.now }
+{
+    Map::galaxian(rom.len())
+}
+
+// Steps with the stack in 4380 to 43FF, and each address a start: the T-states, or the trap.
+fn stepped(board: &mut Board, rom: &[u8], steps: u32, env: &Env) -> Result<u32, Trap> {
+    let mut time: u32 = 0;
+    if let Some(rom) = Rom::of(rom) {
+        let map = map_for(&rom);
+        let starts = all_starts();
+        let profile = Profile {
+            map: &map,
+            starts: &starts,
+            region: Region {
+                low: 0x4380,
+                top: 0x4400,
+            },
+        };
+        for _ in 0..steps {
+            let event = board.step_checked(&rom, &profile, env)?;
+            time = time.wrapping_add(u32::from(event.t));
+        }
+    }
+    Ok(time)
+}
+
+// BEFORE with these changes.
+fn with(changes: &[(usize, u16)]) -> [u16; 12] {
+    let mut words = words_of(&regs_of(&BEFORE));
+    for (place, word) in changes {
+        if let Some(register) = words.get_mut(*place) {
+            *register = *word;
+        }
+    }
+    words
+}
+
+// Whether work RAM has these bytes.
+fn has(board: &Board, cells: &[(u16, u8)]) -> bool {
+    for (index, byte) in cells {
+        if board.ram(RamKind::Work).get(usize::from(*index)) != Some(byte) {
+            return false;
+        }
+    }
+    true
+}
+
+#[test]
+fn agrees_with_the_manual(rt: HostRuntime) {
+    for (rom, steps, changes, pc, t, cells) in BY_HAND {
+        let mut board = board_with(regs_of(&BEFORE), 0);
+        let time = stepped(&mut board, rom, steps, &environment());
+        assert_eq!(rt; time, Ok(t), "time of {rom:?}");
+        assert_eq!(rt;
+            words_of(&board.regs()),
+            with(changes),
+            "registers of {rom:?}"
+        );
+        assert_eq!(rt; board.regs().pc, pc, "program counter of {rom:?}");
+        assert!(rt; has(&board, cells), "bytes of {rom:?}");
+    }
+}
+
+#[test]
+fn traps_by_the_table(rt: HostRuntime) {
+    for (rom, steps, trap) in TRAPS {
+        let mut board = board_with(regs_of(&BEFORE), 0);
+        let before = stepped(&mut board, rom, steps.saturating_sub(1), &environment());
+        assert!(rt; before.is_ok(), "before the trap of {rom:?}");
+        let words = words_of(&board.regs());
+        let found = stepped(&mut board, rom, 1, &environment()).err();
+        assert_eq!(rt; found, trap, "trap of {rom:?}");
+        assert!(rt;
+            trap.is_none() || words_of(&board.regs()) == words,
+            "unchanged by {rom:?}"
+        );
+    }
+}
+
+fn filled(byte: u8, phase: u32) -> Board
+    requires { phase < frame }
+{
+    let word = u16::from(byte) * 257;
+    Board::reset(&Reset {
+        work: [byte; 0x400],
+        video: [byte; 0x400],
+        object: [byte; 0x100],
+        regs: regs_of(&[word; 11]),
+        phase,
+    })
+}
+
+fn sum(bytes: &[u8]) -> u32 {
+    let mut sum: u32 = 0;
+    for byte in bytes {
+        sum = sum.wrapping_add(u32::from(*byte));
+    }
+    sum
+}
+
+// LD SP,4400; LD HL,4000; LD DE,4001; LD BC,03FF; LD (HL),0; LDIR; JR to itself.
+const FILL: [u8; 18] = [
+    0x31, 0x00, 0x44, 0x21, 0x00, 0x40, 0x11, 0x01, 0x40, 0x01, 0xFF, 0x03, 0x36, 0x00, 0xED, 0xB0,
+    0x18, 0xFE,
+];
+
+#[test]
+fn fills_work_ram(rt: HostRuntime) {
+    let mut board = filled(0xFF, 0);
+    let time = stepped(&mut board, &FILL, 1028, &environment());
+    assert_eq!(rt; time, Ok(21_528));
+    let want = [
+        0xFFC1, 0x0000, 0x4400, 0x43FF, 0xFFFF, 0xFFFF, 0x4400, 0xFFFF, 0xFFFF, 0xFFFF, 0xFFFF, 0,
+    ];
+    assert_eq!(rt; words_of(&board.regs()), want);
+    assert_eq!(rt; board.regs().pc, 0x0010);
+    let sums = [RamKind::Work, RamKind::Video, RamKind::Object].map(|ram| sum(board.ram(ram)));
+    assert_eq!(rt; sums, [0, 261_120, 65_280]);
+}
+
+// LD SP,4400; LD A,1; LD (7001),A; XOR A; LD (7001),A; JR to itself; at 0066 RETN. The blank comes while the enable is
+// cleared.
+fn enabling() -> [u8; 0x68] {
+    let mut rom = [0; 0x68];
+    let main = [
+        0x31, 0x00, 0x44, 0x3E, 0x01, 0x32, 0x01, 0x70, 0xAF, 0x32, 0x01, 0x70, 0x18, 0xFE,
+    ];
+    for (place, byte) in rom.iter_mut().zip(main) {
+        *place = byte;
+    }
+    rom[0x66] = 0xED;
+    rom[0x67] = 0x45;
+    rom
+}
+
+#[test]
+fn latches_an_nmi_as_the_environment_says(rt: HostRuntime) {
+    for (latch, time, bytes) in [(true, 72, 12), (false, 71, 0)] {
+        let mut board = filled(0, 50_650);
+        let env = Env {
+            latch,
+            ..environment()
+        };
+        assert_eq!(rt;
+            stepped(&mut board, &enabling(), 7, &env),
+            Ok(time),
+            "time with {latch}"
+        );
+        assert_eq!(rt; board.regs().pc, 0x000C, "program counter with {latch}");
+        assert_eq!(rt; board.regs().sp, 0x4400, "stack pointer with {latch}");
+        assert_eq!(rt; board.regs().main.af(), 0x0044, "A and F with {latch}");
+        assert_eq!(rt; sum(board.ram(RamKind::Work)), bytes, "bytes with {latch}");
+    }
+}
+
+// LD HL,0100; LD (7000),HL; JR to itself: the second byte of the word enables, as the NMI shows that the blank in the
+// third event latches. LD HL,0001 in its place writes the 1 at 7000, which enables nothing.
+#[test]
+fn the_second_byte_of_a_word_enables(rt: HostRuntime) {
+    let programs = [
+        (
+            [0x21, 0x00, 0x01, 0x22, 0x00, 0x70, 0x18, 0xFE],
+            Kind::Accept,
+        ),
+        (
+            [0x21, 0x01, 0x00, 0x22, 0x00, 0x70, 0x18, 0xFE],
+            Kind::Instr,
+        ),
+    ];
+    for (rom, kind) in programs {
+        // The events take 10, 16 and 12 T-states.
+        let mut board = filled(0, 50_688 - 30);
+        let time = stepped(&mut board, &rom, 2, &environment());
+        assert_eq!(rt; time, Ok(26));
+        assert!(rt; board.kind() == Kind::Instr);
+        let time = stepped(&mut board, &rom, 1, &environment());
+        assert_eq!(rt; time, Ok(12));
+        assert!(rt; board.kind() == kind);
+    }
+}
+
+// The next event by what is known of it, where that can be found out.
+fn step_by_known(board: &mut Board, rom: &Rom, map: &Map, env: &Env) -> Option<Event>
+    requires { map.now.rom_len ≡ length rom.now }
+{
+    match board.kind() {
+        Kind::Accept | Kind::Idle => Some(board.step_known(rom, map, None, env)),
+        Kind::Instr => {
+            let (instr, len) = fetch(rom, board.regs().pc).ok()?;
+            let costs = Costs {
+                taken: cost(&instr, true),
+                not_taken: cost(&instr, false),
+            };
+            let known = Known { instr, len, costs };
+            Some(board.step_known(rom, map, Some(known), env))
+        }
+    }
+}
+
+#[test]
+fn known_steps_are_the_checked_ones(rt: HostRuntime) {
+    let bytes = enabling();
+    if let Some(rom) = Rom::of(&bytes) {
+        let map = map_for(&rom);
+        let mut board = filled(0, 50_650);
+        let env = Env {
+            latch: true,
+            ..environment()
+        };
+        let mut time: u32 = 0;
+        for _ in 0..7 {
+            let t = step_by_known(&mut board, &rom, &map, &env).map_or(0, |event| event.t);
+            time = time.wrapping_add(u32::from(t));
+        }
+        assert_eq!(rt; time, 72);
+        assert_eq!(rt; board.regs().pc, 0x000C);
+        assert_eq!(rt; sum(board.ram(RamKind::Work)), 12);
+    }
+}

@@ -1,0 +1,232 @@
+// The rows of `machine`: what the manual says, by hand.
+
+use board_step::Trap;
+
+/// AF BC DE HL IX IY SP AF' BC' DE' HL' before each program.
+pub(crate) const BEFORE: [u16; 11] = [
+    0x1234, 0x0102, 0x0304, 0x4010, 0x4100, 0x4200, 0x43F0, 0x5678, 0x1112, 0x1314, 0x1516,
+];
+
+/// The program, its steps; what differs from BEFORE after them, by its place in words_of; the program counter, the
+/// T-states, and bytes of work RAM.
+pub(crate) type Row = (
+    &'static [u8],
+    u32,
+    &'static [(usize, u16)],
+    u16,
+    u32,
+    &'static [(u16, u8)],
+);
+
+pub(crate) static BY_HAND: [Row; 32] = [
+    // EX (SP),HL
+    (
+        &[0xE3],
+        1,
+        &[(3, 0x9A93)],
+        1,
+        19,
+        &[(0x3F0, 0x10), (0x3F1, 0x40)],
+    ),
+    // EX DE,HL
+    (&[0xEB], 1, &[(2, 0x4010), (3, 0x0304)], 1, 4, &[]),
+    // EXX twice, with LD BC,7777 between
+    (
+        &[0xD9, 0x01, 0x77, 0x77, 0xD9],
+        3,
+        &[(8, 0x7777)],
+        5,
+        18,
+        &[],
+    ),
+    // EX AF,AF'
+    (&[0x08], 1, &[(0, 0x5678), (7, 0x1234)], 1, 4, &[]),
+    // PUSH AF; POP IX
+    (
+        &[0xF5, 0xDD, 0xE1],
+        2,
+        &[(4, 0x1234)],
+        3,
+        25,
+        &[(0x3EF, 0x12), (0x3EE, 0x34)],
+    ),
+    // PUSH IX; POP AF
+    (
+        &[0xDD, 0xE5, 0xF1],
+        2,
+        &[(0, 0x4100)],
+        3,
+        25,
+        &[(0x3EF, 0x41), (0x3EE, 0x00)],
+    ),
+    // CALL 0005; RET
+    (
+        &[0xCD, 0x05, 0x00, 0x00, 0x00, 0xC9],
+        2,
+        &[],
+        3,
+        27,
+        &[(0x3EF, 0x00), (0x3EE, 0x03)],
+    ),
+    // RST 08
+    (
+        &[0xCF],
+        1,
+        &[(6, 0x43EE)],
+        8,
+        11,
+        &[(0x3EF, 0x00), (0x3EE, 0x01)],
+    ),
+    // EI; RETN
+    (
+        &[0xFB, 0xED, 0x45],
+        2,
+        &[(6, 0x43F2), (11, 0x0003)],
+        0x9A93,
+        18,
+        &[],
+    ),
+    // DI; RETN
+    (&[0xF3, 0xED, 0x45], 2, &[(6, 0x43F2)], 0x9A93, 18, &[]),
+    // EI; DI
+    (&[0xFB, 0xF3], 2, &[], 2, 8, &[]),
+    // SCF; SBC HL,HL
+    (
+        &[0x37, 0xED, 0x62],
+        2,
+        &[(0, 0x1293), (3, 0xFFFF)],
+        3,
+        19,
+        &[],
+    ),
+    // RLD of 73
+    (&[0xED, 0x6F], 1, &[(0, 0x1704)], 2, 18, &[(0x010, 0x32)]),
+    // LD A,73; CPIR finds it
+    (
+        &[0x3E, 0x73, 0xED, 0xB1],
+        2,
+        &[(0, 0x7346), (1, 0x0101), (3, 0x4011)],
+        4,
+        23,
+        &[],
+    ),
+    // CPIR does not, and goes on
+    (
+        &[0xED, 0xB1],
+        1,
+        &[(0, 0x1296), (1, 0x0101), (3, 0x4011)],
+        0,
+        21,
+        &[],
+    ),
+    // LD BC,1; CPIR does not, and ends
+    (
+        &[0x01, 0x01, 0x00, 0xED, 0xB1],
+        2,
+        &[(0, 0x1292), (1, 0x0000), (3, 0x4011)],
+        5,
+        26,
+        &[],
+    ),
+    // LD (4100),SP
+    (
+        &[0xED, 0x73, 0x00, 0x41],
+        1,
+        &[],
+        4,
+        20,
+        &[(0x100, 0xF0), (0x101, 0x43)],
+    ),
+    // LD A,(7800)
+    (&[0x3A, 0x00, 0x78], 1, &[(0, 0xAA34)], 3, 13, &[]),
+    // LD A,(6000); LD A,(6800); LD A,(7000): each is the first read of its event
+    (&[0x3A, 0x00, 0x60], 1, &[(0, 0x1034)], 3, 13, &[]),
+    (&[0x3A, 0xFF, 0x6F], 1, &[(0, 0x1134)], 3, 13, &[]),
+    (&[0x3A, 0x01, 0x70], 1, &[(0, 0x9234)], 3, 13, &[]),
+    // LD (7801),A: the pitch keeps nothing
+    (&[0x32, 0x01, 0x78], 1, &[], 3, 13, &[]),
+    // LD HL,(FFFF): the open byte at FFFF, and the ROM's first byte
+    (&[0x2A, 0xFF, 0xFF], 1, &[(3, 0x2AAA)], 3, 16, &[]),
+    // LD HL,(8000): two open bytes
+    (&[0x2A, 0x00, 0x80], 1, &[(3, 0xBBAA)], 3, 16, &[]),
+    // LD HL,(67FF): IN0 and then IN1
+    (&[0x2A, 0xFF, 0x67], 1, &[(3, 0x2110)], 3, 16, &[]),
+    // LD B,0; DJNZ back to itself
+    (&[0x06, 0x00, 0x10, 0xFE], 2, &[(1, 0xFF02)], 2, 20, &[]),
+    // LD BC,2; LD D,41; LDIR, one turn
+    (
+        &[0x01, 0x02, 0x00, 0x16, 0x41, 0xED, 0xB0],
+        3,
+        &[(0, 0x1204), (1, 0x0001), (2, 0x4105), (3, 0x4011)],
+        5,
+        38,
+        &[(0x104, 0x73), (0x105, 0x26)],
+    ),
+    // and the second
+    (
+        &[0x01, 0x02, 0x00, 0x16, 0x41, 0xED, 0xB0],
+        4,
+        &[(0, 0x1200), (1, 0x0000), (2, 0x4106), (3, 0x4012)],
+        7,
+        54,
+        &[(0x104, 0x73), (0x105, 0x7A)],
+    ),
+    // HALT, and two turns of it
+    (&[0x76], 3, &[], 1, 12, &[]),
+    // LD R,A; LD A,R
+    (&[0xED, 0x4F, 0xED, 0x5F], 2, &[(0, 0x5C00)], 4, 18, &[]),
+    // LD I,A; LD A,0; LD A,I
+    (
+        &[0xED, 0x47, 0x3E, 0x00, 0xED, 0x57],
+        3,
+        &[(0, 0x1200), (11, 0x1200)],
+        6,
+        25,
+        &[],
+    ),
+    // LD (4400),HL: a copy of work RAM
+    (
+        &[0x22, 0x00, 0x44],
+        1,
+        &[],
+        3,
+        16,
+        &[(0x000, 0x10), (0x001, 0x40)],
+    ),
+];
+
+/// A program, its steps, and the trap at the last of them.
+pub(crate) type TrapRow = (&'static [u8], u32, Option<Trap>);
+
+// The stack may use 4380 to 43FF, and the ROM ends behind the program.
+pub(crate) static TRAPS: [TrapRow; 19] = [
+    // no byte, and one byte of LD A,n
+    (&[0x00], 2, Some(Trap::FetchOutside)),
+    (&[0x3E], 1, Some(Trap::FetchOutside)),
+    // SLL B
+    (&[0xCB, 0x30], 1, Some(Trap::Undocumented)),
+    // LD (0000),A; LD (3FFF),A; LD (8000),A
+    (&[0x32, 0x00, 0x00], 1, Some(Trap::WriteRom)),
+    (&[0x32, 0xFF, 0x3F], 1, Some(Trap::WriteUnmapped)),
+    (&[0x32, 0x00, 0x80], 1, Some(Trap::WriteUnmapped)),
+    // LD (3FFF),HL; LD (47FF),HL; LD (FFFF),HL: one byte of two; the lowest trap is told
+    (&[0x22, 0xFF, 0x3F], 1, Some(Trap::WriteUnmapped)),
+    (&[0x22, 0xFF, 0x47], 1, Some(Trap::WriteUnmapped)),
+    (&[0x22, 0xFF, 0xFF], 1, Some(Trap::WriteRom)),
+    // LD SP,43FF; POP BC, and EX (SP),HL: the second byte
+    (&[0x31, 0xFF, 0x43, 0xC1], 2, Some(Trap::StackOutside)),
+    (&[0x31, 0xFF, 0x43, 0xE3], 2, Some(Trap::StackOutside)),
+    // LD SP,4381; PUSH BC, and RST 08: the second byte
+    (&[0x31, 0x81, 0x43, 0xC5], 2, Some(Trap::StackOutside)),
+    (&[0x31, 0x81, 0x43, 0xCF], 2, Some(Trap::StackOutside)),
+    // LD SP,0000; PUSH BC: a push into an unmapped zone is no data write
+    (&[0x31, 0x00, 0x00, 0xC5], 2, Some(Trap::StackOutside)),
+    // LD SP,4400; RET; and RET Z, which is not taken
+    (&[0x31, 0x00, 0x44, 0xC9], 2, Some(Trap::StackOutside)),
+    (&[0x31, 0x00, 0x44, 0xC8], 2, None),
+    // OUT (00),A; LD HL,0000; INI, which would write to the ROM
+    (&[0xD3, 0x00], 1, Some(Trap::IoSpace)),
+    (&[0x21, 0x00, 0x00, 0xED, 0xA2], 2, Some(Trap::IoSpace)),
+    // CALL 0000 with room
+    (&[0xCD, 0x00, 0x00], 1, None),
+];
