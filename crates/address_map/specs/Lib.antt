@@ -1,3 +1,9 @@
+pub mod AddressMap
+pub mod Boards
 pub mod Class
+pub mod Pages
 pub mod RamKind
+pub mod Ranges
+pub mod Shared
 pub mod Starts
+pub mod Zone

@@ -1,3 +1,4 @@
+-- How many bytes each RAM has.
 use Rattle.std.specs.Prelude.{ℕ}
 use Rattle.address_map.specs.declared.cell.RamKind.{RamKind}
 use Rattle.address_map.specs.declared.cell.RamKind.TheVariants.{Work, Video, Object}

@@ -1,10 +1,12 @@
+// The RAMs of a board, and one byte of them.
 ghost use Rattle.std.specs.Prelude.{◌≡◌, ℕ, ◌<◌};
 ghost use Rattle.address_map.specs.RamKind.{size_of};
+ghost use Rattle.address_map.specs.Zone.{same_kind};
 
 use std::marker::Model;
 
 /// One of the three RAMs of the board (docs/BOARD.md, "Addresses").
-#[derive(Clone, Copy, Debug, PartialEq, Eq)]
+#[derive(Clone, Copy, PartialEq, Eq)]
 pub enum RamKind {
     /// 1,024 bytes that hold the stack and the variables.
     Work,
@@ -24,10 +26,22 @@ impl RamKind {
             RamKind::Object => 0x100,
         }
     }
+
+    /// Whether this is the same RAM as another.
+    pub(crate) fn is(self, other: RamKind) -> bool
+        ensures { result ≡ same_kind self other }
+    {
+        matches!(
+            (self, other),
+            (RamKind::Work, RamKind::Work)
+                | (RamKind::Video, RamKind::Video)
+                | (RamKind::Object, RamKind::Object)
+        )
+    }
 }
 
 /// One byte of RAM: its RAM, and its number there from 0.
-#[derive(Debug, Drop)]
+#[derive(Drop)]
 pub struct Cell {
     ram: RamKind,
     index: u16,

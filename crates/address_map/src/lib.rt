@@ -1,15 +1,22 @@
-// The address table of the board (docs/BOARD.md): what each address reads and writes, the cells of
-// RAM, and the ROM with its starts. It stands on no other crate.
+// The address map of a board (docs/BOARD.md): its zones, what each address reads and writes, the cells of RAM, and the
+// ROM with its starts.
 #![tactic(auto)]
 
+mod boards;
 mod cell;
+mod fault;
+mod list;
 mod map;
+mod ranges;
 mod region;
 mod rom;
 mod starts;
+mod zone;
 
 pub use cell::{Cell, RamKind};
+pub use fault::MapFault;
 pub use map::{Class, Input, Map, ReadClass, WriteClass};
 pub use region::Region;
-pub use rom::Rom;
+pub use rom::{ROM_LIMIT, Rom};
 pub use starts::Starts;
+pub use zone::{WriteUse, Zone};

@@ -1,27 +1,37 @@
-ghost use Rattle.std.specs.Prelude.{◌≡◌, ◌≤◌};
-ghost use Rattle.address_map.specs.Class.{class_of, cell_of};
+// The address map of a board: zones, of which each address lies in exactly one.
+ghost use Rattle.std.specs.Prelude.{◌≡◌, IfOk, IfErr};
+ghost use Rattle.address_map.specs.AddressMap.{map_of, IsMap, IsFirstFault};
+ghost use Rattle.address_map.specs.Class.{class_of, cell_of, work_start};
 
 use crate::cell::{Cell, RamKind};
+use crate::fault::MapFault;
+use crate::list;
+use crate::zone::Zone;
+use arrayvec::ArrayVec;
 use std::marker::Model;
 
-/// The address table of a board, for a ROM of a given length.
-#[derive(Debug, Drop)]
+/// The address map of a board, at most 16 zones: each address from 0000 to FFFF lies in exactly one of them, one of
+/// them is the ROM and one is work RAM.
+#[derive(Drop)]
 pub struct Map {
+    zones: ArrayVec<Zone, 16>,
     rom_len: u16,
+    pages: [u8; 256],
 }
 
 impl Model for Map {
-    ghost use Rattle.std.specs.Prelude.{ℕ, ◌≤◌};
+    ghost use Rattle.address_map.specs.AddressMap.{AddressMap, IsMap, map_of};
+    ghost use Rattle.address_map.specs.Pages.{IsTable};
 
-    ghost Value = { ℕ };
+    ghost Value = { AddressMap };
 
-    ghost view = { λ m. m.rom_len };
+    ghost view = { λ m. map_of m.zones.items m.rom_len };
 
-    ghost invariant = { λ m. (1 ≤ m.rom_len) × (m.rom_len ≤ 0x4000) };
+    ghost invariant = { λ m. IsMap (map_of m.zones.items m.rom_len) × IsTable m.zones.items m.pages };
 }
 
 /// One of the board's three inputs.
-#[derive(Clone, Copy, Debug, PartialEq, Eq)]
+#[derive(Clone, Copy, PartialEq, Eq)]
 pub enum Input {
     In0,
     In1,
@@ -29,7 +39,7 @@ pub enum Input {
 }
 
 /// What an address reads.
-#[derive(Clone, Copy, Debug, PartialEq, Eq)]
+#[derive(Clone, Copy, PartialEq, Eq)]
 pub enum ReadClass {
     Rom,
     Ram(RamKind),
@@ -39,7 +49,7 @@ pub enum ReadClass {
 }
 
 /// What an address writes.
-#[derive(Clone, Copy, Debug, PartialEq, Eq)]
+#[derive(Clone, Copy, PartialEq, Eq)]
 pub enum WriteClass {
     /// A program may not write here: the ROM.
     Rom,
@@ -55,53 +65,93 @@ pub enum WriteClass {
 }
 
 /// What an address reads and writes (docs/BOARD.md, "Addresses").
-#[derive(Clone, Copy, Debug, PartialEq, Eq)]
+#[derive(Clone, Copy, PartialEq, Eq)]
 pub struct Class {
     pub read: ReadClass,
     pub write: WriteClass,
 }
 
 impl Map {
-    /// The Galaxian board's table for a ROM of 1 to 16,384 bytes.
-    pub fn galaxian(rom_len: u16) -> Map
-        requires some { 1 ≤ rom_len }
-        requires fits { rom_len ≤ 0x4000 }
-        ensures { result ≡ rom_len }
+    /// The map of these zones for a ROM of this length, 0 to 65,535 bytes.
+    ///
+    /// # Errors
+    ///
+    /// The first fault of `MapFault` that fits.
+    pub fn of(zones: ArrayVec<Zone, 16>, rom_len: u16) -> Result<Map, MapFault>
+        ensures ok { IfOk result (λ m. m ≡ map_of zones.items rom_len) }
+        ensures law { IfOk result IsMap }
+        ensures err { IfErr result (λ fault. IsFirstFault (map_of zones.items rom_len) fault) }
     {
-        Map { rom_len }
+        let fault = list::first_fault(zones.as_slice());
+        if fault <= 0xFFFF {
+            let address = fault as u16;
+            if list::zones_at(zones.as_slice(), address) == 0 {
+                Err(MapFault::Gap(address))
+            } else {
+                Err(MapFault::Overlap(address))
+            }
+        } else if !list::has_work(zones.as_slice()) {
+            Err(MapFault::Work)
+        } else if !list::has_rom(zones.as_slice(), rom_len) {
+            Err(MapFault::Rom)
+        } else {
+            Ok(Map::made(zones, rom_len))
+        }
+    }
+
+    /// The map of zones that keep the law.
+    pub(crate) fn made(zones: ArrayVec<Zone, 16>, rom_len: u16) -> Map
+        requires { IsMap (map_of zones.items rom_len) }
+        ensures { result ≡ map_of zones.items rom_len }
+    {
+        let pages = list::pages_of(zones.as_slice());
+        Map {
+            zones,
+            rom_len,
+            pages,
+        }
+    }
+
+    /// What every map is: each address from 0000 to FFFF lies in exactly one zone, one zone is work RAM, one the ROM.
+    pub fn is_map(&self)
+        ensures { IsMap self.now }
+    {
+        let _ = &self.rom_len;
+    }
+
+    /// The zones, in the order in which they were given.
+    pub fn zones(&self) -> &[Zone]
+        ensures { result.now ≡ self.now.zones }
+    {
+        self.zones.as_slice()
+    }
+
+    /// The number of the ROM's bytes, 1 to 65,535.
+    pub fn rom_len(&self) -> u16
+        ensures { result ≡ self.now.rom_len }
+    {
+        self.rom_len
+    }
+
+    /// The first address of work RAM, a multiple of 400h.
+    #[tactic(auto, unfolding(crate::specs::Class::work_start))]
+    pub fn work_start(&self) -> u16
+        ensures { result ≡ work_start self.now }
+    {
+        list::first_work(self.zones.as_slice()).first
     }
 
     /// What an address, 0 to 65,535, reads and writes.
+    #[inline]
     #[tactic(auto, unfolding(crate::specs::Class::class_of))]
     pub fn class(&self, address: u16) -> Class
         ensures { result ≡ class_of self.now address }
     {
-        let number = (address % 8) as u8;
-        let (read, write) = match address / 0x800 {
-            0..=7 if address < self.rom_len => (ReadClass::Rom, WriteClass::Rom),
-            8 => (
-                ReadClass::Ram(RamKind::Work),
-                WriteClass::Ram(RamKind::Work),
-            ),
-            10 => (
-                ReadClass::Ram(RamKind::Video),
-                WriteClass::Ram(RamKind::Video),
-            ),
-            11 => (
-                ReadClass::Ram(RamKind::Object),
-                WriteClass::Ram(RamKind::Object),
-            ),
-            12 => (ReadClass::Input(Input::In0), WriteClass::Latch(number)),
-            13 => (ReadClass::Input(Input::In1), WriteClass::Latch(number)),
-            14 if number == 1 => (ReadClass::Input(Input::In2), WriteClass::NmiEnable),
-            14 => (ReadClass::Input(Input::In2), WriteClass::Latch(number)),
-            15 => (ReadClass::Open, WriteClass::Pitch),
-            _ => (ReadClass::Open, WriteClass::Unmapped),
-        };
-        Class { read, write }
+        list::class_by(self.zones.as_slice(), &self.pages, address)
     }
 
     /// The cell of RAM that an address, 0 to 65,535, reads and writes; None where there is no RAM.
+    #[inline]
     pub fn cell(&self, address: u16) -> Option<Cell>
         ensures { result ≡ cell_of self.now address }
     {

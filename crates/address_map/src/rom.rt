@@ -1,9 +1,13 @@
+// The bytes of a ROM.
 ghost use Rattle.std.specs.Prelude.{◌≡◌, ◌≤◌, ◌<◌, ◌↔◌, length, IsSome, IfSome, drop};
 
 use std::marker::Model;
 
+/// The most bytes that a ROM has.
+pub const ROM_LIMIT: u16 = 0x4000;
+
 /// The bytes of a ROM, lent: 1 to 16,384 of them, from address 0000 on.
-#[derive(Debug, Drop)]
+#[derive(Drop)]
 pub struct Rom<'a> {
     bytes: &'a [u8],
 }
@@ -24,7 +28,7 @@ impl<'a> Rom<'a> {
         ensures fits { IsSome result ↔ ((1 ≤ length bytes.now) × (length bytes.now ≤ 0x4000)) }
         ensures value { IfSome result (λ rom. rom ≡ bytes.now) }
     {
-        if bytes.is_empty() || bytes.len() > 0x4000 {
+        if bytes.is_empty() || bytes.len() > usize::from(ROM_LIMIT) {
             None
         } else {
             Some(Rom { bytes })

@@ -1,10 +1,11 @@
+// The addresses at which instructions start.
 ghost use Rattle.std.specs.Prelude.{◌≡◌, ◌≢◌, ◌<◌, ℕ, false, true};
 ghost use Rattle.address_map.specs.Starts.{is_start};
 
 use std::marker::Model;
 
 /// A set of addresses below 4000h, at which instructions start, in fixed room.
-#[derive(Debug, Drop)]
+#[derive(Drop)]
 pub struct Starts {
     flags: [bool; 0x4000],
 }

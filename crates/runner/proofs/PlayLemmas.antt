@@ -3,7 +3,6 @@ use Rattle.std.specs.List.{AllByRecursion}
 use Rattle.std.proofs.lemmas.Bool.{cases_lt}
 use Rattle.std.proofs.lemmas.Grind.{flat_map-append}
 use Rattle.std.proofs.lemmas.List.{append-nil, take_all, take-replicate, length-replicate}
-use Rattle.std.proofs.lemmas.List.Sums.{sum_by-append}
 use lib.Seq.{take-append-add}
 use Rattle.board_step.specs.Hardware.{Hardware}
 use Rattle.board_step.specs.Reset.{reset_state}
@@ -20,7 +19,7 @@ use Rattle.runner.specs.declared.input.EnvLine.{EnvLine}
 use Rattle.runner.specs.declared.input.ResetLine.{ResetLine}
 use Rattle.runner.specs.declared.machine.Summary.{Summary}
 use Rattle.runner.proofs.FeedLemmas.{none_in_line}
-use Rattle.runner.proofs.LeadsLemmas.{one_each, runs_to}
+use Rattle.runner.proofs.LeadsLemmas.{one_each, runs_to, time_of-append}
 use Rattle.runner.proofs.InputLemmas.{no_feed_env, env_some}
 
 -- a play under way: what was taken off the input, and the run over its lines so far
@@ -115,7 +114,7 @@ sofar_more hardware steps old mid now number left time state new line count t fa
       leads = subst (λ (es : List Env). LeadsTo hardware (reset_state (reset_of far.reset)) es (far.events ++ ran.events) new) (sym envs) both;
       count = omega (arith, far.count, is, length-append far.events ran.events, one_each hardware state new copies ran.events ran.leads, length-replicate count (env_of line));
       covered = omega (arith, far.covered, is, some, ap length (envs_push far.lines line), length-append (envs_of far.lines) (replicate line.count (env_of line)), length-replicate line.count (env_of line));
-      timed = omega (arith, far.timed, ran.time_is, sum_by-append (λ (e : Event). e.t) far.events ran.events);
+      timed = omega (arith, far.timed, ran.time_is, time_of-append far.events ran.events);
     }
 
 -- the play ends at the end of the input or where no event is left
@@ -130,7 +129,7 @@ sofar_ends hardware steps None now number left time state summary n far ends is 
     begins = record { reset_form = far.reset_form; lines_form = far.lines_form; parts = refl };
     enough = inl refl;
     last = state;
-    runs = runs_to hardware _ _ far.events state summary far.leads (subst (λ (k : ℕ). Summarizes k time state summary) (omega (arith, is, far.count)) (subst (λ (t : ℕ). Summarizes n t state summary) far.timed sums));
+    runs = runs_to hardware _ _ far.events state summary far.leads (subst (λ (k : ℕ). Summarizes k (time_of far.events) state summary) (omega (arith, is, far.count)) (subst (λ (t : ℕ). Summarizes n t state summary) far.timed sums));
   },
 )
 sofar_ends hardware steps (Some bytes) now number left time state summary n far ends is sums =
@@ -145,7 +144,7 @@ sofar_ends hardware steps (Some bytes) now number left time state summary n far 
         | inr none ↦ inr (omega (arith, none, far.covered))
       ];
       last = state;
-      runs = runs_to hardware _ _ far.events state summary far.leads (subst (λ (k : ℕ). Summarizes k time state summary) (omega (arith, is, far.count)) (subst (λ (t : ℕ). Summarizes n t state summary) far.timed sums));
+      runs = runs_to hardware _ _ far.events state summary far.leads (subst (λ (k : ℕ). Summarizes k (time_of far.events) state summary) (omega (arith, is, far.count)) (subst (λ (t : ℕ). Summarizes n t state summary) far.timed sums));
     }
 
 -- a line feed alone is no line of environments

@@ -1,0 +1,15 @@
+use Rattle.std.proofs.Common.{refl, ◌∙◌}
+use Rattle.address_map.proofs.BoardLemmas.{galaxian_is_map}
+use Rattle.address_map.specs.AddressMap.{IsMap, map_of}
+use Rattle.address_map.specs.Boards.{galaxian}
+use Rattle.address_map.proofs.map.Map.galaxian.Goals as goal
+
+pub made-requires : goal.made-requires
+unfolding galaxian
+made-requires c =
+    rw (c.with_rom.ensures, c.galaxian_zones.ensures) (galaxian_is_map c.args.rom_len c.requires.some c.requires.fits)
+
+pub returns : goal.returns
+unfolding galaxian
+returns c =
+    c.made.ensures ∙ rw (c.with_rom.ensures, c.galaxian_zones.ensures) refl

@@ -1,0 +1,15 @@
+use Rattle.std.proofs.Common.{refl, ◌∙◌}
+use Rattle.address_map.proofs.BoardLemmas.{raised_is_map}
+use Rattle.address_map.specs.AddressMap.{IsMap, map_of}
+use Rattle.address_map.specs.Boards.{raised}
+use Rattle.address_map.proofs.map.Map.raised.Goals as goal
+
+pub made-requires : goal.made-requires
+unfolding raised
+made-requires c =
+    rw (c.with_rom.ensures, c.raised_zones.ensures) (raised_is_map c.args.rom_len c.requires.some c.requires.fits)
+
+pub returns : goal.returns
+unfolding raised
+returns c =
+    c.made.ensures ∙ rw (c.with_rom.ensures, c.raised_zones.ensures) refl

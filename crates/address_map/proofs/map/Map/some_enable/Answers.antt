@@ -1,0 +1,7 @@
+use Rattle.std.proofs.Common.{arith}
+use Rattle.address_map.proofs.RangeLemmas.{some_enable as law}
+use Rattle.address_map.proofs.map.Map.some_enable.Goals as goal
+
+pub returns : goal.returns
+returns c =
+    rw (c.any_enable.ensures, c.zones.ensures) (law c.args.self.now c.args.range c.is_map.ensures (omega arith))

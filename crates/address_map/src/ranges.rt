@@ -1,0 +1,163 @@
+// What is asked of the addresses of a range: each question costs by zones, and none by addresses.
+ghost use Rattle.std.specs.Prelude.{◌≡◌, ◌↔◌, ◌≤◌, ◌<◌, IsTrue, min, max};
+ghost use Rattle.std.specs.List.{list_any};
+ghost use Rattle.address_map.specs.Ranges.{AllData, SomeWrite, SomeAtCell, SomeInRegion};
+ghost use Rattle.address_map.specs.Shared.{share_cell, meets, rom_in, unmapped_in, enable_in, cell_in};
+
+use crate::cell::RamKind;
+use crate::map::{Map, WriteClass};
+use crate::region::Region;
+use crate::zone::{WriteUse, Zone};
+use intervals::WordRange;
+
+/// Whether an address from `low` to `high` is the same, modulo 400h, as one from `from` to `end - 1`.
+fn share_cell(low: u16, high: u16, from: u32, end: u32) -> bool
+    requires from { from < 0x10000 }
+    requires end { end ≤ 0x10000 }
+    ensures { result ≡ share_cell low high from end }
+{
+    if low > high || from >= end {
+        return false;
+    }
+    // An address less one of the others is any number from low - end + 1 to high - from: 10000h is added to both, and a
+    // multiple of 400h is looked for.
+    let most = u32::from(high) + 0x10000 - from;
+    u32::from(low) + 0x10001 <= most - most % 0x400 + end
+}
+
+impl Zone {
+    /// The lowest address that the zone and a range may share.
+    fn low(&self, range: WordRange) -> u16
+        ensures { result ≡ max self.now.first range.low }
+    {
+        self.first.max(range.low)
+    }
+
+    /// The highest address that the zone and a range may share; they share none where it is below the lowest.
+    fn high(&self, range: WordRange) -> u16
+        ensures { result ≡ min self.now.last range.high }
+    {
+        self.last.min(range.high)
+    }
+
+    /// Whether the zone and a range share an address.
+    fn meets(&self, range: WordRange) -> bool
+        ensures { result ≡ meets range self.now }
+    {
+        self.low(range) <= self.high(range)
+    }
+
+    /// Whether an address of the range is of this zone, and ROM for writing.
+    fn has_rom(&self, range: WordRange) -> bool
+        ensures { result ≡ rom_in range self.now }
+    {
+        matches!(self.write, WriteUse::Rom) && self.meets(range)
+    }
+
+    /// Whether an address of the range is of this zone, and unmapped.
+    fn has_unmapped(&self, range: WordRange) -> bool
+        ensures { result ≡ unmapped_in range self.now }
+    {
+        matches!(self.write, WriteUse::Open) && self.meets(range)
+    }
+
+    /// Whether an address of the range is of this zone, and the NMI enable.
+    fn has_enable(&self, range: WordRange) -> bool
+        ensures { result ≡ enable_in range self.now }
+    {
+        let high = u32::from(self.high(range));
+        matches!(self.write, WriteUse::LatchWithEnable)
+            && u32::from(self.low(range)) + (high + 7) % 8 <= high
+    }
+
+    /// Whether an address of the range is of this zone, and folds to a cell to which one from `from` to `end - 1` does.
+    fn has_cell(&self, range: WordRange, from: u32, end: u32) -> bool
+        requires from { from < 0x10000 }
+        requires end { end ≤ 0x10000 }
+        ensures { result ≡ cell_in from end range self.now }
+    {
+        matches!(self.write, WriteUse::Ram(RamKind::Work))
+            && share_cell(self.low(range), self.high(range), from, end)
+    }
+}
+
+impl Map {
+    /// Whether each address of a range takes data: none is ROM or unmapped, and none folds to a cell of work RAM that one
+    /// of the region's addresses folds to.
+    pub fn all_data(&self, range: WordRange, region: Region) -> bool
+        ensures { IsTrue result ↔ AllData self.now range region }
+    {
+        !self.some_rom(range) && !self.some_unmapped(range) && !self.some_in_region(range, region)
+    }
+
+    /// Whether some address of a range is ROM for writing.
+    pub fn some_rom(&self, range: WordRange) -> bool
+        ensures { IsTrue result ↔ SomeWrite self.now range WriteClass.Rom }
+    {
+        self.is_map();
+        any_rom(self.zones(), range)
+    }
+
+    /// Whether some address of a range is unmapped for writing.
+    pub fn some_unmapped(&self, range: WordRange) -> bool
+        ensures { IsTrue result ↔ SomeWrite self.now range WriteClass.Unmapped }
+    {
+        self.is_map();
+        any_unmapped(self.zones(), range)
+    }
+
+    /// Whether some address of a range is the NMI enable.
+    pub fn some_enable(&self, range: WordRange) -> bool
+        ensures { IsTrue result ↔ SomeWrite self.now range WriteClass.NmiEnable }
+    {
+        self.is_map();
+        any_enable(self.zones(), range)
+    }
+
+    /// Whether some address of a range folds to the cell of work RAM with this number modulo 400h.
+    pub fn some_at_cell(&self, range: WordRange, index: u16) -> bool
+        ensures { IsTrue result ↔ SomeAtCell self.now range index }
+    {
+        self.is_map();
+        any_cell(self.zones(), range, u32::from(index), u32::from(index) + 1)
+    }
+
+    /// Whether some address of a range folds to a cell of work RAM that one of the region's addresses folds to.
+    pub fn some_in_region(&self, range: WordRange, region: Region) -> bool
+        ensures { IsTrue result ↔ SomeInRegion self.now range region }
+    {
+        self.is_map();
+        any_cell(
+            self.zones(),
+            range,
+            u32::from(region.low),
+            u32::from(region.top),
+        )
+    }
+}
+
+fn any_rom(zones: &[Zone], range: WordRange) -> bool
+    ensures { result ≡ list_any (rom_in range) zones.now }
+{
+    zones.iter().any(|zone| zone.has_rom(range))
+}
+
+fn any_unmapped(zones: &[Zone], range: WordRange) -> bool
+    ensures { result ≡ list_any (unmapped_in range) zones.now }
+{
+    zones.iter().any(|zone| zone.has_unmapped(range))
+}
+
+fn any_enable(zones: &[Zone], range: WordRange) -> bool
+    ensures { result ≡ list_any (enable_in range) zones.now }
+{
+    zones.iter().any(|zone| zone.has_enable(range))
+}
+
+fn any_cell(zones: &[Zone], range: WordRange, from: u32, end: u32) -> bool
+    requires from { from < 0x10000 }
+    requires end { end ≤ 0x10000 }
+    ensures { result ≡ list_any (cell_in from end range) zones.now }
+{
+    zones.iter().any(|zone| zone.has_cell(range, from, end))
+}
