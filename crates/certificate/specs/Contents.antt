@@ -1,3 +1,4 @@
+-- What a certificate says.
 use Rattle.std.specs.Prelude.{ℕ, ◌<◌, ◌≤◌, List, length, slice_index_or}
 use Rattle.address_map.specs.declared.region.Region.{Region}
 use Rattle.certificate.specs.declared.contents.Proc.{Proc}

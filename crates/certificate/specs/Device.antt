@@ -1,3 +1,4 @@
+-- What a device gives and takes, and when it failed.
 use Rattle.std.specs.Prelude.{ℕ, ◌<◌, ◌≡◌, ◌^◌, ◌-◌, ◌⊎◌, List, ◌++◌, Option, Some, None}
 
 -- a count of failures has grown, or stands at its greatest value

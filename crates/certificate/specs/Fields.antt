@@ -1,3 +1,4 @@
+-- The fields of a line, and how numbers are spelled in them.
 use Rattle.std.specs.Prelude.{◌<◌, length, slice_index, ℕ, ◌+◌, ◌/◌, ◌%◌, ◌≤◌, ◌≡◌, ◌≢◌, ◌==◌, nat_lt, if◌then◌else◌, Bool, true, false, List, [], ◌∷◌, ◌++◌, codes, Option, Some, None}
 use Rattle.std.specs.List.{slice_split}
 use denote.Ref.{Bor}

@@ -1,3 +1,4 @@
+-- The definitions of certificates and of devices.
 pub mod Contents
 pub mod Device
 pub mod Fields

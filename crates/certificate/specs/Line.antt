@@ -1,3 +1,4 @@
+-- The lines of a certificate, each as its fields.
 use Rattle.std.specs.Prelude.{ℕ, List, [], ◌∷◌, ◌++◌, codes, replicate}
 use Rattle.std.specs.Fmt.{decimal}
 use Rattle.certificate.specs.Fields.{IsWord, hex4}

@@ -1,3 +1,4 @@
+-- How far the reading of a certificate has come.
 use Rattle.std.specs.Prelude.{◌<◌, ℕ, ◌≡◌, ◌≢◌, suc, List, [], ◌∷◌, ◌++◌, length, take, Option, Some, None, Result, Ok, Err}
 use Rattle.certificate.specs.declared.contents.Row.{Row}
 use Rattle.certificate.specs.declared.fault.CertFault.{CertFault}

@@ -1,3 +1,5 @@
+// What a certificate says.
+
 ghost use Rattle.std.specs.Prelude.{◌≡◌, ◌<◌, ◌≤◌, length};
 ghost use Rattle.certificate.specs.Contents.{RowsRise, MAX_ROW_COUNT};
 
@@ -7,8 +9,11 @@ use std::marker::Model;
 /// How many rows a certificate may have.
 pub(crate) const ROW_LIMIT: usize = 65_535;
 
+// The definitions say it as a number.
+const _: () = prove!(ROW_LIMIT == 65_535);
+
 /// What is known of the stack pointer and the NMI at a row.
-#[derive(Clone, Copy, Debug, PartialEq, Eq)]
+#[derive(Clone, Copy, PartialEq, Eq)]
 pub enum Mode {
     /// `u`: SP may not be set yet, and no NMI comes.
     Unset,
@@ -17,7 +22,7 @@ pub enum Mode {
 }
 
 /// A procedure: how it stands in the order of calls, and the bytes of stack that it needs.
-#[derive(Clone, Copy, Debug, PartialEq, Eq)]
+#[derive(Clone, Copy)]
 pub struct Proc {
     /// The callees' ranks are below it, 0 to 65,535.
     pub rank: u16,
@@ -26,7 +31,7 @@ pub struct Proc {
 }
 
 /// One abstract state at one instruction.
-#[derive(Clone, Copy, Debug, PartialEq, Eq)]
+#[derive(Clone, Copy)]
 pub struct Row {
     /// Where the instruction stands, 0 to 65,535.
     pub address: u16,

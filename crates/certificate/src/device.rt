@@ -1,3 +1,5 @@
+// The devices that texts come from and go to.
+
 ghost use Rattle.std.specs.Prelude.{◌≡◌, ◌<◌, ◌≤◌, ℕ, List, Option, Ok, IfOk, IfSome, OnErr, length, take, []};
 ghost use Rattle.certificate.specs.Device.{HasGrown, Gives, Takes, TakesPart};
 

@@ -1,3 +1,5 @@
+// Why bytes are no certificate.
+
 use thiserror::Error;
 
 /// Why bytes are no certificate.
@@ -5,7 +7,7 @@ use thiserror::Error;
 pub enum CertFault {
     /// The first line, counted from 1, with which the lines up to it begin no certificate.
     #[error("bad certificate line {0}")]
-    Line(usize),
+    Line(u64),
     /// Every line up to this one is in form, but it is a row too many.
     #[error("bad certificate limit")]
     Limit,

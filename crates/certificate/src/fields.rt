@@ -1,3 +1,5 @@
+// The fields of a line.
+
 ghost use Rattle.std.specs.Prelude.{◌≡◌, ◌<◌, ◌≤◌, ◌^◌, ◌∷◌, ◌==◌, ◌↔◌, [], ◌++◌, IsTrue, MatchOption, replicate};
 ghost use Rattle.std.specs.List.{slice_split, position};
 ghost use Rattle.std.specs.Fmt.{decimal};

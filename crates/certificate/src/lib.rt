@@ -15,6 +15,3 @@ pub use device::{DeviceFault, Sink, Source};
 pub use fault::CertFault;
 pub use fields::{Fields, decimal_between, flag_field, hex2_field};
 pub use text::read;
-
-#[cfg(test)]
-mod tests;

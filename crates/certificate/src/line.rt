@@ -1,3 +1,5 @@
+// The lines of a certificate.
+
 ghost use Rattle.std.specs.Prelude.{◌≡◌, ◌∷◌, [], ◌↔◌, IsTrue, codes};
 ghost use Rattle.std.specs.Fmt.{decimal};
 ghost use Rattle.certificate.specs.Fields.{Reads, IsWord, fields_in, Always, hex4};

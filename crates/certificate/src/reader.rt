@@ -1,3 +1,5 @@
+// A certificate that is read line by line.
+
 ghost use Rattle.std.specs.Prelude.{◌≡◌, ◌∷◌, [], ◌++◌, ◌↔◌, IsTrue, suc, length, OnErr, OnOk};
 ghost use Rattle.certificate.specs.Contents.{RowsRise};
 ghost use Rattle.certificate.specs.Line.{IsInRange};
@@ -90,7 +92,7 @@ impl Reader {
     }
 
     /// The number of the next line, from 1.
-    pub fn number(&self) -> usize
+    pub fn number(&self) -> u64
         ensures { result ≡ suc (length (lines_read self.now)) }
     {
         match self.stage {
@@ -99,8 +101,8 @@ impl Reader {
             Stage::Stack => 3,
             Stage::Budget => 4,
             Stage::Main => 5,
-            Stage::Rows => 6 + self.rows.len(),
-            Stage::Nothing => 7 + self.rows.len(),
+            Stage::Rows => 6 + self.rows.len() as u64,
+            Stage::Nothing => 7 + self.rows.len() as u64,
         }
     }
 

@@ -1,3 +1,5 @@
+// A certificate that is read from its text.
+
 ghost use Rattle.std.specs.Prelude.{◌≡◌, ℕ, IfOk, IsOkUnless};
 ghost use Rattle.certificate.specs.Contents.{Contents};
 ghost use Rattle.certificate.specs.Text.{HasRows, HasTooManyRows, IsFirstBadLine, IsInForm, text_of};

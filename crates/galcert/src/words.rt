@@ -1,6 +1,4 @@
-ghost use Rattle.std.specs.Prelude.{SomeIff};
-ghost use Rattle.std.specs.Str.Parse.{digits_value};
-ghost use Rattle.galcert.specs.Words.{IsSteps};
+// The words of the command line.
 
 use clap::{Arg, ArgAction, ArgMatches, Command};
 use std::alloc::{AllocError, Global};
@@ -32,15 +30,4 @@ fn file<'a>(alloc: Global, name: &'static str) -> Arg<'a> {
 /// The word of an argument, which the command line requires; the empty text if there were none.
 pub fn word<'a>(matches: &ArgMatches<'a>, name: &str) -> &'a str {
     matches.get_str(name).unwrap_or("")
-}
-
-/// The number of steps that a text says, 0 to 4,294,967,295: one decimal digit or more, and leading zeros are
-/// allowed. None for any other text (docs/PROGRAM.md).
-pub fn steps_of(text: &str) -> Option<u32>
-    ensures { SomeIff result (IsSteps text.now) (digits_value 10 text.now) }
-{
-    match text.as_bytes() {
-        [b'+', ..] => None,
-        _ => text.parse::<u32>().ok(),
-    }
 }

@@ -1,0 +1,63 @@
+-- When a certificate's text is accepted for a ROM, and what is printed of both (docs/PROGRAM.md).
+use Rattle.std.specs.Prelude.{ℕ, ◌≡◌, ◌⊎◌, List, Option, take, codes}
+use Rattle.board_step.specs.Safe.{Safe}
+use Rattle.cert_checker.specs.Accepts.{Accepts, Applies, NothingBefore}
+use Rattle.cert_checker.specs.Profile.{certified_profile, nmi_time}
+use Rattle.cert_checker.specs.declared.checking.Refused.{Refused}
+use Rattle.certificate.specs.Contents.{Contents}
+use Rattle.certificate.specs.Device.{Takes}
+use Rattle.certificate.specs.Text.{HasTooManyRows, IsFirstBadLine, IsInForm, text_of}
+use Rattle.commands.specs.Reading.{OfFiles, ROM_READ_LEN}
+use Rattle.commands.specs.Verdict.{accepted_text, bad_line_text, refused_text}
+
+-- the text of a certificate that is accepted for a ROM, and every run of the board on that ROM is safe
+pub record IsAccepted (rom text : List ℕ) (certificate : Contents) : Type 0 where
+  pub in_form : IsInForm certificate
+  pub text_is : text ≡ text_of certificate
+  pub accepts : Accepts rom certificate
+  pub safe : Safe (certified_profile rom certificate) (nmi_time certificate)
+
+-- the line of the first reason that applies to the certificate in this text
+pub record PrintsRefused (rom text printed : List ℕ) : Type 0 where
+  pub certificate : Contents
+  pub in_form : IsInForm certificate
+  pub text_is : text ≡ text_of certificate
+  pub refused : Refused
+  pub applies : Applies rom certificate refused.row refused.address refused.reason
+  pub first : NothingBefore rom certificate refused.row refused.reason
+  pub printed_is : printed ≡ refused_text refused
+
+-- the first line with which this text begins no certificate
+pub record PrintsBadLine (text printed : List ℕ) : Type 0 where
+  pub line : ℕ
+  pub bad : IsFirstBadLine line text
+  pub printed_is : printed ≡ bad_line_text (codes "bad certificate") line
+
+-- a text in form, but for its many rows
+pub record PrintsLimit (text printed : List ℕ) : Type 0 where
+  pub many : HasTooManyRows text
+  pub printed_is : printed ≡ codes "bad certificate limit\n"
+
+-- why the certificate in this text isn't accepted for a ROM
+abbrev pub PrintsRefusal : List ℕ → List ℕ → List ℕ → Type 0
+PrintsRefusal rom text printed = PrintsRefused rom text printed ⊎ (PrintsBadLine text printed ⊎ PrintsLimit text printed)
+
+-- the line that says why was written
+abbrev pub WritesRefusal : List ℕ → List ℕ → Option (List ℕ) → Option (List ℕ) → Type 0
+WritesRefusal rom text old new = (printed : List ℕ) × Takes old printed new × PrintsRefusal rom text printed
+
+-- the files hold a ROM and a certificate that is accepted for it, and this holds of the two
+abbrev pub OnAccepted : Option (List ℕ) → Option (List ℕ) → (List ℕ → Contents → Type 0) → Type 0
+OnAccepted rom text Holds = OfFiles rom text (λ bytes lines. (certificate : Contents) × IsAccepted bytes lines certificate × Holds bytes certificate)
+
+-- the files hold a ROM and a certificate that is accepted for it
+abbrev pub HoldAccepted : Option (List ℕ) → Option (List ℕ) → Type 0
+HoldAccepted rom text = OnAccepted rom text (λ _ _. Unit {0})
+
+-- and its table was written: what the sink had taken before and after
+abbrev pub TellsAccepted : Option (List ℕ) → Option (List ℕ) → Option (List ℕ) → Option (List ℕ) → Type 0
+TellsAccepted rom text old new = OnAccepted rom text (λ _ certificate. Takes old (accepted_text certificate) new)
+
+-- the files hold no such ROM and certificate, and the line that says why was written
+abbrev pub TellsRefusal : Option (List ℕ) → Option (List ℕ) → Option (List ℕ) → Option (List ℕ) → Type 0
+TellsRefusal rom text old new = OfFiles rom text (λ bytes lines. WritesRefusal (take ROM_READ_LEN bytes) lines old new)

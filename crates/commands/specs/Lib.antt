@@ -1,0 +1,8 @@
+-- The definitions of the commands.
+pub mod Devices
+pub mod Judging
+pub mod Reading
+pub mod Running
+pub mod Status
+pub mod Steps
+pub mod Verdict

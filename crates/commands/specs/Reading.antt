@@ -1,0 +1,25 @@
+-- What is read of a file.
+use Rattle.std.specs.Prelude.{ℕ, ◌≤◌, ◌≡◌, List, length, take, Option, IfSome}
+use Rattle.certificate.specs.Device.{Gives}
+use Rattle.runner.specs.Playing.{OfBytes}
+
+-- of a ROM's file no more is read: one byte more than a ROM may have
+abbrev pub ROM_READ_LEN : ℕ
+ROM_READ_LEN = 16385
+
+-- so many bytes at most were taken from a source
+abbrev pub GivesUpTo : ℕ → Option (List ℕ) → Option (List ℕ) → Type 0
+GivesUpTo most old new = (given : List ℕ) × (length given ≤ most) × Gives old given new
+
+-- the first bytes of a file, so many at most
+pub record FirstBytes (most : ℕ) (file : Option (List ℕ)) (bytes : List ℕ) : Type 0 where
+  pub within : length bytes ≤ most
+  pub first : IfSome file (λ all. bytes ≡ take most all)
+
+-- all bytes of a file
+abbrev pub AllBytes : Option (List ℕ) → List ℕ → Type 0
+AllBytes file bytes = IfSome file (λ all. bytes ≡ all)
+
+-- this holds of the bytes of two files, where their sources tell them, and else of some bytes
+abbrev pub OfFiles : Option (List ℕ) → Option (List ℕ) → (List ℕ → List ℕ → Type 0) → Type 0
+OfFiles rom text Holds = OfBytes rom (λ bytes. OfBytes text (λ lines. Holds bytes lines))
