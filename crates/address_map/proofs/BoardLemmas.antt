@@ -8,11 +8,14 @@ use Rattle.std.proofs.lemmas.Bool.{cases_Bool, cases_lt, le-leb, lt-leb, lt-ltb,
 use Rattle.address_map.proofs.Laws.{no_class}
 use Rattle.address_map.proofs.MapLemmas.{class_of-in, zone_of, class-enable, enable-class}
 use Rattle.address_map.proofs.ZoneLemmas.{In-all, In-from-any, count-yes, count-no}
-use Rattle.address_map.specs.AddressMap.{AddressMap, IsMap, map_of, zones_at, has_work, has_rom}
+use Rattle.address_map.specs.AddressMap.{AddressMap, map_of}
+use Rattle.address_map.specs.MapLaw.{IsMap, zones_at, has_work, has_rom}
 use Rattle.address_map.specs.Boards.{galaxian, raised, galaxian_zones, raised_zones, with_rom, galaxian_class, raised_class, zone, open_zone, open_class}
-use Rattle.address_map.specs.Class.{class_of, work_start, work_last}
+use Rattle.address_map.specs.Class.{class_of}
+use Rattle.address_map.specs.WorkRam.{work_start, work_last}
 use Rattle.address_map.specs.Shared.{writes_enable}
-use Rattle.address_map.specs.Zone.{in_zone, class_in, first_zone, fits_ram, names_work, names_rom, fits_rom}
+use Rattle.address_map.specs.Zone.{in_zone, class_in, first_zone}
+use Rattle.address_map.specs.ZoneUse.{fits_ram, names_work, names_rom, fits_rom}
 use Rattle.address_map.specs.declared.map.Class.{Class}
 use Rattle.address_map.specs.declared.map.ReadClass.{ReadClass}
 use Rattle.address_map.specs.declared.map.ReadClass.TheVariants as reads

@@ -7,7 +7,7 @@ use Rattle.std.proofs.lemmas.List.Sums.{sum_by-cons, list_all-from_AllPass}
 use Rattle.std.proofs.lemmas.List.{get_or_default}
 use Rattle.std.proofs.lemmas.Bool.{cases_eq, lt-ltb}
 use Rattle.std.proofs.lemmas.Bool.Decides.{nat_tests}
-use Rattle.address_map.specs.AddressMap.{OneZoneBelow, zones_at}
+use Rattle.address_map.specs.MapLaw.{OneZoneBelow, zones_at}
 use Rattle.address_map.specs.Zone.{in_zone, no_zone}
 use Rattle.address_map.specs.declared.zone.Zone.{Zone}
 

@@ -4,9 +4,12 @@ use Rattle.std.specs.List.{count_by, list_all}
 use Rattle.std.proofs.lemmas.Bool.{cases_Bool, and_parts, or_cases, and_from, leb-true, le-leb, ltb-true, eqb-true, or_left, or_right, cases_lt}
 use Rattle.address_map.proofs.MapLemmas.{HasZone, class_of-in, zone_of, zone_ends}
 use Rattle.address_map.proofs.ZoneLemmas.{In, In-all, first_zone-only, first_zone-in, first_zone-passes, first_zone-none}
-use Rattle.address_map.specs.AddressMap.{AddressMap, IsMap, has_work, has_rom}
-use Rattle.address_map.specs.Class.{class_of, cell_of, cell_of_class, work_start, work_last}
-use Rattle.address_map.specs.Zone.{in_zone, class_in, write_class, first_zone, no_zone, names_work, fits_ram, one_ram, same_kind, names_rom, fits_rom, reads_rom, writes_rom, reads_work, writes_work}
+use Rattle.address_map.specs.AddressMap.{AddressMap}
+use Rattle.address_map.specs.MapLaw.{IsMap, has_work, has_rom}
+use Rattle.address_map.specs.Class.{class_of, cell_of, cell_of_class}
+use Rattle.address_map.specs.WorkRam.{work_start, work_last}
+use Rattle.address_map.specs.Zone.{in_zone, class_in, write_class, first_zone, no_zone}
+use Rattle.address_map.specs.ZoneUse.{names_work, fits_ram, one_ram, same_kind, names_rom, fits_rom, reads_rom, writes_rom, reads_work, writes_work}
 use Rattle.address_map.specs.declared.cell.RamKind.{RamKind}
 use Rattle.address_map.specs.declared.cell.RamKind.TheVariants.{Work, Video, Object}
 use Rattle.address_map.specs.declared.map.Class.{Class}

@@ -3,10 +3,12 @@ use Rattle.std.proofs.Common.{◌≡◌, ◌≤◌, ◌<◌, ◌%◌, ℕ, Bool,
 use Rattle.std.specs.List.{count_by}
 use Rattle.std.proofs.lemmas.Bool.{cases_Bool, and_parts, leb-true, ltb-true, eqb-true}
 use Rattle.address_map.proofs.ZoneLemmas.{In, In-all, first_zone-only, first_zone-in, first_zone-passes}
-use Rattle.address_map.specs.AddressMap.{AddressMap, IsMap, zones_at}
+use Rattle.address_map.specs.AddressMap.{AddressMap}
+use Rattle.address_map.specs.MapLaw.{IsMap, zones_at}
 use Rattle.address_map.specs.Class.{class_of, cell_of_class}
 use Rattle.address_map.specs.Shared.{writes_open, writes_enable}
-use Rattle.address_map.specs.Zone.{in_zone, class_in, write_class, writes_rom, writes_work}
+use Rattle.address_map.specs.Zone.{in_zone, class_in, write_class}
+use Rattle.address_map.specs.ZoneUse.{writes_rom, writes_work}
 use Rattle.address_map.specs.declared.cell.RamKind.{RamKind}
 use Rattle.address_map.specs.declared.cell.RamKind.TheVariants.{Work, Video, Object}
 use Rattle.address_map.specs.declared.map.WriteClass.TheVariants as writes

@@ -6,7 +6,8 @@ use Rattle.std.specs.List.{position_or_len, position, prefix_len}
 use Rattle.std.proofs.lemmas.Bool.{cases_Bool, ltb-true, ltb-false}
 use Rattle.std.proofs.lemmas.Bool.Decides.{nat_tests}
 use Rattle.address_map.specs.Pages.{IsTable}
-use Rattle.address_map.specs.Zone.{in_zone, reaches, first_zone}
+use Rattle.address_map.specs.Zone.{in_zone, first_zone}
+use Rattle.address_map.specs.ZoneUse.{reaches}
 use Rattle.address_map.specs.declared.zone.Zone.{Zone}
 
 not_reached : (z : Zone) (a : ℕ) → reaches (a / 0x100) z ≡ false → in_zone a z ≡ false

@@ -4,7 +4,8 @@ use Rattle.std.specs.List.{list_any}
 use Rattle.std.proofs.lemmas.Bool.{and_parts, and_from, leb-true, le-leb, lt-ltb, ltb-true, eq-eqb, cases_lt}
 use Rattle.address_map.proofs.MapLemmas.{class_of-in, zone_of, zone_ends, rom-class, class-rom, open-class, class-open, enable-class, class-enable, work-cell, cell-work}
 use Rattle.address_map.proofs.ZoneLemmas.{In, In-any, In-from-any}
-use Rattle.address_map.specs.AddressMap.{AddressMap, IsMap}
+use Rattle.address_map.specs.AddressMap.{AddressMap}
+use Rattle.address_map.specs.MapLaw.{IsMap}
 use Rattle.address_map.specs.Class.{class_of, cell_of, cell_of_class}
 use Rattle.address_map.specs.Ranges.{SomeWrite, SomeAtCell, SomeInRegion}
 use Rattle.address_map.specs.Shared.{rom_in, unmapped_in, enable_in, cell_in, share_cell, low_in, high_in}

@@ -4,7 +4,8 @@ use Rattle.std.proofs.Math.Bool.{cond}
 use Rattle.std.specs.List.{count_by, list_any, list_all}
 use Rattle.std.proofs.lemmas.List.Sums.{sum_by-cons}
 use Rattle.std.proofs.lemmas.Bool.{cases_Bool, and_parts, or_cases, or_left, or_right, and_from, leb-true, ltb-true, le-leb}
-use Rattle.address_map.specs.AddressMap.{AddressMap, IsMap, zones_at, has_work, has_rom}
+use Rattle.address_map.specs.AddressMap.{AddressMap}
+use Rattle.address_map.specs.MapLaw.{IsMap, zones_at, has_work, has_rom}
 use Rattle.address_map.specs.Class.{class_of}
 use Rattle.address_map.specs.Zone.{in_zone, first_zone, no_zone, class_in}
 use Rattle.address_map.specs.declared.zone.Zone.{Zone}

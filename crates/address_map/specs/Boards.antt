@@ -1,4 +1,4 @@
--- Trusted: the address maps of the boards (docs/BOARD.md, "Addresses"), as zones and as tables.
+-- Helper: the address maps of the boards (docs/BOARD.md, "Addresses"), as zones and as tables.
 use Rattle.std.specs.Prelude.{ℕ, ◌-◌, ◌%◌, if◌then◌else◌, nat_lt, List, [], ◌∷◌, ◌++◌}
 use Rattle.address_map.specs.AddressMap.{AddressMap, map_of}
 use Rattle.address_map.specs.Zone.{upper_latch}

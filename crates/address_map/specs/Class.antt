@@ -2,7 +2,7 @@
 use Rattle.std.specs.Prelude.{ℕ, ◌%◌, Option, Some, None}
 use Rattle.address_map.specs.AddressMap.{AddressMap}
 use Rattle.address_map.specs.RamKind.{size_of}
-use Rattle.address_map.specs.Zone.{in_zone, first_zone, class_in, names_work}
+use Rattle.address_map.specs.Zone.{in_zone, first_zone, class_in}
 use Rattle.address_map.specs.declared.cell.RamKind.{RamKind}
 use Rattle.address_map.specs.declared.map.Class.{Class}
 use Rattle.address_map.specs.declared.map.WriteClass.{WriteClass}
@@ -23,11 +23,3 @@ cell_of_class _ address = None
 
 abbrev pub cell_of : AddressMap → ℕ → Option (RamKind × ℕ)
 cell_of m address = cell_of_class (class_of m address).write address
-
--- the first address of work RAM
-unfoldable pub work_start : AddressMap → ℕ
-work_start m = (first_zone names_work m.zones).first
-
--- the last address of work RAM
-unfoldable pub work_last : AddressMap → ℕ
-work_last m = (first_zone names_work m.zones).last

@@ -1,10 +1,13 @@
 -- The definitions of address maps. The first line of each file says whether the word "safe" reaches it (Trusted) or not (Helper).
 pub mod AddressMap
+pub mod MapLaw
 pub mod Boards
 pub mod Class
+pub mod WorkRam
 pub mod Pages
 pub mod RamKind
 pub mod Ranges
 pub mod Shared
 pub mod Starts
 pub mod Zone
+pub mod ZoneUse

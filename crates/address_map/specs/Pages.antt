@@ -1,7 +1,7 @@
 -- Helper: the table by the high bits of an address, from which `class` begins its search.
 use Rattle.std.specs.Prelude.{ℕ, ◌<◌, ◌≡◌, List, slice_index}
 use Rattle.std.specs.List.{position_or_len}
-use Rattle.address_map.specs.Zone.{reaches}
+use Rattle.address_map.specs.ZoneUse.{reaches}
 use Rattle.address_map.specs.declared.zone.Zone.{Zone}
 
 -- for each eight high bits, the number of the first zone that may hold such an address

@@ -1,6 +1,6 @@
 -- Helper: the tests by which `ranges` looks at what a zone and a range share.
 use Rattle.std.specs.Prelude.{ℕ, ◌+◌, ◌-◌, ◌%◌, Bool, true, false, ◌&&◌, nat_le, nat_lt, min, max}
-use Rattle.address_map.specs.Zone.{writes_rom, writes_work}
+use Rattle.address_map.specs.ZoneUse.{writes_rom, writes_work}
 use Rattle.address_map.specs.declared.zone.WriteUse.{WriteUse}
 use Rattle.address_map.specs.declared.zone.WriteUse.TheVariants as uses
 use Rattle.address_map.specs.declared.zone.Zone.{Zone}

@@ -15,10 +15,6 @@ use Rattle.address_map.specs.declared.zone.Zone.{Zone}
 abbrev pub in_zone : ℕ → Zone → Bool
 in_zone address z = nat_le z.first address && nat_le address z.last
 
--- whether an address with these eight high bits may lie in the zone
-abbrev pub reaches : ℕ → Zone → Bool
-reaches page z = nat_le (z.first / 0x100) page && nat_le page (z.last / 0x100)
-
 -- the latch of a number from 0 to 7 in a zone with the NMI enable, which is number 1
 abbrev pub upper_latch : ℕ → WriteClass
 upper_latch number = if number == 1 then writes.NmiEnable else writes.Latch number
@@ -44,51 +40,3 @@ no_zone = record { first = 1; last = 0; read = reads.Open; write = uses.Open }
 abbrev pub first_zone : (Zone → Bool) → List Zone → Zone
 first_zone test [] = no_zone
 first_zone test (z ∷ zs) = if test z then z else first_zone test zs
-
-abbrev pub same_kind : RamKind → RamKind → Bool
-same_kind Work Work = true
-same_kind Video Video = true
-same_kind Object Object = true
-same_kind _ _ = false
-
--- the zone names a RAM kind for reading and for writing, the same, or for neither
-abbrev pub one_ram : ReadClass → WriteUse → Bool
-one_ram (reads.Ram read) (uses.Ram written) = same_kind read written
-one_ram (reads.Ram read) _ = false
-one_ram _ (uses.Ram written) = false
-one_ram _ _ = true
-
-abbrev pub reads_work : ReadClass → Bool
-reads_work (reads.Ram Work) = true
-reads_work _ = false
-
-abbrev pub writes_work : WriteUse → Bool
-writes_work (uses.Ram Work) = true
-writes_work _ = false
-
--- the zone names work RAM
-abbrev pub names_work : Zone → Bool
-names_work z = reads_work z.read || writes_work z.write
-
--- what is asked of each zone's RAM: one kind for both; where it is work RAM, a first address that is a multiple of
--- 400h and at least 400h addresses
-abbrev pub fits_ram : Zone → Bool
-fits_ram z =
-    one_ram z.read z.write && (not (names_work z) || (z.first % 0x400 == 0 && nat_le (z.first + 0x400) (z.last + 1)))
-
-abbrev pub reads_rom : ReadClass → Bool
-reads_rom reads.Rom = true
-reads_rom _ = false
-
-abbrev pub writes_rom : WriteUse → Bool
-writes_rom uses.Rom = true
-writes_rom _ = false
-
--- the zone names the ROM
-abbrev pub names_rom : Zone → Bool
-names_rom z = reads_rom z.read || writes_rom z.write
-
--- what is asked of a zone that names the ROM: that it is ROM for both, from 0000 to the ROM's last byte
-abbrev pub fits_rom : ℕ → Zone → Bool
-fits_rom rom_len z =
-    not (names_rom z) || ((reads_rom z.read && writes_rom z.write) && (z.first == 0 && z.last + 1 == rom_len))

@@ -1,7 +1,7 @@
 // The RAMs of a board, and one byte of them.
 ghost use Rattle.std.specs.Prelude.{◌≡◌, ℕ, ◌<◌};
 ghost use Rattle.address_map.specs.RamKind.{size_of};
-ghost use Rattle.address_map.specs.Zone.{same_kind};
+ghost use Rattle.address_map.specs.ZoneUse.{same_kind};
 
 use std::marker::Model;
 

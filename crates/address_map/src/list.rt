@@ -1,15 +1,16 @@
 // What is asked of a list of zones.
 ghost use Rattle.std.specs.Prelude.{◌≡◌, ◌≢◌, ◌≤◌, ◌<◌, ◌+◌, ◌/◌, nat_lt, true, length};
 ghost use Rattle.std.specs.List.{count_by, list_all, position, position_or_len};
-ghost use Rattle.address_map.specs.AddressMap.{OneZoneBelow, zones_at, has_work, has_rom};
+ghost use Rattle.address_map.specs.MapLaw.{OneZoneBelow, zones_at, has_work, has_rom};
 ghost use Rattle.address_map.specs.Pages.{IsTable};
-ghost use Rattle.address_map.specs.Zone.{first_zone, in_zone, names_work, names_rom, fits_ram, fits_rom, class_in, reaches};
+ghost use Rattle.address_map.specs.Zone.{first_zone, in_zone, class_in};
+ghost use Rattle.address_map.specs.ZoneUse.{names_work, names_rom, fits_ram, fits_rom, reaches};
 
 use crate::map::Class;
 use crate::zone::Zone;
 
 /// In how many zones an address lies.
-#[tactic(auto, unfolding(crate::specs::AddressMap::zones_at))]
+#[tactic(auto, unfolding(crate::specs::MapLaw::zones_at))]
 pub(crate) fn zones_at(zones: &[Zone], address: u16) -> usize
     ensures { result ≡ zones_at zones.now address }
 {
@@ -61,7 +62,7 @@ fn all_fit_ram(zones: &[Zone]) -> bool
 }
 
 /// Whether there is work RAM as there must be.
-#[tactic(auto, unfolding(crate::specs::AddressMap::has_work))]
+#[tactic(auto, unfolding(crate::specs::MapLaw::has_work))]
 pub(crate) fn has_work(zones: &[Zone]) -> bool
     ensures { result ≡ has_work zones.now }
 {
@@ -83,7 +84,7 @@ fn all_fit_rom(zones: &[Zone], rom_len: u16) -> bool
 }
 
 /// Whether there is a ROM of this length as there must be.
-#[tactic(auto, unfolding(crate::specs::AddressMap::has_rom))]
+#[tactic(auto, unfolding(crate::specs::MapLaw::has_rom))]
 pub(crate) fn has_rom(zones: &[Zone], rom_len: u16) -> bool
     ensures { result ≡ has_rom rom_len zones.now }
 {

@@ -1,7 +1,9 @@
 // The address map of a board: zones, of which each address lies in exactly one.
 ghost use Rattle.std.specs.Prelude.{◌≡◌, IfOk, IfErr};
-ghost use Rattle.address_map.specs.AddressMap.{map_of, IsMap, IsFirstFault};
-ghost use Rattle.address_map.specs.Class.{class_of, cell_of, work_start};
+ghost use Rattle.address_map.specs.AddressMap.{map_of};
+ghost use Rattle.address_map.specs.MapLaw.{IsMap, IsFirstFault};
+ghost use Rattle.address_map.specs.Class.{class_of, cell_of};
+ghost use Rattle.address_map.specs.WorkRam.{work_start};
 
 use crate::cell::{Cell, RamKind};
 use crate::fault::MapFault;
@@ -20,7 +22,8 @@ pub struct Map {
 }
 
 impl Model for Map {
-    ghost use Rattle.address_map.specs.AddressMap.{AddressMap, IsMap, map_of};
+    ghost use Rattle.address_map.specs.AddressMap.{AddressMap, map_of};
+    ghost use Rattle.address_map.specs.MapLaw.{IsMap};
     ghost use Rattle.address_map.specs.Pages.{IsTable};
 
     ghost Value = { AddressMap };
@@ -134,7 +137,7 @@ impl Map {
     }
 
     /// The first address of work RAM, a multiple of 400h.
-    #[tactic(auto, unfolding(crate::specs::Class::work_start))]
+    #[tactic(auto, unfolding(crate::specs::WorkRam::work_start))]
     pub fn work_start(&self) -> u16
         ensures { result ≡ work_start self.now }
     {

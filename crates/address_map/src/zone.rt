@@ -1,6 +1,7 @@
 // A zone of an address map: its addresses, and what they are for reading and for writing.
 ghost use Rattle.std.specs.Prelude.{◌≡◌, ◌<◌};
-ghost use Rattle.address_map.specs.Zone.{in_zone, reaches, class_in, write_class, upper_latch, names_work, fits_ram, names_rom, fits_rom, no_zone};
+ghost use Rattle.address_map.specs.Zone.{in_zone, class_in, write_class, upper_latch, no_zone};
+ghost use Rattle.address_map.specs.ZoneUse.{reaches, names_work, fits_ram, names_rom, fits_rom};
 
 use crate::cell::RamKind;
 use crate::map::{Class, ReadClass, WriteClass};

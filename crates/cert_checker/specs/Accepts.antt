@@ -1,7 +1,7 @@
 -- When a certificate is accepted for a ROM, and what is told where it is not (docs/CHECKER.md).
 use Rattle.std.specs.Prelude.{ℕ, ◌<◌, ◌≤◌, ◌+◌, ◌-◌, ◌≡◌, true, false, List, Option, Some, None, All, length, slice_get, take}
 use Rattle.address_map.specs.AddressMap.{AddressMap}
-use Rattle.address_map.specs.Class.{work_start}
+use Rattle.address_map.specs.WorkRam.{work_start}
 use Rattle.address_map.specs.declared.region.Region.{Region}
 use Rattle.certificate.specs.Contents.{Contents}
 use Rattle.certificate.specs.declared.contents.Mode.TheVariants.{Unset}

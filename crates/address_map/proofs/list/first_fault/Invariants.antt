@@ -1,5 +1,5 @@
 use Rattle.std.proofs.Common.{◌≡◌, ◌≢◌, ◌<◌, ◌≤◌, ℕ, get_or}
-use Rattle.address_map.specs.AddressMap.{zones_at}
+use Rattle.address_map.specs.MapLaw.{zones_at}
 use Rattle.address_map.specs.Zone.{no_zone}
 use Rattle.address_map.proofs.FaultLemmas.{EdgesBelow, Known}
 use Rattle.address_map.proofs.list.first_fault.Given as goal

@@ -1,6 +1,6 @@
 use Rattle.std.proofs.Common.{◌≡◌, ◌<◌, ℕ, get_or, length}
 use Rattle.std.specs.List.{position_or_len}
-use Rattle.address_map.specs.Zone.{reaches}
+use Rattle.address_map.specs.ZoneUse.{reaches}
 use Rattle.address_map.proofs.list.pages_of.Given as goal
 
 abbrev pub invariant-loop-page : goal.invariant-loop-page

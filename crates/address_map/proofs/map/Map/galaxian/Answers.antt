@@ -1,6 +1,7 @@
 use Rattle.std.proofs.Common.{refl, ◌∙◌}
 use Rattle.address_map.proofs.BoardLemmas.{galaxian_is_map}
-use Rattle.address_map.specs.AddressMap.{IsMap, map_of}
+use Rattle.address_map.specs.AddressMap.{map_of}
+use Rattle.address_map.specs.MapLaw.{IsMap}
 use Rattle.address_map.specs.Boards.{galaxian}
 use Rattle.address_map.proofs.map.Map.galaxian.Goals as goal
 

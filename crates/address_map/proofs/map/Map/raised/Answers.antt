@@ -1,6 +1,7 @@
 use Rattle.std.proofs.Common.{refl, ◌∙◌}
 use Rattle.address_map.proofs.BoardLemmas.{raised_is_map}
-use Rattle.address_map.specs.AddressMap.{IsMap, map_of}
+use Rattle.address_map.specs.AddressMap.{map_of}
+use Rattle.address_map.specs.MapLaw.{IsMap}
 use Rattle.address_map.specs.Boards.{raised}
 use Rattle.address_map.proofs.map.Map.raised.Goals as goal
 
