@@ -35,7 +35,7 @@ def reached():
 def main():
     trusted = reached()
     wrong = 0
-    total = 0
+    total = pins = 0
     for path in sorted(CRATES.glob("*/specs/*.antt")):
         head = path.read_text().split("\n", 1)[0]
         if head.startswith("-- Trusted") != (path in trusted):
@@ -43,9 +43,12 @@ def main():
             wrong += 1
     for path in sorted(trusted):
         lines = sum(1 for line in path.read_text().splitlines() if line.strip() and not line.startswith("use "))
-        total += lines
+        if "only pin" in path.read_text().split("\n", 1)[0]:
+            pins += lines
+        else:
+            total += lines
         print(f"{lines:5} {path.relative_to(CRATES)}")
-    print(f"{total:5} lines in {len(trusted)} files, without blank lines and imports")
+    print(f"{total:5} lines, and {pins} that only pin enums of the code, in {len(trusted)} files, without blank lines and imports")
     sys.exit(1 if wrong else 0)
 
 
