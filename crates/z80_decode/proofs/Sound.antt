@@ -5,7 +5,7 @@ use Rattle.z80_decode.specs.declared.operands.Index.{Index}
 use Rattle.z80_decode.specs.declared.operands.Index.TheVariants as indexes
 use Rattle.z80_decode.specs.declared.instr.Instr.{Instr}
 use Rattle.z80_decode.specs.Operands.{prefix}
-use Rattle.z80_decode.specs.Codes.{place_of}
+use Rattle.z80_decode.specs.Codes.{place_coded}
 use Rattle.z80_decode.specs.Spelling.{spelling}
 use Rattle.z80_decode.specs.UnprefixedPage.{unprefixed}
 use Rattle.z80_decode.specs.CbPage.{behind_cb}
@@ -32,8 +32,8 @@ IsSound window found = spelled found ≡ cut window found
 unprefixed_sound : (w d op : ℕ) → op < 256 → spelled (unprefixed op (w % 256) w) ≡ cut (op ∷ w % 256 ∷ w / 256 ∷ d ∷ []) (unprefixed op (w % 256) w)
 unprefixed_sound w d = each_below (λ op. spelled (unprefixed op (w % 256) w)) (λ op. cut (op ∷ w % 256 ∷ w / 256 ∷ d ∷ []) (unprefixed op (w % 256) w)) 256 refl
 
-cb_sound : (c d op : ℕ) → op < 256 → spelled (behind_cb op (place_of (op % 8))) ≡ cut (0xCB ∷ op ∷ c ∷ d ∷ []) (behind_cb op (place_of (op % 8)))
-cb_sound c d = each_below (λ op. spelled (behind_cb op (place_of (op % 8)))) (λ op. cut (0xCB ∷ op ∷ c ∷ d ∷ []) (behind_cb op (place_of (op % 8)))) 256 refl
+cb_sound : (c d op : ℕ) → op < 256 → spelled (behind_cb op (place_coded (op % 8))) ≡ cut (0xCB ∷ op ∷ c ∷ d ∷ []) (behind_cb op (place_coded (op % 8)))
+cb_sound c d = each_below (λ op. spelled (behind_cb op (place_coded (op % 8)))) (λ op. cut (0xCB ∷ op ∷ c ∷ d ∷ []) (behind_cb op (place_coded (op % 8)))) 256 refl
 
 ed_sound : (w op : ℕ) → op < 256 → spelled (behind_ed op w) ≡ cut (0xED ∷ op ∷ w % 256 ∷ w / 256 ∷ []) (behind_ed op w)
 ed_sound w = each_below (λ op. spelled (behind_ed op w)) (λ op. cut (0xED ∷ op ∷ w % 256 ∷ w / 256 ∷ []) (behind_ed op w)) 256 refl

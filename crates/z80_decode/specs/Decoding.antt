@@ -5,7 +5,7 @@ use Rattle.z80_decode.specs.declared.operands.Index.TheVariants as indexes
 use Rattle.z80_decode.specs.declared.operands.Memory.TheVariants as memories
 use Rattle.z80_decode.specs.declared.operands.Place.TheVariants as places
 use Rattle.z80_decode.specs.declared.instr.Instr.{Instr}
-use Rattle.z80_decode.specs.Codes.{place_of}
+use Rattle.z80_decode.specs.Codes.{place_coded}
 use Rattle.z80_decode.specs.UnprefixedPage.{unprefixed}
 use Rattle.z80_decode.specs.CbPage.{behind_cb}
 use Rattle.z80_decode.specs.EdPage.{behind_ed}
@@ -23,7 +23,7 @@ indexed index second third fourth =
 
 abbrev pub decoded : ℕ → ℕ → ℕ → ℕ → Option Instr
 decoded first second third fourth =
-    if first == 0xCB then behind_cb second (place_of (second % 8)) else (
+    if first == 0xCB then behind_cb second (place_coded (second % 8)) else (
     if first == 0xDD then indexed indexes.Ix second third fourth else (
     if first == 0xED then behind_ed second (word_from third fourth) else (
     if first == 0xFD then indexed indexes.Iy second third fourth else

@@ -9,7 +9,7 @@ use Rattle.z80_decode.specs.declared.operands.Pointer.TheVariants as pointers
 use Rattle.z80_decode.specs.declared.kinds.AccumulatorRotate.TheVariants as rotates
 use Rattle.z80_decode.specs.declared.instr.Instr.{Instr}
 use Rattle.z80_decode.specs.declared.instr.Instr.TheVariants as instrs
-use Rattle.z80_decode.specs.Codes.{place_of, word_of, stack_pair_of, pair_of}
+use Rattle.z80_decode.specs.Codes.{place_coded, word_of, stack_pair_of, pair_of}
 use Rattle.z80_decode.specs.Codes.{condition_of, short_condition_of, operation_of, restart_of}
 
 -- 00 yyy 000
@@ -52,9 +52,9 @@ first_quarter y z byte word =
     if z == 1 then (if y % 2 == 0 then instrs.LoadPair (word_of (y / 2)) word else instrs.AddHl (pair_of (y / 2))) else (
     if z == 2 then indirect_load y word else (
     if z == 3 then (if y % 2 == 0 then instrs.IncrementPair (word_of (y / 2)) else instrs.DecrementPair (word_of (y / 2))) else (
-    if z == 4 then instrs.Increment (place_of y) else (
-    if z == 5 then instrs.Decrement (place_of y) else (
-    if z == 6 then instrs.LoadImmediate (place_of y) byte else
+    if z == 4 then instrs.Increment (place_coded y) else (
+    if z == 5 then instrs.Decrement (place_coded y) else (
+    if z == 6 then instrs.LoadImmediate (place_coded y) byte else
     on_accumulator y))))))
 
 -- 01 yyy zzz
@@ -107,6 +107,6 @@ last_quarter y z byte word =
 abbrev pub unprefixed : ℕ → ℕ → ℕ → Option Instr
 unprefixed code byte word =
     if code / 64 == 0 then Some (first_quarter (code / 8 % 8) (code % 8) byte word) else (
-    if code / 64 == 1 then Some (load (place_of (code / 8 % 8)) (place_of (code % 8))) else (
-    if code / 64 == 2 then Some (instrs.Arithmetic (operation_of (code / 8 % 8)) (operands.Place (place_of (code % 8)))) else
+    if code / 64 == 1 then Some (load (place_coded (code / 8 % 8)) (place_coded (code % 8))) else (
+    if code / 64 == 2 then Some (instrs.Arithmetic (operation_of (code / 8 % 8)) (operands.Place (place_coded (code % 8)))) else
     last_quarter (code / 8 % 8) (code % 8) byte word))

@@ -1,6 +1,6 @@
 // The operands of instructions: registers, pairs, places in memory.
 ghost use Rattle.std.specs.Prelude.{◌≡◌};
-ghost use Rattle.z80_decode.specs.Codes.{register_of, place_of, word_of, stack_pair_of, pair_of};
+ghost use Rattle.z80_decode.specs.Codes.{register_of, place_coded, word_of, stack_pair_of, pair_of};
 
 /// A general register of eight bits (UM0080, "Z80 Register Configuration").
 #[derive(Clone, Copy)]
@@ -138,7 +138,7 @@ impl Register8 {
 impl Place {
     /// The register with a code of three bits, or (HL).
     pub(crate) fn of(code: u8) -> Place
-        ensures { result ≡ place_of code }
+        ensures { result ≡ place_coded code }
     {
         match Register8::of(code) {
             Some(register) => Place::Register(register),
