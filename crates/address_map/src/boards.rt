@@ -98,7 +98,8 @@ impl Map {
     pub fn galaxian(rom_len: u16) -> Map
         requires some { 1 ≤ rom_len }
         requires fits { rom_len ≤ 0x4000 }
-        ensures { result ≡ galaxian rom_len }
+        ensures value { result ≡ galaxian rom_len }
+        ensures length { result.rom_len ≡ rom_len }
     {
         Map::made(with_rom(rom_len, &galaxian_zones()), rom_len)
     }
@@ -108,7 +109,8 @@ impl Map {
     pub fn raised(rom_len: u16) -> Map
         requires some { 1 ≤ rom_len }
         requires fits { rom_len ≤ 0x4000 }
-        ensures { result ≡ raised rom_len }
+        ensures value { result ≡ raised rom_len }
+        ensures length { result.rom_len ≡ rom_len }
     {
         Map::made(with_rom(rom_len, &raised_zones()), rom_len)
     }

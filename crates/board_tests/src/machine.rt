@@ -114,7 +114,6 @@ fn all_starts() -> Starts {
 }
 
 // The Galaxian board's map for a ROM.
-#[tactic(auto, unfolding(address_map::specs::Boards::galaxian))]
 pub(crate) fn map_for(rom: &Rom) -> Map
     ensures { result.rom_len ≡ length rom.now }
 {
