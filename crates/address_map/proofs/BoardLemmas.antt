@@ -1,10 +1,8 @@
 -- The maps of the boards keep the law, and their classes are those of the tables.
 use Rattle.std.specs.Prelude.{if◌then◌else◌}
-use Rattle.std.proofs.Common.{◌≡◌, ◌≤◌, ◌<◌, ◌+◌, ◌-◌, ◌%◌, ℕ, zero, suc, Bool, true, false, inl, inr, List, [], ◌∷◌, refl, sym, ◌∙◌, ap, subst, arith, lit≤, nat_lt, nat_le, ◌&&◌, ◌||◌, not, ◌↔◌, ◌==◌}
-use Rattle.std.proofs.Math.Bool.{cond}
+use Rattle.std.proofs.Common.{◌≡◌, ◌≤◌, ◌<◌, ◌+◌, ◌-◌, ◌%◌, ℕ, suc, Bool, true, false, inl, inr, List, [], ◌∷◌, refl, sym, ◌∙◌, ap, subst, arith, lit≤, nat_lt, ◌&&◌, ◌||◌, not, ◌↔◌, ◌==◌}
 use Rattle.std.specs.List.{count_by, list_all, list_any}
-use Rattle.std.proofs.lemmas.List.Sums.{sum_by-cons}
-use Rattle.std.proofs.lemmas.Bool.{cases_Bool, cases_lt, le-leb, lt-leb, lt-ltb, le-ltb, ltb-true, ltb-false, leb-true, eqb-true, and_parts, and_from, and_left, and_right, eq-eqb}
+use Rattle.std.proofs.lemmas.Bool.{cases_Bool, cases_lt, le-leb, lt-leb, lt-ltb, le-ltb, leb-true, eqb-true, and_parts, and_from, and_left, and_right, eq-eqb}
 use Rattle.address_map.proofs.Laws.{no_class}
 use Rattle.address_map.proofs.MapLemmas.{class_of-in, zone_of, class-enable, enable-class}
 use Rattle.address_map.proofs.ZoneLemmas.{In-all, In-from-any, count-yes, count-no}

@@ -1,18 +1,17 @@
 -- The laws of an address map: all that crates above need of `class_of`, `work_start` and `work_last`, each under `IsMap`.
-use Rattle.std.proofs.Common.{◌≡◌, ◌≢◌, ◌≤◌, ◌<◌, ◌+◌, ◌%◌, ◌↔◌, ◌⊎◌, inl, inr, ℕ, Bool, true, false, List, refl, sym, ◌∙◌, ap, subst, arith, nat_lt, nat_le, Option, Some, None, ◌==◌, ◌&&◌, ◌||◌, not}
-use Rattle.std.specs.List.{count_by, list_all}
-use Rattle.std.proofs.lemmas.Bool.{cases_Bool, and_parts, or_cases, and_from, leb-true, le-leb, ltb-true, eqb-true, or_left, or_right, cases_lt}
+use Rattle.std.proofs.Common.{◌≡◌, ◌≢◌, ◌≤◌, ◌<◌, ◌+◌, ◌%◌, ◌↔◌, inl, inr, ℕ, true, refl, sym, ◌∙◌, ap, subst, arith, nat_le, Some, ◌==◌, ◌&&◌, ◌||◌}
+use Rattle.std.specs.List.{count_by}
+use Rattle.std.proofs.lemmas.Bool.{cases_Bool, and_parts, or_cases, and_from, leb-true, le-leb, eqb-true, or_left, or_right, cases_lt}
 use Rattle.address_map.proofs.MapLemmas.{HasZone, class_of-in, zone_of, zone_ends}
 use Rattle.address_map.proofs.ZoneLemmas.{In, In-all, first_zone-only, first_zone-in, first_zone-passes, first_zone-none}
 use Rattle.address_map.specs.AddressMap.{AddressMap}
 use Rattle.address_map.specs.MapLaw.{IsMap, has_work, has_rom}
 use Rattle.address_map.specs.Class.{class_of, cell_of, cell_of_class}
 use Rattle.address_map.specs.WorkRam.{work_start, work_last}
-use Rattle.address_map.specs.Zone.{in_zone, class_in, write_class, first_zone, no_zone}
+use Rattle.address_map.specs.Zone.{in_zone, class_in, write_class, first_zone}
 use Rattle.address_map.specs.ZoneUse.{names_work, fits_ram, one_ram, same_kind, names_rom, fits_rom, reads_rom, writes_rom, reads_work, writes_work}
 use Rattle.address_map.specs.declared.cell.RamKind.{RamKind}
 use Rattle.address_map.specs.declared.cell.RamKind.TheVariants.{Work, Video, Object}
-use Rattle.address_map.specs.declared.map.Class.{Class}
 use Rattle.address_map.specs.declared.map.ReadClass.{ReadClass}
 use Rattle.address_map.specs.declared.map.ReadClass.TheVariants as reads
 use Rattle.address_map.specs.declared.map.WriteClass.TheVariants as writes

@@ -1,9 +1,8 @@
 -- The table by the high bits of an address: no zone before the one that it names holds such an address.
-use Rattle.std.proofs.Common.{◌≡◌, ◌≢◌, ◌≤◌, ◌<◌, ◌+◌, ◌/◌, ℕ, get_or, zero, suc, Bool, true, false, ◌⊎◌, inl, inr, List, [], ◌∷◌, length, take, drop, length-drop, ◌-◌, refl, sym, ◌∙◌, ap, arith, one-add, Option, Some, None, nat_lt, nat_le, not, ◌&&◌}
-use Rattle.std.proofs.Math.Bool.{cond}
+use Rattle.std.proofs.Common.{◌≡◌, ◌≤◌, ◌<◌, ◌/◌, ℕ, get_or, false, inl, inr, List, [], ◌∷◌, length, take, drop, length-drop, ◌-◌, refl, sym, ◌∙◌, ap, arith, one-add, Some, None, nat_lt}
 use Rattle.std.proofs.Math.Seq.{take-length}
-use Rattle.std.specs.List.{position_or_len, position, prefix_len}
-use Rattle.std.proofs.lemmas.Bool.{cases_Bool, ltb-true, ltb-false}
+use Rattle.std.specs.List.{position_or_len, position}
+use Rattle.std.proofs.lemmas.Bool.{cases_Bool, ltb-false}
 use Rattle.std.proofs.lemmas.Bool.Decides.{nat_tests}
 use Rattle.address_map.specs.Pages.{IsTable}
 use Rattle.address_map.specs.Zone.{in_zone, first_zone}

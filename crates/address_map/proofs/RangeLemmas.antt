@@ -1,15 +1,15 @@
 -- What the zones of a map say of the addresses of a range.
-use Rattle.std.proofs.Common.{◌≡◌, ◌≤◌, ◌<◌, ◌+◌, ◌-◌, ◌*◌, ◌/◌, ◌%◌, ◌↔◌, ℕ, min, max, Bool, true, false, ◌⊎◌, inl, inr, List, refl, sym, ◌∙◌, ap, subst, arith, nat_lt, nat_le, Option, Some, None, ◌==◌, ◌&&◌}
+use Rattle.std.proofs.Common.{◌≡◌, ◌≤◌, ◌<◌, ◌+◌, ◌-◌, ◌%◌, ◌↔◌, ℕ, Bool, true, inl, inr, sym, ◌∙◌, ap, subst, arith, Some}
 use Rattle.std.specs.List.{list_any}
 use Rattle.std.proofs.lemmas.Bool.{and_parts, and_from, leb-true, le-leb, lt-ltb, ltb-true, eq-eqb, cases_lt}
-use Rattle.address_map.proofs.MapLemmas.{class_of-in, zone_of, zone_ends, rom-class, class-rom, open-class, class-open, enable-class, class-enable, work-cell, cell-work}
-use Rattle.address_map.proofs.ZoneLemmas.{In, In-any, In-from-any}
+use Rattle.address_map.proofs.MapLemmas.{class_of-in, zone_of, rom-class, class-rom, open-class, class-open, enable-class, class-enable, work-cell, cell-work}
+use Rattle.address_map.proofs.ZoneLemmas.{In-any, In-from-any}
 use Rattle.address_map.specs.AddressMap.{AddressMap}
 use Rattle.address_map.specs.MapLaw.{IsMap}
 use Rattle.address_map.specs.Class.{class_of, cell_of, cell_of_class}
 use Rattle.address_map.specs.Ranges.{SomeWrite, SomeAtCell, SomeInRegion}
 use Rattle.address_map.specs.Shared.{rom_in, unmapped_in, enable_in, cell_in, share_cell, low_in, high_in}
-use Rattle.address_map.specs.Zone.{in_zone, class_in, write_class}
+use Rattle.address_map.specs.Zone.{in_zone, class_in}
 use Rattle.address_map.specs.declared.cell.RamKind.TheVariants.{Work}
 use Rattle.address_map.specs.declared.map.Class.{Class}
 use Rattle.address_map.specs.declared.map.WriteClass.TheVariants as writes

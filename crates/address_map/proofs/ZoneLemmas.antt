@@ -1,13 +1,10 @@
 -- Lists of zones: which zones are in them, how many pass a test, and the first that does.
-use Rattle.std.proofs.Common.{◌≡◌, ◌≢◌, ◌≤◌, ◌<◌, ◌+◌, ℕ, zero, suc, Bool, true, false, ◌⊎◌, inl, inr, List, [], ◌∷◌, length, get_or, drop, refl, sym, ◌∙◌, ap, subst, arith, add-one, drop-cons, nat_lt, nat_le, ◌&&◌, ◌||◌}
+use Rattle.std.proofs.Common.{◌≡◌, ◌≤◌, ◌<◌, ◌+◌, ℕ, suc, Bool, true, false, ◌⊎◌, inl, inr, List, [], ◌∷◌, length, get_or, drop, refl, sym, ◌∙◌, ap, subst, arith, add-one, drop-cons}
 use Rattle.std.proofs.Math.Bool.{cond}
 use Rattle.std.specs.List.{count_by, list_any, list_all}
 use Rattle.std.proofs.lemmas.List.Sums.{sum_by-cons}
-use Rattle.std.proofs.lemmas.Bool.{cases_Bool, and_parts, or_cases, or_left, or_right, and_from, leb-true, ltb-true, le-leb}
-use Rattle.address_map.specs.AddressMap.{AddressMap}
-use Rattle.address_map.specs.MapLaw.{IsMap, zones_at, has_work, has_rom}
-use Rattle.address_map.specs.Class.{class_of}
-use Rattle.address_map.specs.Zone.{in_zone, first_zone, no_zone, class_in}
+use Rattle.std.proofs.lemmas.Bool.{cases_Bool, and_parts, or_cases, or_left, or_right}
+use Rattle.address_map.specs.Zone.{first_zone, no_zone}
 use Rattle.address_map.specs.declared.zone.Zone.{Zone}
 
 -- a zone is one of a list

@@ -1,5 +1,5 @@
 -- Helper: the address maps of the boards (docs/BOARD.md, "Addresses"), as zones and as tables.
-use Rattle.std.specs.Prelude.{ℕ, ◌-◌, ◌%◌, if◌then◌else◌, nat_lt, List, [], ◌∷◌, ◌++◌}
+use Rattle.std.specs.Prelude.{ℕ, ◌-◌, ◌%◌, if◌then◌else◌, nat_lt, List, [], ◌∷◌}
 use Rattle.address_map.specs.AddressMap.{AddressMap, map_of}
 use Rattle.address_map.specs.Zone.{upper_latch}
 use Rattle.address_map.specs.declared.cell.RamKind.TheVariants.{Work, Video, Object}

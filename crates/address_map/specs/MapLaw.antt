@@ -6,7 +6,7 @@ use Rattle.address_map.specs.declared.fault.MapFault.TheVariants as faults
 use Rattle.address_map.specs.declared.zone.Zone.{Zone}
 use Rattle.address_map.specs.Zone.{in_zone}
 use Rattle.address_map.specs.ZoneUse.{names_work, fits_ram, names_rom, fits_rom}
-use Rattle.address_map.specs.AddressMap.{AddressMap, map_of}
+use Rattle.address_map.specs.AddressMap.{AddressMap}
 
 -- in how many zones an address lies
 unfoldable pub zones_at : List Zone → ℕ → ℕ

@@ -1,9 +1,6 @@
 -- Trusted: what one zone of an address map holds, and what its addresses read and write.
-use Rattle.std.specs.Prelude.{ℕ, ◌+◌, ◌%◌, ◌/◌, Bool, true, false, not, ◌&&◌, ◌||◌, nat_le, ◌==◌, if◌then◌else◌, List, [], ◌∷◌}
-use Rattle.address_map.specs.declared.cell.RamKind.{RamKind}
-use Rattle.address_map.specs.declared.cell.RamKind.TheVariants.{Work, Video, Object}
+use Rattle.std.specs.Prelude.{ℕ, ◌%◌, Bool, ◌&&◌, nat_le, ◌==◌, if◌then◌else◌, List, [], ◌∷◌}
 use Rattle.address_map.specs.declared.map.Class.{Class}
-use Rattle.address_map.specs.declared.map.ReadClass.{ReadClass}
 use Rattle.address_map.specs.declared.map.ReadClass.TheVariants as reads
 use Rattle.address_map.specs.declared.map.WriteClass.{WriteClass}
 use Rattle.address_map.specs.declared.map.WriteClass.TheVariants as writes

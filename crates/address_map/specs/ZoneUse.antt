@@ -1,16 +1,12 @@
 -- Helper: what is asked of the zones of a map.
-use Rattle.std.specs.Prelude.{ℕ, ◌+◌, ◌%◌, ◌/◌, Bool, true, false, not, ◌&&◌, ◌||◌, nat_le, ◌==◌, if◌then◌else◌, List, [], ◌∷◌}
+use Rattle.std.specs.Prelude.{ℕ, ◌+◌, ◌%◌, ◌/◌, Bool, true, false, not, ◌&&◌, ◌||◌, nat_le, ◌==◌}
 use Rattle.address_map.specs.declared.cell.RamKind.{RamKind}
 use Rattle.address_map.specs.declared.cell.RamKind.TheVariants.{Work, Video, Object}
-use Rattle.address_map.specs.declared.map.Class.{Class}
 use Rattle.address_map.specs.declared.map.ReadClass.{ReadClass}
 use Rattle.address_map.specs.declared.map.ReadClass.TheVariants as reads
-use Rattle.address_map.specs.declared.map.WriteClass.{WriteClass}
-use Rattle.address_map.specs.declared.map.WriteClass.TheVariants as writes
 use Rattle.address_map.specs.declared.zone.WriteUse.{WriteUse}
 use Rattle.address_map.specs.declared.zone.WriteUse.TheVariants as uses
 use Rattle.address_map.specs.declared.zone.Zone.{Zone}
-use Rattle.address_map.specs.Zone.{in_zone, upper_latch, write_class, class_in, no_zone, first_zone}
 
 -- whether an address with these eight high bits may lie in the zone
 abbrev pub reaches : ℕ → Zone → Bool

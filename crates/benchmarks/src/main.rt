@@ -43,7 +43,10 @@ fn print_order(rt: &HostRuntime, times: u64) -> io::Result<()> {
         return println!(rt; "out of memory");
     };
     let (procs, first, last) = call_order::answer(rt.alloc(), &calls, times);
-    println!(rt; "{} calls: {procs} procedures from {first} to {last}", calls.len())
+    println!(rt;
+        "{} calls: {procs} procedures from {first} to {last}",
+        calls.len()
+    )
 }
 
 fn print_circle(rt: &HostRuntime, times: u64) -> io::Result<()> {
@@ -51,7 +54,10 @@ fn print_circle(rt: &HostRuntime, times: u64) -> io::Result<()> {
         return println!(rt; "out of memory");
     };
     let (procs, first, last) = call_order::answer(rt.alloc(), &calls, times);
-    println!(rt; "{} calls: a circle of {procs} from {first} to {last}", calls.len())
+    println!(rt;
+        "{} calls: a circle of {procs} from {first} to {last}",
+        calls.len()
+    )
 }
 
 fn compare_steps(rt: &HostRuntime) -> io::Result<()> {

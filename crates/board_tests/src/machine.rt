@@ -42,25 +42,12 @@ fn set_of(af: u16, bc: u16, de: u16, hl: u16) -> RegisterSet {
 
 // AF BC DE HL IX IY SP AF' BC' DE' HL'
 fn regs_of(words: &[u16; 11]) -> Regs {
-    let [
-        af,
-        bc,
-        de,
-        hl,
-        ix,
-        iy,
-        sp,
-        other_af,
-        other_bc,
-        other_de,
-        other_hl,
-    ] = *words;
     Regs {
-        main: set_of(af, bc, de, hl),
-        alternate: set_of(other_af, other_bc, other_de, other_hl),
-        ix,
-        iy,
-        sp,
+        main: set_of(words[0], words[1], words[2], words[3]),
+        alternate: set_of(words[7], words[8], words[9], words[10]),
+        ix: words[4],
+        iy: words[5],
+        sp: words[6],
         ..Regs::default()
     }
 }

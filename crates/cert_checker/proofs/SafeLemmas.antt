@@ -11,7 +11,7 @@ use Rattle.board_step.specs.Reset.{IsReset}
 use Rattle.board_step.specs.Run.{Run}
 use Rattle.board_step.specs.Safe.{Safe}
 use Rattle.board_step.specs.State.{State}
-use Rattle.board_step.specs.Step.{Step, Executes, done, ticked, t_of}
+use Rattle.board_step.specs.Step.{Step, done, ticked, t_of}
 use Rattle.board_step.specs.Trap.{Traps}
 use Rattle.board_step.specs.declared.env.Env.{Env}
 use Rattle.board_step.specs.declared.event.Event.{Event}

@@ -80,7 +80,9 @@ fn lies_in_work_ram(map: &Map, region: Region) -> bool
     ensures { IsTrue result ↔ FitsWorkRam map.now region }
 {
     let start = map.work_start();
-    start <= region.low && region.low < region.top && u32::from(region.top) <= u32::from(start) + 0x400
+    start <= region.low
+        && region.low < region.top
+        && u32::from(region.top) <= u32::from(start) + 0x400
 }
 
 fn stack_size(region: Region) -> u16

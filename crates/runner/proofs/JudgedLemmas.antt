@@ -1,12 +1,12 @@
 -- A line is judged when enough of it was read.
-use Rattle.std.proofs.Common.{◌≡◌, ◌<◌, ◌≤◌, ◌+◌, ◌⊎◌, inl, inr, ℕ, Bool, true, false, IsTrue, if◌then◌else◌, List, [], ◌∷◌, ◌++◌, Option, Some, None, IfSome, IsSome, length, map, flat_map, refl, sym, ap, subst, ◌∙◌, append_assoc, arith, length-append}
+use Rattle.std.proofs.Common.{◌≡◌, ◌+◌, inl, inr, ℕ, Bool, true, false, IsTrue, if◌then◌else◌, List, [], ◌∷◌, ◌++◌, Option, Some, None, IsSome, length, map, refl, sym, ap, subst, ◌∙◌, append_assoc, arith, length-append}
 use Rattle.std.specs.List.{AllByRecursion}
 use Rattle.std.proofs.lemmas.List.{append-nil}
 use Rattle.arrayvec.specs.ArrayVec.{ArrayVec}
 use Rattle.certificate.specs.Device.{Gives}
 use Rattle.runner.specs.Input.{IsResetLine, IsEnvLine, reset_text, env_text}
-use Rattle.runner.specs.Pending.{Unused, EndsWell, GivesLine, HasFeed, HasNoFeed, IsEnough, TakesEnough, left_of}
-use Rattle.runner.specs.Playing.{IsJudged, WasJudged, text_of, with_feeds}
+use Rattle.runner.specs.Pending.{Unused, EndsWell, GivesLine, HasNoFeed, IsEnough, TakesEnough, left_of}
+use Rattle.runner.specs.Playing.{WasJudged, text_of, with_feeds}
 use Rattle.runner.specs.declared.input.EnvLine.{EnvLine}
 use Rattle.runner.specs.declared.input.ResetLine.{ResetLine}
 use Rattle.runner.specs.declared.pending.Line.TheVariants.{Text, Bad, End}

@@ -1,5 +1,5 @@
 -- The constants of an instruction are in range, since its bytes are.
-use Rattle.std.proofs.Common.{◌≡◌, ◌<◌, ◌+◌, ◌*◌, ◌/◌, ℕ, suc, List, [], ◌∷◌, ◌++◌, drop, get_or, Ok, refl, sym, subst, arith, lit<}
+use Rattle.std.proofs.Common.{◌<◌, ◌*◌, ◌/◌, ℕ, List, [], ◌∷◌, arith, lit<}
 use Rattle.z80_decode.specs.Kinds.{restart}
 use Rattle.z80_decode.specs.Spelling.{spelling}
 use Rattle.z80_decode.specs.declared.instr.Instr.{Instr}

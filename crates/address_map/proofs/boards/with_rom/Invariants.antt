@@ -1,4 +1,4 @@
-use Rattle.std.proofs.Common.{◌≡◌, ◌++◌, take}
+use Rattle.std.proofs.Common.{◌≡◌, take}
 use Rattle.address_map.specs.Boards.{with_rom}
 use Rattle.address_map.proofs.boards.with_rom.Given as goal
 

@@ -1,7 +1,6 @@
 use Rattle.std.proofs.Common.{refl, ap, ◌∙◌}
 use Rattle.address_map.proofs.BoardLemmas.{galaxian_is_map}
-use Rattle.address_map.specs.AddressMap.{AddressMap, map_of}
-use Rattle.address_map.specs.MapLaw.{IsMap}
+use Rattle.address_map.specs.AddressMap.{AddressMap}
 use Rattle.address_map.specs.Boards.{galaxian}
 use Rattle.address_map.proofs.map.Map.galaxian.Goals as goal
 

@@ -1,7 +1,6 @@
 use Rattle.std.proofs.Common.{refl, ap, ◌∙◌}
 use Rattle.address_map.proofs.BoardLemmas.{raised_is_map}
-use Rattle.address_map.specs.AddressMap.{AddressMap, map_of}
-use Rattle.address_map.specs.MapLaw.{IsMap}
+use Rattle.address_map.specs.AddressMap.{AddressMap}
 use Rattle.address_map.specs.Boards.{raised}
 use Rattle.address_map.proofs.map.Map.raised.Goals as goal
 

@@ -1,4 +1,4 @@
-use Rattle.std.proofs.Common.{◌≡◌, ℕ, List, length, sym, ap, subst, ◌∙◌}
+use Rattle.std.proofs.Common.{◌≡◌, ℕ, List, length, ap, subst, ◌∙◌}
 use Rattle.address_map.specs.AddressMap.{AddressMap}
 use Rattle.address_map.proofs.BoardLemmas.{galaxian_rom_len}
 use Rattle.certificate.specs.Contents.{Contents}

@@ -1,4 +1,4 @@
-use Rattle.std.proofs.Common.{◌≡◌, ◌<◌, Ok, true, false, length, arith, ap, sym, rules, ◌∙◌}
+use Rattle.std.proofs.Common.{◌≡◌, ◌<◌, Ok, true, false, length, ap, sym, rules, ◌∙◌}
 use Rattle.runner.proofs.PendingLemmas.{still_none, told_on}
 use Rattle.runner.proofs.pending.Pending.refill.Goals as goal
 
