@@ -12,7 +12,7 @@ cc -O2 -o "$work/libz80ex" "$here/libz80ex.c" -lz80ex
 ours=$here/../crates/benchmarks/out/benchmarks
 theirs=$work/libz80ex
 
-[ "$("$ours" 1000 < /dev/null | sed -n '1s/.*traps, //p')" = "$("$theirs" 1000)" ] || { echo "the two differ" >&2; exit 1; }
+[ "$("$ours" 1000 < /dev/null | head -1)" = "$("$theirs" 1000)" ] || { echo "the two differ" >&2; exit 1; }
 
 # The processor time of a command, in seconds.
 TIMEFORMAT=%U

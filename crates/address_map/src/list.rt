@@ -1,9 +1,9 @@
 // What is asked of a list of zones.
-ghost use Rattle.std.specs.Prelude.{◌≡◌, ◌≢◌, ◌≤◌, ◌<◌, ◌+◌, ◌/◌, nat_lt, true, length};
-ghost use Rattle.std.specs.List.{count_by, list_all, position, position_or_len};
+ghost use Rattle.std.specs.Prelude.{◌≡◌, ◌≢◌, ◌≤◌, ◌<◌, ◌/◌, nat_lt, true, get_or};
+ghost use Rattle.std.specs.List.{count_by, list_all};
 ghost use Rattle.address_map.specs.MapLaw.{OneZoneBelow, zones_at, has_work, has_rom};
 ghost use Rattle.address_map.specs.Pages.{IsTable};
-ghost use Rattle.address_map.specs.Zone.{first_zone, in_zone, class_in};
+ghost use Rattle.address_map.specs.Zone.{first_zone, in_zone, class_in, no_zone};
 ghost use Rattle.address_map.specs.ZoneUse.{names_work, names_rom, fits_ram, fits_rom, reaches};
 
 use crate::map::Class;
@@ -104,7 +104,6 @@ pub(crate) fn first_work(zones: &[Zone]) -> Zone
 }
 
 /// What an address reads and writes by the first of these zones that holds it; by none, it is open.
-#[inline]
 fn class_among(zones: &[Zone], address: u16) -> Class
     ensures { result ≡ class_in (first_zone (in_zone address) zones.now) address }
 {
@@ -116,54 +115,49 @@ fn class_among(zones: &[Zone], address: u16) -> Class
     Zone::default().class(address)
 }
 
-/// The number of the first zone that may hold an address, by the table.
+/// The first zone that may hold an address, by the table.
 #[inline]
-#[tactic(auto, using(crate::proofs::PageLemmas::position_within, crate::proofs::PageLemmas::table_says))]
-fn start(zones: &[Zone], pages: &[u8; 256], address: u16) -> usize
-    requires { IsTable zones.now pages.now }
-    ensures value { result ≡ position_or_len (reaches (address / 0x100)) zones.now }
-    ensures within { result ≤ length zones.now }
+fn zone_by(pages: &[Zone; 256], address: u16) -> &Zone
+    ensures { result.now ≡ get_or pages.now (address / 0x100) no_zone }
 {
-    usize::from(pages[usize::from(address / 0x100)])
+    &pages[usize::from(address / 0x100)]
 }
 
-/// What an address reads and writes by the first of these zones that holds it; by none, it is open.
+/// What an address reads and writes by the first of these zones that holds it; by none, it is open. The first zone that
+/// may hold it mostly does, and the table has it.
 #[inline]
-#[tactic(auto, using(crate::proofs::PageLemmas::search_from_page))]
-pub(crate) fn class_by(zones: &[Zone], pages: &[u8; 256], address: u16) -> Class
+#[tactic(auto, using(crate::proofs::PageLemmas::table_says, crate::proofs::PageLemmas::first_of_page))]
+pub(crate) fn class_by(zones: &[Zone], pages: &[Zone; 256], address: u16) -> Class
     requires { IsTable zones.now pages.now }
     ensures { result ≡ class_in (first_zone (in_zone address) zones.now) address }
 {
-    class_among(&zones[start(zones, pages, address)..], address)
-}
-
-/// The number of the first zone that may hold an address with these eight high bits.
-fn first_reaching(zones: &[Zone], page: u16) -> Option<usize>
-    ensures { result ≡ position (reaches page) zones.now }
-{
-    zones.iter().position(|zone| zone.reaches(page))
-}
-
-/// The same; the number of all zones where none may.
-#[tactic(auto, using(crate::proofs::PageLemmas::position_none))]
-fn page_start(zones: &[Zone], page: u16) -> u8
-    requires { length zones.now ≤ 16 }
-    ensures { result ≡ position_or_len (reaches page) zones.now }
-{
-    match first_reaching(zones, page) {
-        Some(first) => first as u8,
-        None => zones.len() as u8,
+    let zone = zone_by(pages, address);
+    if zone.holds(address) {
+        zone.class(address)
+    } else {
+        class_among(zones, address)
     }
 }
 
+/// The first zone that may hold an address with these eight high bits; one without addresses where none may.
+fn first_reaching(zones: &[Zone], page: u16) -> Zone
+    ensures { result ≡ first_zone (reaches page) zones.now }
+{
+    for zone in zones {
+        if zone.reaches(page) {
+            return *zone;
+        }
+    }
+    Zone::default()
+}
+
 /// The table by the high bits of an address.
-pub(crate) fn pages_of(zones: &[Zone]) -> [u8; 256]
-    requires { length zones.now ≤ 16 }
+pub(crate) fn pages_of(zones: &[Zone]) -> [Zone; 256]
     ensures { IsTable zones.now result }
 {
-    let mut pages = [0; 256];
+    let mut pages = [Zone::default(); 256];
     for page in 0..256u16 {
-        pages[usize::from(page)] = page_start(zones, page);
+        pages[usize::from(page)] = first_reaching(zones, page);
     }
     pages
 }

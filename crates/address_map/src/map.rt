@@ -18,7 +18,7 @@ use std::marker::Model;
 pub struct Map {
     zones: ArrayVec<Zone, 16>,
     rom_len: u16,
-    pages: [u8; 256],
+    pages: [Zone; 256],
 }
 
 impl Model for Map {

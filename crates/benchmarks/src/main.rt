@@ -4,6 +4,7 @@
 
 mod call_order;
 mod mixed_loop;
+mod steps;
 mod vectors;
 
 use std::{env, io};
@@ -26,8 +27,7 @@ fn counts(rt: &HostRuntime) -> [u64; 3] {
 fn main(rt: HostRuntime) -> io::Result<()> {
     let [events, orders, circles] = counts(&rt);
     if events > 0 {
-        let (traps, a, b) = mixed_loop::played(events);
-        println!(rt; "{traps} traps, A {a}, B {b}")?;
+        print_loop(&rt, events)?;
     }
     if orders > 0 {
         print_order(&rt, orders)?;
@@ -36,6 +36,13 @@ fn main(rt: HostRuntime) -> io::Result<()> {
         print_circle(&rt, circles)?;
     }
     compare_steps(&rt)
+}
+
+fn print_loop(rt: &HostRuntime, events: u64) -> io::Result<()> {
+    match mixed_loop::played(events) {
+        Some((a, b)) => println!(rt; "A {a}, B {b}"),
+        None => println!(rt; "a trap"),
+    }
 }
 
 fn print_order(rt: &HostRuntime, times: u64) -> io::Result<()> {

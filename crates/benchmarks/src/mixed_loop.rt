@@ -1,5 +1,6 @@
 // A mixed loop of loads, adds, calls, DJNZ and (IX+d) accesses, by the checked step.
 
+use crate::steps::last_step;
 use address_map::{Map, Region, Rom, Starts};
 use board_step::{Board, Env, Inputs, Profile, Reset};
 use z80_alu::Regs;
@@ -27,11 +28,9 @@ fn quiet() -> Env {
     }
 }
 
-/// What the loop leaves after so many events: how many of them trapped, A and B.
-pub fn played(events: u64) -> (u64, u8, u8) {
-    let Some(rom) = Rom::of(&PROGRAM) else {
-        return (0, 0, 0);
-    };
+/// What the loop leaves in A and B after so many events; None where one trapped.
+pub fn played(events: u64) -> Option<(u8, u8)> {
+    let rom = Rom::of(&PROGRAM)?;
     let map = Map::galaxian(rom.len());
     let mut starts = Starts::new();
     for at in 0..0x23 {
@@ -52,12 +51,8 @@ pub fn played(events: u64) -> (u64, u8, u8) {
         regs: Regs::default(),
         phase: 0,
     });
-    let env = quiet();
-    let mut traps: u64 = 0;
-    for _ in 0..events {
-        if board.step_checked(&rom, &profile, &env).is_err() {
-            traps = traps.wrapping_add(1);
-        }
+    match last_step(&mut board, &rom, &profile, &quiet(), events) {
+        Ok(_) => Some((board.regs().main.a, board.regs().main.b)),
+        Err(_) => None,
     }
-    (traps, board.regs().main.a, board.regs().main.b)
 }

@@ -8,6 +8,7 @@
 // of video RAM 5i + 1, modulo 256. The mask leaves out what the manual leaves open: bits 5 and 3 where flags change, H
 // after DAA, S and P/V after BIT, and P/V after LD A,I.
 
+use crate::steps::last_step;
 use address_map::{Map, RamKind, Region, Rom, Starts};
 use board_step::{Board, Env, Event, Inputs, Profile, Reset, Trap};
 use hex::FromHex;
@@ -22,7 +23,7 @@ pub fn row_of(line: &str) -> (Option<[u8; 58]>, &str) {
 /// Whether the step of a line is as the line says.
 pub fn agrees(row: &[u8; 58]) -> bool {
     let mut board = board_of(row);
-    let Ok(event) = stepped(&mut board, &row[..4]) else {
+    let Ok(Some(event)) = stepped(&mut board, &row[..4]) else {
         return false;
     };
     let mut words = words_of(&board.regs());
@@ -114,7 +115,7 @@ fn weighed(board: &Board) -> u32 {
 }
 
 // One step with the stack in 4380 to 43FF, 0000 the only start, and an environment of zeros.
-fn stepped(board: &mut Board, rom: &[u8]) -> Result<Event, Trap> {
+fn stepped(board: &mut Board, rom: &[u8]) -> Result<Option<Event>, Trap> {
     let Some(rom) = Rom::of(rom) else {
         return Err(Trap::FetchOutside);
     };
@@ -141,5 +142,5 @@ fn stepped(board: &mut Board, rom: &[u8]) -> Result<Event, Trap> {
         r: 0,
         latch: false,
     };
-    board.step_checked(&rom, &profile, &env)
+    last_step(board, &rom, &profile, &env, 1)
 }

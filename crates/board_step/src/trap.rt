@@ -1,6 +1,6 @@
 // The first trap of a draft.
 
-ghost use Rattle.std.specs.Prelude.{◌≡◌};
+ghost use Rattle.std.specs.Prelude.{◌≡◌, if◌then◌else◌, Some, None};
 ghost use Rattle.board_step.specs.Trap.{is_rom, is_unmapped, some_write, some_outside, trap_of_draft};
 
 use crate::profile::Trap;
@@ -8,33 +8,39 @@ use address_map::{Map, Region, WriteClass};
 use z80_draft::{Draft, StackAccess, Write};
 
 /// The first trap of a draft, or None where it may reach the board.
+#[inline]
 #[tactic(auto, unfolding(crate::specs::Trap::trap_of_draft))]
 pub fn trap_of(draft: &Draft, map: &Map, region: Region) -> Option<Trap>
     ensures { result ≡ trap_of_draft map.now region draft.now }
 {
-    if writes_rom(map, draft.writes()) {
-        Some(Trap::WriteRom)
-    } else if writes_unmapped(map, draft.writes()) {
+    match trap_of_writes(map, draft.writes()) {
+        Some(trap) => Some(trap),
+        None if leaves(region, draft.stack()) => Some(Trap::StackOutside),
+        None => None,
+    }
+}
+
+/// The first trap of these data writes.
+#[inline]
+fn trap_of_writes(map: &Map, writes: &[Write]) -> Option<Trap>
+    ensures { result ≡ (if some_write map.now is_rom writes.now then Some Trap.WriteRom else if some_write map.now is_unmapped writes.now then Some Trap.WriteUnmapped else None) }
+{
+    let mut unmapped = false;
+    for write in writes {
+        match map.class(write.at).write {
+            WriteClass::Rom => return Some(Trap::WriteRom),
+            WriteClass::Unmapped => unmapped = true,
+            _ => {}
+        }
+    }
+    if unmapped {
         Some(Trap::WriteUnmapped)
-    } else if leaves(region, draft.stack()) {
-        Some(Trap::StackOutside)
     } else {
         None
     }
 }
 
-fn writes_rom(map: &Map, writes: &[Write]) -> bool
-    ensures { result ≡ some_write map.now is_rom writes.now }
-{
-    writes.iter().any(|write| matches!(map.class(write.at).write, WriteClass::Rom))
-}
-
-fn writes_unmapped(map: &Map, writes: &[Write]) -> bool
-    ensures { result ≡ some_write map.now is_unmapped writes.now }
-{
-    writes.iter().any(|write| matches!(map.class(write.at).write, WriteClass::Unmapped))
-}
-
+#[inline]
 fn leaves(region: Region, accesses: &[StackAccess]) -> bool
     ensures { result ≡ some_outside region accesses.now }
 {

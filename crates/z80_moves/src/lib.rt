@@ -12,6 +12,6 @@ mod registers;
 mod table;
 
 pub use moves::{Move, Moves, Test};
-pub use operands::{byte_register, index_register};
+pub use operands::{byte_register, index_register, word_register};
 pub use registers::{ByteRegister, WordRegister};
 pub use table::{moves_for, moves_of_acceptance};

@@ -24,7 +24,8 @@ pub fn byte_register(register: Register8) -> ByteRegister
     }
 }
 
-pub(crate) fn word_register(pair: Register16) -> WordRegister
+/// The register that an operand names, as a word that a move takes or sets.
+pub fn word_register(pair: Register16) -> WordRegister
     ensures { result ≡ word_register pair }
 {
     match pair {
