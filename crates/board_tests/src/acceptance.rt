@@ -1,13 +1,13 @@
 // The NMI: when it is latched, when it is accepted, and what the flip-flop does. Expected values are worked by
 // hand from docs/BOARD.md; T-states are those of the instructions in docs/INSTRUCTIONS.md.
 
+ghost use Rattle.std.specs.Prelude.{◌<◌};
+ghost use Rattle.t_states.specs.Frame.{frame};
+
 use crate::machine::map_for;
 use address_map::{Cell, RamKind, Region, Rom, Starts};
 use board_step::{Board, Env, Event, Inputs, Kind, Profile, Reset, Trap};
-use std::alloc::Global;
-use std::process::Abort;
 use std::test::Fail;
-use t_states::FRAME;
 use z80_alu::Regs;
 
 const REGION: Region = Region {
@@ -32,8 +32,9 @@ fn env(latch: bool) -> Env {
 }
 
 /// A board right after a reset, whose RAM and registers are 0.
-fn board(rt: &impl Abort, phase: u32) -> Board {
-    assert!(rt; phase < FRAME);
+fn board(phase: u32) -> Board
+    requires { phase < frame }
+{
     Board::reset(&Reset {
         work: [0; 0x400],
         video: [0; 0x400],
@@ -43,52 +44,51 @@ fn board(rt: &impl Abort, phase: u32) -> Board {
     })
 }
 
-/// A main program from address 0 on, and an NMI routine at 0066.
-fn with_routine(alloc: Global, main: &[u8], routine: &[u8]) -> Result<Vec<u8>, Fail> {
-    let mut rom = Vec::from_slice(alloc, main)?;
-    for _ in main.len()..0x66 {
-        rom.push(0)?;
+/// A main program from address 0 on, and at 0066 the NMI routine NOP; JR to itself.
+fn with_routine(main: &[u8]) -> [u8; 0x69] {
+    let mut rom = [0; 0x69];
+    for (place, byte) in rom.iter_mut().zip(main) {
+        *place = *byte;
     }
-    rom.extend_from_slice(routine)?;
-    Ok(rom)
+    rom[0x67] = 0x18;
+    rom[0x68] = 0xFE;
+    rom
 }
 
-fn starts_at(rt: &impl Abort, addresses: &[u16]) -> Starts {
+fn starts_at(addresses: &[u16]) -> Starts {
     let mut starts = Starts::new();
     for address in addresses {
-        assert!(rt; *address < 0x4000);
-        starts.insert(*address);
+        if *address < 0x4000 {
+            starts.insert(*address);
+        }
     }
     starts
 }
 
-/// Steps through events that don't trap, and gives the last.
-fn steps(
-    rt: &impl Abort,
-    board: &mut Board,
-    rom: &[u8],
-    starts: &Starts,
-    latches: &[bool],
-) -> Result<Event, Fail> {
-    let rom = Rom::of(rom).ok_or("a ROM")?;
-    let map = map_for(&rom);
-    let profile = Profile {
-        map: &map,
-        starts,
-        region: REGION,
-    };
+/// Steps through events with these latches, and gives the last, or the first trap.
+fn steps(board: &mut Board, rom: &[u8], starts: &Starts, latches: &[bool]) -> Result<Event, Trap> {
     let mut last = Event {
         kind: Kind::Idle,
         at: 0,
         t: 0,
     };
-    for latch in latches {
-        match board.step_checked(&rom, &profile, &env(*latch)) {
-            Ok(event) => last = event,
-            Err(trap) => assert!(rt; false, "{trap:?}"),
+    if let Some(rom) = Rom::of(rom) {
+        let map = map_for(&rom);
+        let profile = Profile {
+            map: &map,
+            starts,
+            region: REGION,
+        };
+        for latch in latches {
+            last = board.step_checked(&rom, &profile, &env(*latch))?;
         }
     }
     Ok(last)
+}
+
+/// Whether an event is of this kind, at this address and of so many T-states.
+fn is(event: Event, kind: Kind, at: u16, t: u8) -> bool {
+    event.kind == kind && event.at == at && event.t == t
 }
 
 fn work_byte(board: &Board, index: u16) -> u8 {
@@ -101,20 +101,17 @@ const ENABLES: [u8; 10] = [0x31, 0x00, 0x44, 0x3E, 0x01, 0x32, 0x01, 0x70, 0x18,
 /// After events of 10, 7, 13 and 12 T-states from phase 50,650 the phase is 4, and the blank was met.
 #[test]
 fn an_nmi_is_accepted_after_the_blank(rt: HostRuntime) -> Result<(), Fail> {
-    let rom = with_routine(rt.alloc(), &ENABLES, &[0x00, 0x18, 0xFE])?;
-    let starts = starts_at(&rt, &[0, 3, 5, 8, 0x66, 0x67]);
-    let mut board = board(&rt, 50_650);
-    steps(&rt, &mut board, rom.as_slice(), &starts, &[false; 4])?;
-    assert_eq!(rt; board.phase(), 4);
-    let event = steps(&rt, &mut board, rom.as_slice(), &starts, &[false])?;
-    assert!(rt; event.kind == Kind::Accept);
-    assert_eq!(rt; event.at, 0x0008);
-    assert_eq!(rt; event.t, 11);
-    assert_eq!(rt; board.regs().sp, 0x43FE);
-    assert_eq!(rt; work_byte(&board, 0x3FE), 0x08);
-    assert_eq!(rt; work_byte(&board, 0x3FF), 0x00);
-    assert_eq!(rt; board.regs().pc, 0x0066);
-    assert_eq!(rt; board.phase(), 15);
+    let rom = with_routine(&ENABLES);
+    let starts = starts_at(&[0, 3, 5, 8, 0x66, 0x67]);
+    let mut board = board(50_650);
+    steps(&mut board, &rom, &starts, &[false; 4])?;
+    assert!(rt; board.phase() == 4);
+    let event = steps(&mut board, &rom, &starts, &[false])?;
+    assert!(rt; is(event, Kind::Accept, 0x0008, 11));
+    let regs = board.regs();
+    assert!(rt; regs.sp == 0x43FE && regs.pc == 0x0066);
+    assert!(rt; work_byte(&board, 0x3FE) == 0x08 && work_byte(&board, 0x3FF) == 0x00);
+    assert!(rt; board.phase() == 15);
     Ok(())
 }
 
@@ -122,25 +119,14 @@ fn an_nmi_is_accepted_after_the_blank(rt: HostRuntime) -> Result<(), Fail> {
 #[test]
 fn an_acceptance_outside_the_region_traps(rt: HostRuntime) -> Result<(), Fail> {
     let bytes = [0x3E, 0x01, 0x32, 0x01, 0x70, 0x18, 0xFE];
-    let starts = starts_at(&rt, &[0, 2, 5]);
-    let mut board = board(&rt, 50_660);
-    steps(&rt, &mut board, &bytes, &starts, &[false; 3])?;
+    let starts = starts_at(&[0, 2, 5]);
+    let mut board = board(50_660);
+    steps(&mut board, &bytes, &starts, &[false; 3])?;
     let (regs, phase) = (board.regs(), board.phase());
-    let rom = Rom::of(&bytes).ok_or("a ROM")?;
-    let map = map_for(&rom);
-    let profile = Profile {
-        map: &map,
-        starts: &starts,
-        region: REGION,
-    };
-    let trap = board.step_checked(&rom, &profile, &env(false)).err();
-    assert_eq!(rt; trap, Some(Trap::StackOutside));
-    assert!(rt; board.regs() == regs);
-    assert_eq!(rt; board.phase(), phase);
+    assert!(rt; steps(&mut board, &bytes, &starts, &[false]) == Err(Trap::StackOutside));
+    assert!(rt; board.regs() == regs && board.phase() == phase);
     assert!(rt; board.kind() == Kind::Accept);
-    for index in 0..0x400 {
-        assert_eq!(rt; work_byte(&board, index), 0);
-    }
+    assert!(rt; board.ram(RamKind::Work) == [0; 0x400].as_slice());
     Ok(())
 }
 
@@ -152,18 +138,17 @@ fn the_enable_is_cleared_in_the_very_event(rt: HostRuntime) -> Result<(), Fail> 
     let bytes = [
         0x31, 0x00, 0x44, 0x3E, 0x01, 0x32, 0x01, 0x70, 0xAF, 0x32, 0x01, 0x70, 0x18, 0xFE,
     ];
-    let starts = starts_at(&rt, &[0, 3, 5, 8, 9, 12]);
+    let starts = starts_at(&[0, 3, 5, 8, 9, 12]);
     for (latch, kind) in [(true, Kind::Accept), (false, Kind::Instr)] {
         // 10 + 7 + 13 + 4 = 34 T-states go by before the store of 13.
-        let mut board = board(&rt, 50_688 - 34 - 13);
+        let mut board = board(50_688 - 34 - 13);
         steps(
-            &rt,
             &mut board,
             &bytes,
             &starts,
             &[false, false, false, false, latch],
         )?;
-        assert_eq!(rt; board.phase(), 0);
+        assert!(rt; board.phase() == 0);
         assert!(rt; board.kind() == kind);
     }
     Ok(())
@@ -172,21 +157,21 @@ fn the_enable_is_cleared_in_the_very_event(rt: HostRuntime) -> Result<(), Fail> 
 /// A blank while the output of the flip-flop is up latches no second NMI: it is cleared by the enable alone.
 #[test]
 fn a_line_that_is_up_latches_nothing(rt: HostRuntime) -> Result<(), Fail> {
-    let rom = with_routine(rt.alloc(), &ENABLES, &[0x00, 0x18, 0xFE])?;
-    let starts = starts_at(&rt, &[0, 3, 5, 8, 0x66, 0x67]);
-    let mut board = board(&rt, 50_650);
+    let rom = with_routine(&ENABLES);
+    let starts = starts_at(&[0, 3, 5, 8, 0x66, 0x67]);
+    let mut board = board(50_650);
     // The acceptance ends at phase 15. NOP takes 4 T-states and each JR 12, so the next blank comes within 4,223 of them.
-    steps(&rt, &mut board, rom.as_slice(), &starts, &[false; 6])?;
+    steps(&mut board, &rom, &starts, &[false; 6])?;
     let mut blanks = 0u32;
     for _ in 0..4_230 {
         let before = board.phase();
-        let event = steps(&rt, &mut board, rom.as_slice(), &starts, &[false])?;
+        let event = steps(&mut board, &rom, &starts, &[false])?;
         assert!(rt; event.kind == Kind::Instr);
         if board.phase() < before {
             blanks = blanks.saturating_add(1);
         }
     }
-    assert_eq!(rt; blanks, 1);
+    assert!(rt; blanks == 1);
     Ok(())
 }
 
@@ -196,22 +181,18 @@ fn a_line_that_is_up_latches_nothing(rt: HostRuntime) -> Result<(), Fail> {
 fn a_halted_machine_accepts(rt: HostRuntime) -> Result<(), Fail> {
     let mut main = ENABLES;
     main[8] = 0x76;
-    let rom = with_routine(rt.alloc(), &main, &[0x00, 0x18, 0xFE])?;
-    let starts = starts_at(&rt, &[0, 3, 5, 8, 0x66, 0x67]);
+    let rom = with_routine(&main);
+    let starts = starts_at(&[0, 3, 5, 8, 0x66, 0x67]);
     // 10 + 7 + 13 + 4 = 34 T-states to the end of HALT, and two turns to the blank.
-    let mut board = board(&rt, 50_688 - 34 - 8);
-    steps(&rt, &mut board, rom.as_slice(), &starts, &[false; 4])?;
+    let mut board = board(50_688 - 34 - 8);
+    steps(&mut board, &rom, &starts, &[false; 4])?;
     assert!(rt; board.kind() == Kind::Idle);
-    let event = steps(&rt, &mut board, rom.as_slice(), &starts, &[false; 2])?;
-    assert!(rt; event.kind == Kind::Idle);
-    assert_eq!(rt; event.at, 0x0009);
-    assert_eq!(rt; event.t, 4);
-    let event = steps(&rt, &mut board, rom.as_slice(), &starts, &[false])?;
-    assert!(rt; event.kind == Kind::Accept);
-    assert_eq!(rt; event.at, 0x0009);
-    assert_eq!(rt; event.t, 11);
-    assert_eq!(rt; work_byte(&board, 0x3FE), 0x09);
-    let event = steps(&rt, &mut board, rom.as_slice(), &starts, &[false])?;
+    let event = steps(&mut board, &rom, &starts, &[false; 2])?;
+    assert!(rt; is(event, Kind::Idle, 0x0009, 4));
+    let event = steps(&mut board, &rom, &starts, &[false])?;
+    assert!(rt; is(event, Kind::Accept, 0x0009, 11));
+    assert!(rt; work_byte(&board, 0x3FE) == 0x09);
+    let event = steps(&mut board, &rom, &starts, &[false])?;
     assert!(rt; event.kind == Kind::Instr);
     Ok(())
 }
@@ -225,30 +206,36 @@ fn an_acceptance_begins_at_phase_22_at_most(rt: HostRuntime) -> Result<(), Fail>
     let main = [
         0x31, 0xFE, 0x43, 0x3E, 0x01, 0x32, 0x01, 0x70, 0xDD, 0xE3, 0x18, 0xFE,
     ];
-    let rom = with_routine(rt.alloc(), &main, &[0x00, 0x18, 0xFE])?;
-    let starts = starts_at(&rt, &[0, 3, 5, 8, 10, 0x66, 0x67]);
+    let rom = with_routine(&main);
+    let starts = starts_at(&[0, 3, 5, 8, 10, 0x66, 0x67]);
     // 10 + 7 + 13 = 30 T-states go by before it.
-    let mut board = board(&rt, 50_687 - 30);
-    steps(&rt, &mut board, rom.as_slice(), &starts, &[false; 4])?;
-    assert_eq!(rt; board.phase(), 22);
+    let mut board = board(50_687 - 30);
+    steps(&mut board, &rom, &starts, &[false; 4])?;
+    assert!(rt; board.phase() == 22);
     assert!(rt; board.kind() == Kind::Accept);
-    let event = steps(&rt, &mut board, rom.as_slice(), &starts, &[false])?;
-    assert!(rt; event.kind == Kind::Accept);
-    assert_eq!(rt; event.at, 0x000A);
-    assert_eq!(rt; event.t, 11);
-    assert_eq!(rt; board.phase(), 33);
+    let event = steps(&mut board, &rom, &starts, &[false])?;
+    assert!(rt; is(event, Kind::Accept, 0x000A, 11));
+    assert!(rt; board.phase() == 33);
     Ok(())
+}
+
+/// The phase behind a NOP from this phase on, and the kind of the next event.
+fn after_a_nop(phase: u32) -> Result<(u32, Kind), Trap>
+    requires { phase < frame }
+{
+    let mut board = board(phase);
+    steps(
+        &mut board,
+        &[0x00, 0x18, 0xFE],
+        &starts_at(&[0, 1]),
+        &[true],
+    )?;
+    Ok((board.phase(), board.kind()))
 }
 
 /// The first and the last phase of a frame: NOP from phase 0 leads to 4, from phase 50,687 across the blank to 3.
 #[test]
-fn the_ends_of_the_frame(rt: HostRuntime) -> Result<(), Fail> {
-    let starts = starts_at(&rt, &[0, 1]);
-    for (phase, after) in [(0, 4), (50_687, 3)] {
-        let mut board = board(&rt, phase);
-        steps(&rt, &mut board, &[0x00, 0x18, 0xFE], &starts, &[true])?;
-        assert_eq!(rt; board.phase(), after);
-        assert!(rt; board.kind() == Kind::Instr);
-    }
-    Ok(())
+fn the_ends_of_the_frame(rt: HostRuntime) {
+    assert!(rt; after_a_nop(0) == Ok((4, Kind::Instr)));
+    assert!(rt; after_a_nop(50_687) == Ok((3, Kind::Instr)));
 }

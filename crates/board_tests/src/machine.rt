@@ -3,7 +3,7 @@
 ghost use Rattle.std.specs.Prelude.{◌≡◌, ◌<◌, length};
 ghost use Rattle.t_states.specs.Frame.{frame};
 
-use crate::rows::{BEFORE, BY_HAND, TRAPS};
+use crate::rows::{BEFORE, BY_HAND, Row, TRAPS, TrapRow};
 use address_map::{Map, RamKind, Region, Rom, Starts};
 use board_step::{Board, Costs, Env, Event, Inputs, Kind, Known, Profile, Reset, Trap, fetch};
 use t_states::cost;
@@ -71,21 +71,24 @@ fn words_of(regs: &Regs) -> [u16; 12] {
     ]
 }
 
+// Cell i holds step * i + first, modulo 256.
+fn rising(first: u8, step: u8) -> [u8; 0x400] {
+    let mut cells = [0; 0x400];
+    let mut byte = first;
+    for cell in cells.iter_mut() {
+        *cell = byte;
+        byte = byte.wrapping_add(step);
+    }
+    cells
+}
+
 // Cell i of work RAM holds 7i + 3, cell i of video RAM 5i + 1, modulo 256, and object RAM 0.
 fn board_with(regs: Regs, phase: u32) -> Board
     requires { phase < frame }
 {
-    let mut work = [0; 0x400];
-    let mut video = [0; 0x400];
-    for (i, cell) in work.iter_mut().enumerate() {
-        *cell = ((i * 7 + 3) % 256) as u8;
-    }
-    for (i, cell) in video.iter_mut().enumerate() {
-        *cell = ((i * 5 + 1) % 256) as u8;
-    }
     Board::reset(&Reset {
-        work,
-        video,
+        work: rising(3, 7),
+        video: rising(1, 5),
         object: [0; 0x100],
         regs,
         phase,
@@ -150,35 +153,51 @@ fn has(board: &Board, cells: &[(u16, u8)]) -> bool {
     true
 }
 
+/// What differs from a row of BY_HAND after its steps: nothing, as no text, or the first of these.
+fn difference((rom, steps, changes, pc, t, cells): Row) -> &'static str {
+    let mut board = board_with(regs_of(&BEFORE), 0);
+    if stepped(&mut board, rom, steps, &environment()) != Ok(t) {
+        "time"
+    } else if words_of(&board.regs()) != with(changes) {
+        "registers"
+    } else if board.regs().pc != pc {
+        "program counter"
+    } else if !has(&board, cells) {
+        "bytes"
+    } else {
+        ""
+    }
+}
+
 #[test]
 fn agrees_with_the_manual(rt: HostRuntime) {
-    for (rom, steps, changes, pc, t, cells) in BY_HAND {
-        let mut board = board_with(regs_of(&BEFORE), 0);
-        let time = stepped(&mut board, rom, steps, &environment());
-        assert_eq!(rt; time, Ok(t), "time of {rom:?}");
-        assert_eq!(rt;
-            words_of(&board.regs()),
-            with(changes),
-            "registers of {rom:?}"
-        );
-        assert_eq!(rt; board.regs().pc, pc, "program counter of {rom:?}");
-        assert!(rt; has(&board, cells), "bytes of {rom:?}");
+    for row in BY_HAND {
+        let different = difference(*row);
+        assert!(rt; different.is_empty(), "{different} of {:?}", row.0);
+    }
+}
+
+/// What differs from a row of TRAPS, in the same way.
+fn trap_difference((rom, steps, trap): TrapRow) -> &'static str {
+    let mut board = board_with(regs_of(&BEFORE), 0);
+    if stepped(&mut board, rom, steps.saturating_sub(1), &environment()).is_err() {
+        return "before the trap";
+    }
+    let words = words_of(&board.regs());
+    if stepped(&mut board, rom, 1, &environment()).err() != trap {
+        "trap"
+    } else if trap.is_some() && words_of(&board.regs()) != words {
+        "registers"
+    } else {
+        ""
     }
 }
 
 #[test]
 fn traps_by_the_table(rt: HostRuntime) {
-    for (rom, steps, trap) in TRAPS {
-        let mut board = board_with(regs_of(&BEFORE), 0);
-        let before = stepped(&mut board, rom, steps.saturating_sub(1), &environment());
-        assert!(rt; before.is_ok(), "before the trap of {rom:?}");
-        let words = words_of(&board.regs());
-        let found = stepped(&mut board, rom, 1, &environment()).err();
-        assert_eq!(rt; found, trap, "trap of {rom:?}");
-        assert!(rt;
-            trap.is_none() || words_of(&board.regs()) == words,
-            "unchanged by {rom:?}"
-        );
+    for row in TRAPS {
+        let different = trap_difference(*row);
+        assert!(rt; different.is_empty(), "{different} of {:?}", row.0);
     }
 }
 
@@ -213,14 +232,15 @@ const FILL: [u8; 18] = [
 fn fills_work_ram(rt: HostRuntime) {
     let mut board = filled(0xFF, 0);
     let time = stepped(&mut board, &FILL, 1028, &environment());
-    assert_eq!(rt; time, Ok(21_528));
+    assert!(rt; time == Ok(21_528));
     let want = [
         0xFFC1, 0x0000, 0x4400, 0x43FF, 0xFFFF, 0xFFFF, 0x4400, 0xFFFF, 0xFFFF, 0xFFFF, 0xFFFF, 0,
     ];
-    assert_eq!(rt; words_of(&board.regs()), want);
-    assert_eq!(rt; board.regs().pc, 0x0010);
-    let sums = [RamKind::Work, RamKind::Video, RamKind::Object].map(|ram| sum(board.ram(ram)));
-    assert_eq!(rt; sums, [0, 261_120, 65_280]);
+    assert!(rt; words_of(&board.regs()) == want);
+    assert!(rt; board.regs().pc == 0x0010);
+    assert!(rt; sum(board.ram(RamKind::Work)) == 0);
+    assert!(rt; sum(board.ram(RamKind::Video)) == 261_120);
+    assert!(rt; sum(board.ram(RamKind::Object)) == 65_280);
 }
 
 // LD SP,4400; LD A,1; LD (7001),A; XOR A; LD (7001),A; JR to itself; at 0066 RETN. The blank comes while the enable is
@@ -238,50 +258,52 @@ fn enabling() -> [u8; 0x68] {
     rom
 }
 
+/// The T-states of seven events from phase 50,650 with this latch, the program counter, the stack pointer, A with F, and
+/// the sum of work RAM behind them.
+fn after_enabling(latch: bool) -> (Result<u32, Trap>, [u16; 3], u32) {
+    let mut board = filled(0, 50_650);
+    let env = Env {
+        latch,
+        ..environment()
+    };
+    let time = stepped(&mut board, &enabling(), 7, &env);
+    let regs = board.regs();
+    (
+        time,
+        [regs.pc, regs.sp, regs.main.af()],
+        sum(board.ram(RamKind::Work)),
+    )
+}
+
 #[test]
 fn latches_an_nmi_as_the_environment_says(rt: HostRuntime) {
-    for (latch, time, bytes) in [(true, 72, 12), (false, 71, 0)] {
-        let mut board = filled(0, 50_650);
-        let env = Env {
-            latch,
-            ..environment()
-        };
-        assert_eq!(rt;
-            stepped(&mut board, &enabling(), 7, &env),
-            Ok(time),
-            "time with {latch}"
-        );
-        assert_eq!(rt; board.regs().pc, 0x000C, "program counter with {latch}");
-        assert_eq!(rt; board.regs().sp, 0x4400, "stack pointer with {latch}");
-        assert_eq!(rt; board.regs().main.af(), 0x0044, "A and F with {latch}");
-        assert_eq!(rt; sum(board.ram(RamKind::Work)), bytes, "bytes with {latch}");
-    }
+    let regs = [0x000C, 0x4400, 0x0044];
+    assert!(rt; after_enabling(true) == (Ok(72), regs, 12));
+    assert!(rt; after_enabling(false) == (Ok(71), regs, 0));
 }
 
 // LD HL,0100; LD (7000),HL; JR to itself: the second byte of the word enables, as the NMI shows that the blank in the
 // third event latches. LD HL,0001 in its place writes the 1 at 7000, which enables nothing.
+/// The kinds of the third and the fourth event of a program, where the events take 10, 16 and 12 T-states and the third
+/// crosses the blank.
+fn kinds_at_the_blank(rom: &[u8]) -> Option<(Kind, Kind)> {
+    let mut board = filled(0, 50_688 - 30);
+    if stepped(&mut board, rom, 2, &environment()) != Ok(26) {
+        return None;
+    }
+    let third = board.kind();
+    if stepped(&mut board, rom, 1, &environment()) != Ok(12) {
+        return None;
+    }
+    Some((third, board.kind()))
+}
+
 #[test]
 fn the_second_byte_of_a_word_enables(rt: HostRuntime) {
-    let programs = [
-        (
-            [0x21, 0x00, 0x01, 0x22, 0x00, 0x70, 0x18, 0xFE],
-            Kind::Accept,
-        ),
-        (
-            [0x21, 0x01, 0x00, 0x22, 0x00, 0x70, 0x18, 0xFE],
-            Kind::Instr,
-        ),
-    ];
-    for (rom, kind) in programs {
-        // The events take 10, 16 and 12 T-states.
-        let mut board = filled(0, 50_688 - 30);
-        let time = stepped(&mut board, &rom, 2, &environment());
-        assert_eq!(rt; time, Ok(26));
-        assert!(rt; board.kind() == Kind::Instr);
-        let time = stepped(&mut board, &rom, 1, &environment());
-        assert_eq!(rt; time, Ok(12));
-        assert!(rt; board.kind() == kind);
-    }
+    let enables = [0x21, 0x00, 0x01, 0x22, 0x00, 0x70, 0x18, 0xFE];
+    assert!(rt; kinds_at_the_blank(&enables) == Some((Kind::Instr, Kind::Accept)));
+    let does_not = [0x21, 0x01, 0x00, 0x22, 0x00, 0x70, 0x18, 0xFE];
+    assert!(rt; kinds_at_the_blank(&does_not) == Some((Kind::Instr, Kind::Instr)));
 }
 
 // The next event by what is known of it, where that can be found out.
@@ -302,23 +324,27 @@ fn step_by_known(board: &mut Board, rom: &Rom, map: &Map, env: &Env) -> Option<E
     }
 }
 
-#[test]
-fn known_steps_are_the_checked_ones(rt: HostRuntime) {
-    let bytes = enabling();
-    if let Some(rom) = Rom::of(&bytes) {
+/// The T-states of seven events, each by what is known of it.
+fn time_by_known(board: &mut Board, bytes: &[u8], env: &Env) -> u32 {
+    let mut time: u32 = 0;
+    if let Some(rom) = Rom::of(bytes) {
         let map = map_for(&rom);
-        let mut board = filled(0, 50_650);
-        let env = Env {
-            latch: true,
-            ..environment()
-        };
-        let mut time: u32 = 0;
         for _ in 0..7 {
-            let t = step_by_known(&mut board, &rom, &map, &env).map_or(0, |event| event.t);
+            let t = step_by_known(board, &rom, &map, env).map_or(0, |event| event.t);
             time = time.wrapping_add(u32::from(t));
         }
-        assert_eq!(rt; time, 72);
-        assert_eq!(rt; board.regs().pc, 0x000C);
-        assert_eq!(rt; sum(board.ram(RamKind::Work)), 12);
     }
+    time
+}
+
+#[test]
+fn known_steps_are_the_checked_ones(rt: HostRuntime) {
+    let mut board = filled(0, 50_650);
+    let env = Env {
+        latch: true,
+        ..environment()
+    };
+    assert!(rt; time_by_known(&mut board, &enabling(), &env) == 72);
+    assert!(rt; board.regs().pc == 0x000C);
+    assert!(rt; sum(board.ram(RamKind::Work)) == 12);
 }

@@ -3,113 +3,119 @@
 use address_map::{Input, Map, MapFault, RamKind, ReadClass, Region, WriteClass, WriteUse, Zone};
 use arrayvec::ArrayVec;
 use intervals::WordRange;
-use std::process::Abort;
 
-fn reads(rt: &impl Abort, map: &Map, address: u16, read: ReadClass, write: WriteClass) {
-    let class = map.class(address);
-    assert!(rt; class.read == read);
-    assert!(rt; class.write == write);
+/// What stands at an address: for RAM the number of its byte, and for an input what a write does there.
+#[derive(Clone, Copy)]
+enum At {
+    Rom,
+    Ram(RamKind, u16),
+    Input(Input, WriteClass),
+    Pitch,
+    Open,
 }
 
-fn ram(rt: &impl Abort, map: &Map, address: u16, kind: RamKind, index: u16) {
-    reads(
-        rt,
-        map,
-        address,
-        ReadClass::Ram(kind),
-        WriteClass::Ram(kind),
-    );
-    let cell = map.cell(address);
-    assert!(rt; cell.is_some());
-    if let Some(cell) = cell {
-        assert!(rt; cell.ram() == kind);
-        assert!(rt; cell.index() == index);
+fn has_class(map: &Map, address: u16, read: ReadClass, write: WriteClass) -> bool {
+    let class = map.class(address);
+    class.read == read && class.write == write
+}
+
+fn has_cell(map: &Map, address: u16, kind: RamKind, index: u16) -> bool {
+    match map.cell(address) {
+        Some(cell) => cell.ram() == kind && cell.index() == index,
+        None => false,
     }
 }
 
-fn open(rt: &impl Abort, map: &Map, address: u16) {
-    reads(rt, map, address, ReadClass::Open, WriteClass::Unmapped);
-    assert!(rt; map.cell(address).is_none());
-}
-
-fn rom(rt: &impl Abort, map: &Map, address: u16) {
-    reads(rt, map, address, ReadClass::Rom, WriteClass::Rom);
-    assert!(rt; map.cell(address).is_none());
-}
-
-fn input(rt: &impl Abort, map: &Map, address: u16, input: Input, write: WriteClass) {
-    reads(rt, map, address, ReadClass::Input(input), write);
-    assert!(rt; map.cell(address).is_none());
+/// Whether this stands at an address of a map.
+fn stands(map: &Map, address: u16, at: At) -> bool {
+    let (read, write) = match at {
+        At::Rom => (ReadClass::Rom, WriteClass::Rom),
+        At::Ram(kind, _) => (ReadClass::Ram(kind), WriteClass::Ram(kind)),
+        At::Input(input, write) => (ReadClass::Input(input), write),
+        At::Pitch => (ReadClass::Open, WriteClass::Pitch),
+        At::Open => (ReadClass::Open, WriteClass::Unmapped),
+    };
+    let cell = match at {
+        At::Ram(kind, index) => has_cell(map, address, kind, index),
+        _ => map.cell(address).is_none(),
+    };
+    cell && has_class(map, address, read, write)
 }
 
 /// The Galaxian board's zones behind the ROM and what is open there.
-fn galaxian_from_4000(rt: &impl Abort, map: &Map) {
-    ram(rt, map, 0x4000, RamKind::Work, 0);
-    ram(rt, map, 0x4780, RamKind::Work, 0x380);
-    ram(rt, map, 0x47FF, RamKind::Work, 0x3FF);
-    open(rt, map, 0x4800);
-    open(rt, map, 0x4FFF);
-    ram(rt, map, 0x5000, RamKind::Video, 0);
-    ram(rt, map, 0x57FF, RamKind::Video, 0x3FF);
-    ram(rt, map, 0x5800, RamKind::Object, 0);
-    ram(rt, map, 0x5FFF, RamKind::Object, 0xFF);
-    input(rt, map, 0x6000, Input::In0, WriteClass::Latch(0));
-    input(rt, map, 0x67FF, Input::In0, WriteClass::Latch(7));
-    input(rt, map, 0x6800, Input::In1, WriteClass::Latch(0));
-    input(rt, map, 0x6801, Input::In1, WriteClass::Latch(1));
-    input(rt, map, 0x6FFF, Input::In1, WriteClass::Latch(7));
-    input(rt, map, 0x7000, Input::In2, WriteClass::Latch(0));
-    input(rt, map, 0x7001, Input::In2, WriteClass::NmiEnable);
-    input(rt, map, 0x7009, Input::In2, WriteClass::NmiEnable);
-    input(rt, map, 0x77F9, Input::In2, WriteClass::NmiEnable);
-    input(rt, map, 0x77FF, Input::In2, WriteClass::Latch(7));
-    reads(rt, map, 0x7800, ReadClass::Open, WriteClass::Pitch);
-    reads(rt, map, 0x7FFF, ReadClass::Open, WriteClass::Pitch);
-    open(rt, map, 0x8000);
-    open(rt, map, 0xB009);
-    open(rt, map, 0xFFFF);
-}
+const GALAXIAN_FROM_4000: &[(u16, At)] = &[
+    (0x4000, At::Ram(RamKind::Work, 0)),
+    (0x4780, At::Ram(RamKind::Work, 0x380)),
+    (0x47FF, At::Ram(RamKind::Work, 0x3FF)),
+    (0x4800, At::Open),
+    (0x4FFF, At::Open),
+    (0x5000, At::Ram(RamKind::Video, 0)),
+    (0x57FF, At::Ram(RamKind::Video, 0x3FF)),
+    (0x5800, At::Ram(RamKind::Object, 0)),
+    (0x5FFF, At::Ram(RamKind::Object, 0xFF)),
+    (0x6000, At::Input(Input::In0, WriteClass::Latch(0))),
+    (0x67FF, At::Input(Input::In0, WriteClass::Latch(7))),
+    (0x6800, At::Input(Input::In1, WriteClass::Latch(0))),
+    (0x6801, At::Input(Input::In1, WriteClass::Latch(1))),
+    (0x6FFF, At::Input(Input::In1, WriteClass::Latch(7))),
+    (0x7000, At::Input(Input::In2, WriteClass::Latch(0))),
+    (0x7001, At::Input(Input::In2, WriteClass::NmiEnable)),
+    (0x7009, At::Input(Input::In2, WriteClass::NmiEnable)),
+    (0x77F9, At::Input(Input::In2, WriteClass::NmiEnable)),
+    (0x77FF, At::Input(Input::In2, WriteClass::Latch(7))),
+    (0x7800, At::Pitch),
+    (0x7FFF, At::Pitch),
+    (0x8000, At::Open),
+    (0xB009, At::Open),
+    (0xFFFF, At::Open),
+];
 
 /// The raised board's zones behind the ROM and what is open there.
-fn raised_from_4000(rt: &impl Abort, map: &Map) {
-    open(rt, map, 0x4000);
-    open(rt, map, 0x7009);
-    open(rt, map, 0x7FFF);
-    ram(rt, map, 0x8000, RamKind::Work, 0);
-    ram(rt, map, 0x8780, RamKind::Work, 0x380);
-    ram(rt, map, 0x87FF, RamKind::Work, 0x3FF);
-    open(rt, map, 0x8800);
-    open(rt, map, 0x8FFF);
-    ram(rt, map, 0x9000, RamKind::Video, 0);
-    ram(rt, map, 0x97FF, RamKind::Video, 0x3FF);
-    ram(rt, map, 0x9800, RamKind::Object, 0);
-    ram(rt, map, 0x9FFF, RamKind::Object, 0xFF);
-    input(rt, map, 0xA000, Input::In0, WriteClass::Latch(0));
-    input(rt, map, 0xA7FF, Input::In0, WriteClass::Latch(7));
-    input(rt, map, 0xA800, Input::In1, WriteClass::Latch(0));
-    input(rt, map, 0xAFFF, Input::In1, WriteClass::Latch(7));
-    input(rt, map, 0xB000, Input::In2, WriteClass::Latch(0));
-    input(rt, map, 0xB009, Input::In2, WriteClass::NmiEnable);
-    input(rt, map, 0xB7FF, Input::In2, WriteClass::Latch(7));
-    reads(rt, map, 0xB800, ReadClass::Open, WriteClass::Pitch);
-    reads(rt, map, 0xBFFF, ReadClass::Open, WriteClass::Pitch);
-    open(rt, map, 0xC000);
-    open(rt, map, 0xFFFF);
+const RAISED_FROM_4000: &[(u16, At)] = &[
+    (0x4000, At::Open),
+    (0x7009, At::Open),
+    (0x7FFF, At::Open),
+    (0x8000, At::Ram(RamKind::Work, 0)),
+    (0x8780, At::Ram(RamKind::Work, 0x380)),
+    (0x87FF, At::Ram(RamKind::Work, 0x3FF)),
+    (0x8800, At::Open),
+    (0x8FFF, At::Open),
+    (0x9000, At::Ram(RamKind::Video, 0)),
+    (0x97FF, At::Ram(RamKind::Video, 0x3FF)),
+    (0x9800, At::Ram(RamKind::Object, 0)),
+    (0x9FFF, At::Ram(RamKind::Object, 0xFF)),
+    (0xA000, At::Input(Input::In0, WriteClass::Latch(0))),
+    (0xA7FF, At::Input(Input::In0, WriteClass::Latch(7))),
+    (0xA800, At::Input(Input::In1, WriteClass::Latch(0))),
+    (0xAFFF, At::Input(Input::In1, WriteClass::Latch(7))),
+    (0xB000, At::Input(Input::In2, WriteClass::Latch(0))),
+    (0xB009, At::Input(Input::In2, WriteClass::NmiEnable)),
+    (0xB7FF, At::Input(Input::In2, WriteClass::Latch(7))),
+    (0xB800, At::Pitch),
+    (0xBFFF, At::Pitch),
+    (0xC000, At::Open),
+    (0xFFFF, At::Open),
+];
+
+/// Whether a map has a ROM of this length, with nothing behind it up to 4000, and its work RAM here.
+fn begins(map: &Map, length: u16, work_start: u16) -> bool {
+    let behind = length == 0x4000
+        || (stands(map, length, At::Open) && stands(map, 0x3FFF, At::Open));
+    map.rom_len() == length
+        && map.work_start() == work_start
+        && stands(map, 0, At::Rom)
+        && stands(map, length.wrapping_sub(1), At::Rom)
+        && behind
 }
 
 #[test]
 fn galaxian_tables(rt: HostRuntime) {
     for length in [1, 6, 0x3FFF, 0x4000] {
         let map = Map::galaxian(length);
-        assert!(rt; map.rom_len() == length);
-        assert!(rt; map.work_start() == 0x4000);
-        rom(&rt, &map, 0);
-        rom(&rt, &map, length - 1);
-        if length < 0x4000 {
-            open(&rt, &map, length);
-            open(&rt, &map, 0x3FFF);
+        assert!(rt; begins(&map, length, 0x4000));
+        for &(address, at) in GALAXIAN_FROM_4000 {
+            assert!(rt; stands(&map, address, at), "at {address:04X}");
         }
-        galaxian_from_4000(&rt, &map);
     }
 }
 
@@ -117,38 +123,55 @@ fn galaxian_tables(rt: HostRuntime) {
 fn raised_tables(rt: HostRuntime) {
     for length in [1, 6, 0x3FFF, 0x4000] {
         let map = Map::raised(length);
-        assert!(rt; map.rom_len() == length);
-        assert!(rt; map.work_start() == 0x8000);
-        rom(&rt, &map, 0);
-        rom(&rt, &map, length - 1);
-        if length < 0x4000 {
-            open(&rt, &map, length);
-            open(&rt, &map, 0x3FFF);
+        assert!(rt; begins(&map, length, 0x8000));
+        for &(address, at) in RAISED_FROM_4000 {
+            assert!(rt; stands(&map, address, at), "at {address:04X}");
         }
-        raised_from_4000(&rt, &map);
     }
 }
 
-fn zone(first: u16, last: u16, read: ReadClass, write: WriteUse) -> Zone {
-    Zone {
-        first,
-        last,
-        read,
-        write,
-    }
+macro_rules! zone {
+    ($first:expr, $last:expr, $read:expr, $write:expr) => {
+        Zone {
+            first: $first,
+            last: $last,
+            read: $read,
+            write: $write,
+        }
+    };
 }
 
-fn free(first: u16, last: u16) -> Zone {
-    zone(first, last, ReadClass::Open, WriteUse::Open)
+macro_rules! free {
+    ($first:expr, $last:expr) => {
+        zone!($first, $last, ReadClass::Open, WriteUse::Open)
+    };
 }
 
-fn both(first: u16, last: u16, kind: RamKind) -> Zone {
-    zone(first, last, ReadClass::Ram(kind), WriteUse::Ram(kind))
+macro_rules! work {
+    ($first:expr, $last:expr) => {
+        zone!($first, $last, READS_WORK, WRITES_WORK)
+    };
 }
 
-fn program(first: u16, last: u16) -> Zone {
-    zone(first, last, ReadClass::Rom, WriteUse::Rom)
+macro_rules! program {
+    ($first:expr, $last:expr) => {
+        zone!($first, $last, ReadClass::Rom, WriteUse::Rom)
+    };
 }
+
+const READS_WORK: ReadClass = ReadClass::Ram(RamKind::Work);
+
+const WRITES_WORK: WriteUse = WriteUse::Ram(RamKind::Work);
+
+const READS_VIDEO: ReadClass = ReadClass::Ram(RamKind::Video);
+
+const ROM: Zone = program!(0, 0x0FFF);
+
+const LOW: Zone = free!(0x1000, 0x3FFF);
+
+const WORK: Zone = work!(0x4000, 0x47FF);
+
+const HIGH: Zone = free!(0x4800, 0xFFFF);
 
 fn fault(zones: &[Zone], rom_len: u16) -> Option<MapFault> {
     let mut list = ArrayVec::new();
@@ -160,157 +183,180 @@ fn fault(zones: &[Zone], rom_len: u16) -> Option<MapFault> {
     Map::of(list, rom_len).err()
 }
 
+/// Zones with a ROM of 1000h bytes that are a map.
+const MAPS: &[&[Zone]] = &[
+    // In any order, and with zones that hold no address.
+    &[ROM, LOW, WORK, HIGH],
+    &[HIGH, WORK, LOW, ROM],
+    &[ROM, free!(9, 8), LOW, WORK, HIGH],
+    // Work RAM of 400h bytes.
+    &[ROM, LOW, work!(0x4000, 0x43FF), free!(0x4400, 0xFFFF)],
+    // Another RAM.
+    &[ROM, LOW, WORK, VIDEO],
+];
+
+const VIDEO: Zone = zone!(0x4800, 0xFFFF, READS_VIDEO, WriteUse::Ram(RamKind::Video));
+
+/// Zones, and the lowest address that is in none, or in two.
+const FAULTS: &[(&[Zone], MapFault)] = &[
+    (&[], MapFault::Gap(0)),
+    (&[ROM, WORK, HIGH], MapFault::Gap(0x1000)),
+    (
+        &[ROM, LOW, WORK, free!(0x4800, 0xFFFE)],
+        MapFault::Gap(0xFFFF),
+    ),
+    (&[ROM, LOW, WORK, HIGH, HIGH], MapFault::Overlap(0x4800)),
+    (
+        &[ROM, free!(0x0FFF, 0x3FFF), WORK, HIGH],
+        MapFault::Overlap(0x0FFF),
+    ),
+    (
+        &[ROM, LOW, WORK, HIGH, free!(0xFFFF, 0xFFFF)],
+        MapFault::Overlap(0xFFFF),
+    ),
+    (&[ROM, ROM, WORK, HIGH], MapFault::Overlap(0)),
+    (
+        &[ROM, free!(0x1001, 0x3FFF), WORK, WORK, HIGH],
+        MapFault::Gap(0x1000),
+    ),
+];
+
+const READ_ONLY: Zone = zone!(0x4000, 0x47FF, READS_WORK, WriteUse::Open);
+
+const WRITE_ONLY: Zone = zone!(0x4000, 0x47FF, ReadClass::Open, WRITES_WORK);
+
+const MIXED: Zone = zone!(0x4800, 0xFFFF, READS_VIDEO, WriteUse::Ram(RamKind::Object));
+
+const HALF: Zone = zone!(0x4800, 0xFFFF, READS_VIDEO, WriteUse::Pitch);
+
+/// Zones whose work RAM, or another, is none.
+const WORK_FAULTS: &[&[Zone]] = &[
+    &[ROM, LOW, free!(0x4000, 0x47FF), HIGH],
+    &[ROM, LOW, WORK, work!(0x4800, 0xFFFF)],
+    // A second zone that names it counts, even without addresses.
+    &[ROM, LOW, WORK, HIGH, work!(0x400, 0)],
+    &[ROM, LOW, READ_ONLY, HIGH],
+    &[ROM, LOW, WRITE_ONLY, HIGH],
+    // No multiple of 400h, and 3FFh addresses.
+    &[ROM, free!(0x1000, 0x40FF), work!(0x4100, 0x47FF), HIGH],
+    &[ROM, LOW, work!(0x4000, 0x43FE), free!(0x43FF, 0xFFFF)],
+    // Another zone's RAM is the same for both.
+    &[ROM, LOW, WORK, MIXED],
+    &[ROM, LOW, WORK, HALF],
+];
+
+const UNREAD: Zone = zone!(0, 0x0FFF, ReadClass::Open, WriteUse::Rom);
+
+const WRITTEN: Zone = zone!(0, 0x0FFF, ReadClass::Rom, WriteUse::Open);
+
+/// Zones whose ROM is none.
+const ROM_FAULTS: &[&[Zone]] = &[
+    &[free!(0, 0x3FFF), WORK, HIGH],
+    &[ROM, LOW, WORK, program!(0x4800, 0xFFFF)],
+    &[ROM, LOW, WORK, HIGH, program!(1, 0)],
+    &[free!(0, 0), program!(1, 0x0FFF), LOW, WORK, HIGH],
+    &[UNREAD, LOW, WORK, HIGH],
+    &[WRITTEN, LOW, WORK, HIGH],
+];
+
 #[test]
 fn faults_of_zones(rt: HostRuntime) {
-    let rom = program(0, 0x0FFF);
-    let work = both(0x4000, 0x47FF, RamKind::Work);
-    let low = free(0x1000, 0x3FFF);
-    let high = free(0x4800, 0xFFFF);
-    // A map, in any order of its zones, and with zones that hold no address.
-    assert!(rt; fault(&[rom, low, work, high], 0x1000).is_none());
-    assert!(rt; fault(&[high, work, low, rom], 0x1000).is_none());
-    assert!(rt; fault(&[rom, free(9, 8), low, work, high], 0x1000).is_none());
-    // Gaps and overlaps: the lowest address is told.
-    assert!(rt; fault(&[], 0x1000) == Some(MapFault::Gap(0)));
-    assert!(rt; fault(&[rom, work, high], 0x1000) == Some(MapFault::Gap(0x1000)));
-    assert!(rt;
-        fault(&[rom, low, work, free(0x4800, 0xFFFE)], 0x1000) == Some(MapFault::Gap(0xFFFF))
-    );
-    assert!(rt; fault(&[rom, low, work, high, high], 0x1000) == Some(MapFault::Overlap(0x4800)));
-    assert!(rt;
-        fault(&[rom, free(0x0FFF, 0x3FFF), work, high], 0x1000) == Some(MapFault::Overlap(0x0FFF))
-    );
-    assert!(rt;
-        fault(&[rom, low, work, high, free(0xFFFF, 0xFFFF)], 0x1000)
-            == Some(MapFault::Overlap(0xFFFF))
-    );
-    assert!(rt; fault(&[rom, rom, work, high], 0x1000) == Some(MapFault::Overlap(0)));
-    assert!(rt;
-        fault(&[rom, free(0x1001, 0x3FFF), work, work, high], 0x1000) == Some(MapFault::Gap(0x1000))
-    );
+    for (place, zones) in MAPS.iter().enumerate() {
+        assert!(rt; fault(zones, 0x1000).is_none(), "map {place}");
+    }
+    for (place, &(zones, wanted)) in FAULTS.iter().enumerate() {
+        assert!(rt; fault(zones, 0x1000) == Some(wanted), "list {place}");
+    }
     // Either comes before what is wrong with RAM and ROM.
-    assert!(rt; fault(&[free(0, 0xFFFE)], 0) == Some(MapFault::Gap(0xFFFF)));
+    assert!(rt; fault(&[free!(0, 0xFFFE)], 0) == Some(MapFault::Gap(0xFFFF)));
 }
 
 #[test]
 fn faults_of_work_ram(rt: HostRuntime) {
-    let rom = program(0, 0x0FFF);
-    let low = free(0x1000, 0x3FFF);
-    let high = free(0x4800, 0xFFFF);
-    let work = both(0x4000, 0x47FF, RamKind::Work);
-    let wrong = Some(MapFault::Work);
-    assert!(rt; fault(&[rom, low, free(0x4000, 0x47FF), high], 0x1000) == wrong);
-    assert!(rt;
-        fault(
-            &[rom, low, work, both(0x4800, 0xFFFF, RamKind::Work)],
-            0x1000
-        ) == wrong
-    );
-    // A second zone that names it counts, even without addresses.
-    assert!(rt;
-        fault(
-            &[rom, low, work, high, both(0x400, 0, RamKind::Work)],
-            0x1000
-        ) == wrong
-    );
-    let read_only = zone(
-        0x4000,
-        0x47FF,
-        ReadClass::Ram(RamKind::Work),
-        WriteUse::Open,
-    );
-    assert!(rt; fault(&[rom, low, read_only, high], 0x1000) == wrong);
-    let write_only = zone(
-        0x4000,
-        0x47FF,
-        ReadClass::Open,
-        WriteUse::Ram(RamKind::Work),
-    );
-    assert!(rt; fault(&[rom, low, write_only, high], 0x1000) == wrong);
-    // No multiple of 400h; 3FFh addresses, then 400h.
-    assert!(rt;
-        fault(
-            &[
-                rom,
-                free(0x1000, 0x40FF),
-                both(0x4100, 0x47FF, RamKind::Work),
-                high
-            ],
-            0x1000
-        ) == wrong
-    );
-    assert!(rt;
-        fault(
-            &[
-                rom,
-                low,
-                both(0x4000, 0x43FE, RamKind::Work),
-                free(0x43FF, 0xFFFF)
-            ],
-            0x1000
-        ) == wrong
-    );
-    assert!(rt;
-        fault(
-            &[
-                rom,
-                low,
-                both(0x4000, 0x43FF, RamKind::Work),
-                free(0x4400, 0xFFFF)
-            ],
-            0x1000
-        )
-        .is_none()
-    );
-    // Another zone's RAM is the same for both.
-    let mixed = zone(
-        0x4800,
-        0xFFFF,
-        ReadClass::Ram(RamKind::Video),
-        WriteUse::Ram(RamKind::Object),
-    );
-    assert!(rt; fault(&[rom, low, work, mixed], 0x1000) == wrong);
-    let half = zone(
-        0x4800,
-        0xFFFF,
-        ReadClass::Ram(RamKind::Video),
-        WriteUse::Pitch,
-    );
-    assert!(rt; fault(&[rom, low, work, half], 0x1000) == wrong);
-    assert!(rt;
-        fault(
-            &[rom, low, work, both(0x4800, 0xFFFF, RamKind::Video)],
-            0x1000
-        )
-        .is_none()
-    );
+    for (place, zones) in WORK_FAULTS.iter().enumerate() {
+        assert!(rt;
+            fault(zones, 0x1000) == Some(MapFault::Work),
+            "list {place}"
+        );
+    }
     // It comes before what is wrong with the ROM.
-    assert!(rt; fault(&[free(0, 0xFFFF)], 0) == wrong);
+    assert!(rt; fault(&[free!(0, 0xFFFF)], 0) == Some(MapFault::Work));
 }
 
 #[test]
 fn faults_of_rom(rt: HostRuntime) {
-    let rom = program(0, 0x0FFF);
-    let low = free(0x1000, 0x3FFF);
-    let high = free(0x4800, 0xFFFF);
-    let work = both(0x4000, 0x47FF, RamKind::Work);
-    let wrong = Some(MapFault::Rom);
-    assert!(rt; fault(&[free(0, 0x3FFF), work, high], 0x1000) == wrong);
-    assert!(rt; fault(&[rom, low, work, program(0x4800, 0xFFFF)], 0x1000) == wrong);
-    assert!(rt; fault(&[rom, low, work, high, program(1, 0)], 0x1000) == wrong);
-    assert!(rt; fault(&[rom, low, work, high], 0x0FFF) == wrong);
-    assert!(rt; fault(&[rom, low, work, high], 0x1001) == wrong);
-    assert!(rt; fault(&[rom, low, work, high], 0) == wrong);
-    assert!(rt; fault(&[free(0, 0), program(1, 0x0FFF), low, work, high], 0x1000) == wrong);
-    let unread = zone(0, 0x0FFF, ReadClass::Open, WriteUse::Rom);
-    assert!(rt; fault(&[unread, low, work, high], 0x1000) == wrong);
-    let written = zone(0, 0x0FFF, ReadClass::Rom, WriteUse::Open);
-    assert!(rt; fault(&[written, low, work, high], 0x1000) == wrong);
+    for (place, zones) in ROM_FAULTS.iter().enumerate() {
+        assert!(rt; fault(zones, 0x1000) == Some(MapFault::Rom), "list {place}");
+    }
+    for length in [0x0FFF, 0x1001, 0] {
+        assert!(rt; fault(&[ROM, LOW, WORK, HIGH], length) == Some(MapFault::Rom));
+    }
 }
 
-fn words(low: u16, high: u16) -> WordRange {
-    WordRange::new(low, high).unwrap_or(WordRange::full())
+#[derive(Clone, Copy)]
+enum Question {
+    /// Whether data may be written to each address.
+    AllData,
+    SomeInRegion,
+    SomeRom,
+    SomeUnmapped,
+    SomeEnable,
+    /// Whether one is a copy of this cell of work RAM.
+    SomeAtCell(u16),
 }
+
+/// The answer for the addresses from the first to the last, with the stack in this region.
+fn answer(map: &Map, region: Region, question: Question, first: u16, last: u16) -> bool {
+    let words = WordRange::new(first, last).unwrap_or(WordRange::full());
+    match question {
+        Question::AllData => map.all_data(words, region),
+        Question::SomeInRegion => map.some_in_region(words, region),
+        Question::SomeRom => map.some_rom(words),
+        Question::SomeUnmapped => map.some_unmapped(words),
+        Question::SomeEnable => map.some_enable(words),
+        Question::SomeAtCell(cell) => map.some_at_cell(words, cell),
+    }
+}
+
+const OF_GALAXIAN: &[(Question, u16, u16, bool)] = &[
+    // Work RAM outside the region, and its copy; 4380 to 43FF and 4780 to 47FF are the region's cells.
+    (Question::AllData, 0x4000, 0x437F, true),
+    (Question::AllData, 0x4400, 0x477F, true),
+    (Question::AllData, 0x4000, 0x4380, false),
+    (Question::AllData, 0x43FF, 0x43FF, false),
+    (Question::AllData, 0x4780, 0x4780, false),
+    (Question::AllData, 0x4400, 0x4780, false),
+    (Question::SomeInRegion, 0x4780, 0x4780, true),
+    (Question::SomeInRegion, 0x477F, 0x477F, false),
+    (Question::SomeInRegion, 0, 0xFFFF, true),
+    (Question::SomeInRegion, 0x4800, 0xFFFF, false),
+    // Video RAM to the pitch takes data; what is open on either side does not.
+    (Question::AllData, 0x5000, 0x7FFF, true),
+    (Question::AllData, 0x4FFF, 0x7FFF, false),
+    (Question::AllData, 0x5000, 0x8000, false),
+    (Question::AllData, 0, 5, false),
+    // ROM and unmapped.
+    (Question::SomeRom, 5, 0x4000, true),
+    (Question::SomeRom, 6, 0xFFFF, false),
+    (Question::SomeUnmapped, 0, 6, true),
+    (Question::SomeUnmapped, 0, 5, false),
+    (Question::SomeUnmapped, 0x4000, 0x47FF, false),
+    (Question::SomeUnmapped, 0x4000, 0x4800, true),
+    // The enable is at 7001, 7009 and so on to 77F9.
+    (Question::SomeEnable, 0, 0x7000, false),
+    (Question::SomeEnable, 0, 0x7001, true),
+    (Question::SomeEnable, 0x7002, 0x7008, false),
+    (Question::SomeEnable, 0x7002, 0x7009, true),
+    (Question::SomeEnable, 0x77F9, 0xFFFF, true),
+    (Question::SomeEnable, 0x77FA, 0xFFFF, false),
+    // Cells of work RAM, by an address or by their number.
+    (Question::SomeAtCell(0x4380), 0x4780, 0x4780, true),
+    (Question::SomeAtCell(0x380), 0x4780, 0x4780, true),
+    (Question::SomeAtCell(0x381), 0x4780, 0x4780, false),
+    (Question::SomeAtCell(0x3FF), 0x4000, 0x43FF, true),
+    (Question::SomeAtCell(0x3FF), 0x4000, 0x43FE, false),
+    (Question::SomeAtCell(0), 0x5000, 0x5FFF, false),
+];
 
 #[test]
 fn ranges_of_galaxian(rt: HostRuntime) {
@@ -319,44 +365,24 @@ fn ranges_of_galaxian(rt: HostRuntime) {
         low: 0x4380,
         top: 0x4400,
     };
-    // Work RAM outside the region, and its copy; 4380 to 43FF and 4780 to 47FF are the region's cells.
-    assert!(rt; map.all_data(words(0x4000, 0x437F), region));
-    assert!(rt; map.all_data(words(0x4400, 0x477F), region));
-    assert!(rt; !map.all_data(words(0x4000, 0x4380), region));
-    assert!(rt; !map.all_data(words(0x43FF, 0x43FF), region));
-    assert!(rt; !map.all_data(words(0x4780, 0x4780), region));
-    assert!(rt; !map.all_data(words(0x4400, 0x4780), region));
-    assert!(rt; map.some_in_region(words(0x4780, 0x4780), region));
-    assert!(rt; !map.some_in_region(words(0x477F, 0x477F), region));
-    assert!(rt; map.some_in_region(words(0, 0xFFFF), region));
-    assert!(rt; !map.some_in_region(words(0x4800, 0xFFFF), region));
-    // Video RAM to the pitch takes data; what is open on either side does not.
-    assert!(rt; map.all_data(words(0x5000, 0x7FFF), region));
-    assert!(rt; !map.all_data(words(0x4FFF, 0x7FFF), region));
-    assert!(rt; !map.all_data(words(0x5000, 0x8000), region));
-    assert!(rt; !map.all_data(words(0, 5), region));
-    // ROM and unmapped.
-    assert!(rt; map.some_rom(words(5, 0x4000)));
-    assert!(rt; !map.some_rom(words(6, 0xFFFF)));
-    assert!(rt; map.some_unmapped(words(0, 6)));
-    assert!(rt; !map.some_unmapped(words(0, 5)));
-    assert!(rt; !map.some_unmapped(words(0x4000, 0x47FF)));
-    assert!(rt; map.some_unmapped(words(0x4000, 0x4800)));
-    // The enable is at 7001, 7009 and so on to 77F9.
-    assert!(rt; !map.some_enable(words(0, 0x7000)));
-    assert!(rt; map.some_enable(words(0, 0x7001)));
-    assert!(rt; !map.some_enable(words(0x7002, 0x7008)));
-    assert!(rt; map.some_enable(words(0x7002, 0x7009)));
-    assert!(rt; map.some_enable(words(0x77F9, 0xFFFF)));
-    assert!(rt; !map.some_enable(words(0x77FA, 0xFFFF)));
-    // Cells of work RAM, by an address or by their number.
-    assert!(rt; map.some_at_cell(words(0x4780, 0x4780), 0x4380));
-    assert!(rt; map.some_at_cell(words(0x4780, 0x4780), 0x380));
-    assert!(rt; !map.some_at_cell(words(0x4780, 0x4780), 0x381));
-    assert!(rt; map.some_at_cell(words(0x4000, 0x43FF), 0x3FF));
-    assert!(rt; !map.some_at_cell(words(0x4000, 0x43FE), 0x3FF));
-    assert!(rt; !map.some_at_cell(words(0x5000, 0x5FFF), 0));
+    for &(question, first, last, wanted) in OF_GALAXIAN {
+        assert!(rt;
+            answer(&map, region, question, first, last) == wanted,
+            "{first:04X} to {last:04X}"
+        );
+    }
 }
+
+const OF_RAISED: &[(Question, u16, u16, bool)] = &[
+    (Question::AllData, 0x8000, 0x837F, true),
+    (Question::AllData, 0x8780, 0x8780, false),
+    (Question::SomeEnable, 0xB002, 0xB009, true),
+    (Question::SomeEnable, 0x7000, 0x77FF, false),
+    (Question::SomeUnmapped, 0x7001, 0x7001, true),
+    (Question::SomeAtCell(0x8380), 0x8780, 0x8780, true),
+    (Question::SomeRom, 0x3FFF, 0x4000, true),
+    (Question::SomeRom, 0x4000, 0xFFFF, false),
+];
 
 #[test]
 fn ranges_of_raised(rt: HostRuntime) {
@@ -365,12 +391,10 @@ fn ranges_of_raised(rt: HostRuntime) {
         low: 0x8380,
         top: 0x8400,
     };
-    assert!(rt; map.all_data(words(0x8000, 0x837F), region));
-    assert!(rt; !map.all_data(words(0x8780, 0x8780), region));
-    assert!(rt; map.some_enable(words(0xB002, 0xB009)));
-    assert!(rt; !map.some_enable(words(0x7000, 0x77FF)));
-    assert!(rt; map.some_unmapped(words(0x7001, 0x7001)));
-    assert!(rt; map.some_at_cell(words(0x8780, 0x8780), 0x8380));
-    assert!(rt; map.some_rom(words(0x3FFF, 0x4000)));
-    assert!(rt; !map.some_rom(words(0x4000, 0xFFFF)));
+    for &(question, first, last, wanted) in OF_RAISED {
+        assert!(rt;
+            answer(&map, region, question, first, last) == wanted,
+            "{first:04X} to {last:04X}"
+        );
+    }
 }

@@ -1,128 +1,74 @@
 // Which devices are asked, and in which order.
 
+use crate::commands_over::{run, verify};
 use crate::memory_devices::{Bytes, Taken};
-use crate::samples::{JUMP, certificate_text};
-use commands::{FileSource, run_on, verify_on};
+use crate::samples::{JUMP, JUMP_CERTIFICATE, ROW_MISSING};
+use commands::{FileSource, run_on};
 use std::test::Fail;
 
 const INPUT: &[u8] = b"reset 0 00\n3 00 00 00 00 00 00 0\n";
 
+/// The certificate of JUMP.
+fn accepted() -> Bytes<'static> {
+    Bytes::whole(JUMP_CERTIFICATE.as_bytes())
+}
+
 /// Where the ROM fails, no other device is asked.
 #[test]
-fn the_rom_is_read_first(rt: HostRuntime) -> Result<(), Fail> {
+fn the_rom_is_read_first(rt: HostRuntime) {
     let alloc = rt.alloc();
-    let cert = certificate_text(alloc, 6, 0x4380, 0x4400, &[(0, 'u'), (3, 's')])?;
     for calls in 0..4 {
-        let mut cert = Bytes::whole(cert.as_str().as_bytes());
-        let mut out = Taken::new(alloc);
-        let status = verify_on(
-            alloc,
-            &mut Bytes::failing(JUMP, 2, calls),
-            &mut cert,
-            &mut out,
-        );
-        assert_eq!(rt; status, 3);
-        assert_eq!(rt; cert.asked(), 0);
-        assert_eq!(rt; out.asked(), 0);
+        let rom = Bytes::failing(JUMP, 2, calls);
+        let after = verify(alloc, rom, accepted(), Taken::new(alloc));
+        assert!(rt; after.status == 3);
+        assert!(rt; after.cert_asked == 0 && after.out_asked == 0);
     }
-    let mut cert = Bytes::whole(cert.as_str().as_bytes());
-    let mut input = Bytes::whole(INPUT);
-    let mut out = Taken::new(alloc);
-    let status = run_on(
-        alloc,
-        &mut Bytes::failing(JUMP, 2, 1),
-        &mut cert,
-        &mut input,
-        3,
-        &mut out,
-    );
-    assert_eq!(rt; status, 3);
-    assert_eq!(rt; cert.asked(), 0);
-    assert_eq!(rt; input.asked(), 0);
-    assert_eq!(rt; out.asked(), 0);
-    Ok(())
+    let rom = Bytes::failing(JUMP, 2, 1);
+    let (cert, input) = (accepted(), Bytes::whole(INPUT));
+    let after = run(alloc, rom, cert, input, 3, Taken::new(alloc));
+    assert!(rt; after.status == 3);
+    assert!(rt; after.cert_asked == 0 && after.input_asked == 0 && after.out_asked == 0);
 }
 
 /// Where the certificate fails, the ROM was read to its end, and no other device is asked.
 #[test]
-fn the_certificate_is_read_next(rt: HostRuntime) -> Result<(), Fail> {
+fn the_certificate_is_read_next(rt: HostRuntime) {
     let alloc = rt.alloc();
-    let mut rom = Bytes::whole(JUMP);
-    let mut out = Taken::new(alloc);
-    let status = verify_on(
-        alloc,
-        &mut rom,
-        &mut Bytes::failing(b"galcert 1\n", 4, 1),
-        &mut out,
-    );
-    assert_eq!(rt; status, 3);
-    assert_eq!(rt; rom.left(), 0);
-    assert_eq!(rt; out.asked(), 0);
-    let mut rom = Bytes::whole(JUMP);
-    let mut input = Bytes::whole(INPUT);
-    let mut out = Taken::new(alloc);
-    let status = run_on(
-        alloc,
-        &mut rom,
-        &mut Bytes::failing(b"galcert 1\n", 4, 1),
-        &mut input,
-        3,
-        &mut out,
-    );
-    assert_eq!(rt; status, 3);
-    assert_eq!(rt; rom.left(), 0);
-    assert_eq!(rt; input.asked(), 0);
-    assert_eq!(rt; out.asked(), 0);
-    Ok(())
+    let cert = Bytes::failing(b"galcert 1\n", 4, 1);
+    let after = verify(alloc, Bytes::whole(JUMP), cert, Taken::new(alloc));
+    assert!(rt; after.status == 3 && after.rom_left == 0 && after.out_asked == 0);
+    let cert = Bytes::failing(b"galcert 1\n", 4, 1);
+    let (rom, input) = (Bytes::whole(JUMP), Bytes::whole(INPUT));
+    let after = run(alloc, rom, cert, input, 3, Taken::new(alloc));
+    assert!(rt; after.status == 3 && after.rom_left == 0);
+    assert!(rt; after.input_asked == 0 && after.out_asked == 0);
 }
 
 /// The input of a refused certificate is not asked for a byte, whether the refusal can be written or not.
 #[test]
-fn no_input_after_a_refusal(rt: HostRuntime) -> Result<(), Fail> {
+fn no_input_after_a_refusal(rt: HostRuntime) {
     let alloc = rt.alloc();
-    let refused = certificate_text(alloc, 6, 0x4380, 0x4400, &[(0, 'u')])?;
     for (cert, want) in [
-        (refused.as_str(), "refused 0000 12 NotCovered\n"),
+        (ROW_MISSING, "refused 0000 12 NotCovered\n"),
         ("galcert 1\nrom 06\n", "bad certificate line 2\n"),
     ] {
-        for (calls, status_wanted) in [(u64::MAX, 1), (0, 3)] {
-            let mut input = Bytes::failing(INPUT, 1, 0);
-            let mut out = Taken::failing(alloc, 4096, calls);
-            let status = run_on(
-                alloc,
-                &mut Bytes::whole(JUMP),
-                &mut Bytes::whole(cert.as_bytes()),
-                &mut input,
-                3,
-                &mut out,
-            );
-            assert_eq!(rt; status, status_wanted);
-            assert_eq!(rt; input.asked(), 0);
-            if calls > 0 {
-                assert_eq!(rt; out.bytes.as_slice(), want.as_bytes());
-            }
+        for (calls, status, written) in [(u64::MAX, 1, want), (0, 3, "")] {
+            let (rom, cert) = (Bytes::whole(JUMP), Bytes::whole(cert.as_bytes()));
+            let out = Taken::failing(alloc, 4096, calls);
+            let after = run(alloc, rom, cert, Bytes::failing(INPUT, 1, 0), 3, out);
+            assert!(rt; after.is(status, written), "{want}");
+            assert!(rt; after.input_asked == 0);
         }
     }
-    Ok(())
 }
 
 /// The run's lines are written behind the last byte of the input.
 #[test]
-fn the_input_is_read_before_the_lines_are_written(rt: HostRuntime) -> Result<(), Fail> {
+fn the_input_is_read_before_the_lines_are_written(rt: HostRuntime) {
     let alloc = rt.alloc();
-    let cert = certificate_text(alloc, 6, 0x4380, 0x4400, &[(0, 'u'), (3, 's')])?;
-    let mut input = Bytes::whole(INPUT);
-    let status = run_on(
-        alloc,
-        &mut Bytes::whole(JUMP),
-        &mut Bytes::whole(cert.as_str().as_bytes()),
-        &mut input,
-        3,
-        &mut Taken::failing(alloc, 4096, 0),
-    );
-    assert_eq!(rt; status, 3);
-    assert_eq!(rt; input.left(), 0);
-    Ok(())
+    let (rom, cert, input) = (Bytes::whole(JUMP), accepted(), Bytes::whole(INPUT));
+    let after = run(alloc, rom, cert, input, 3, Taken::failing(alloc, 4096, 0));
+    assert!(rt; after.status == 3 && after.input_left == 0);
 }
 
 /// A ROM file is not read past 16,385 bytes, and INPUT of a refused certificate is not read at all.
@@ -130,31 +76,19 @@ fn the_input_is_read_before_the_lines_are_written(rt: HostRuntime) -> Result<(),
 fn nothing_is_read_past_what_is_needed(rt: HostRuntime) -> Result<(), Fail> {
     let alloc = rt.alloc();
     let long = vec![in alloc; 0; 20_000]?;
-    let mut rom = Bytes::whole(long.as_slice());
-    let mut input = Bytes::failing(b"", 1, 0);
-    let mut out = Taken::new(alloc);
-    let cert = certificate_text(alloc, 6, 0x4380, 0x4400, &[(0, 'u'), (3, 's')])?;
-    let status = run_on(
-        alloc,
-        &mut rom,
-        &mut Bytes::whole(cert.as_str().as_bytes()),
-        &mut input,
-        1,
-        &mut out,
-    );
-    assert_eq!(rt; status, 1);
-    assert_eq!(rt; rom.left(), 20_000 - 16_385);
-    assert_eq!(rt; out.bytes.as_slice(), b"refused 0000 1 Rom\n".as_slice());
+    let (rom, cert) = (Bytes::whole(long.as_slice()), accepted());
+    let input = Bytes::failing(b"", 1, 0);
+    let after = run(alloc, rom, cert, input, 1, Taken::new(alloc));
+    assert!(rt; after.is(1, "refused 0000 1 Rom\n"));
+    assert!(rt; after.rom_left == 20_000 - 16_385);
     Ok(())
 }
 
 /// A file is opened at its first read, so a refused certificate is told even where there is no input.
 #[test]
-fn files_are_opened_at_their_first_read(rt: HostRuntime) -> Result<(), Fail> {
+fn files_are_opened_at_their_first_read(rt: HostRuntime) {
     let alloc = rt.alloc();
-    let accepted = certificate_text(alloc, 6, 0x4380, 0x4400, &[(0, 'u'), (3, 's')])?;
-    let refused = certificate_text(alloc, 6, 0x4380, 0x4400, &[(0, 'u')])?;
-    for (cert, want) in [(accepted.as_str(), 3), (refused.as_str(), 1)] {
+    for (cert, want) in [(JUMP_CERTIFICATE, 3), (ROW_MISSING, 1)] {
         let status = run_on(
             alloc,
             &mut Bytes::whole(JUMP),
@@ -163,7 +97,6 @@ fn files_are_opened_at_their_first_read(rt: HostRuntime) -> Result<(), Fail> {
             3,
             &mut Taken::new(alloc),
         );
-        assert_eq!(rt; status, want);
+        assert!(rt; status == want);
     }
-    Ok(())
 }

@@ -4,6 +4,8 @@
 #[cfg(test)]
 mod certificates;
 #[cfg(test)]
+mod commands_over;
+#[cfg(test)]
 mod device_order;
 #[cfg(test)]
 mod memory_devices;

@@ -1,306 +1,241 @@
 // Verdicts and runs over devices in memory.
 
+use crate::commands_over::{run, run_whole, verify, verify_whole};
 use crate::memory_devices::{Bytes, Taken};
-use crate::samples::{JUMP, STORE, certificate_text};
-use commands::{run_on, steps_of, verify_on};
-use std::alloc::Global;
+use crate::samples::{JUMP, JUMP_CERTIFICATE, ROW_MISSING, STORE, certificate_text};
+use commands::steps_of;
 use std::test::Fail;
 
-/// What `verify` writes, with its status after it.
-fn verified(alloc: Global, rom: &[u8], cert: &str) -> Result<(Vec<u8>, u8), Fail> {
-    let mut out = Taken::new(alloc);
-    let status = verify_on(
-        alloc,
-        &mut Bytes::whole(rom),
-        &mut Bytes::whole(cert.as_bytes()),
-        &mut out,
-    );
-    Ok((out.bytes, status))
-}
+/// A ROM, its certificate, and the status and the text of `verify`.
+const VERDICTS: &[(&[u8], &str, u8, &str)] = &[
+    (
+        JUMP,
+        JUMP_CERTIFICATE,
+        0,
+        "accepted\nmain 0000 depth     0 time      -\nstack 0 of 128\nnmi none\n",
+    ),
+    // LD SP,4400H; LD (0000H),A or LD (4800H),A or LD (7009H),A; JR -2
+    (
+        b"\x31\x00\x44\x32\x00\x00\x18\xFE",
+        certificate_text!(8, "4380 4400", "0000 u", "0003 s", "0006 s"),
+        1,
+        "refused 0003 6 WriteRom\n",
+    ),
+    (
+        b"\x31\x00\x44\x32\x00\x48\x18\xFE",
+        certificate_text!(8, "4380 4400", "0000 u", "0003 s", "0006 s"),
+        1,
+        "refused 0003 7 WriteUnmapped\n",
+    ),
+    (
+        b"\x31\x00\x44\x32\x09\x70\x18\xFE",
+        certificate_text!(8, "4380 4400", "0000 u", "0003 s", "0006 s"),
+        1,
+        "refused 0003 12 NotCovered\n",
+    ),
+    (JUMP, ROW_MISSING, 1, "refused 0000 12 NotCovered\n"),
+    (
+        JUMP,
+        certificate_text!(6, "4400 4400", "0000 u", "0003 s"),
+        1,
+        "refused 0000 2 Region\n",
+    ),
+    // LD SP,4200H
+    (
+        b"\x31\x00\x42",
+        certificate_text!(3, "4380 4400", "0000 u", "0003 s"),
+        1,
+        "refused 0000 20 SpWrite\n",
+    ),
+    // LD A,1; LD (7001H),A; LD SP,4400H; JR -2
+    (
+        b"\x3E\x01\x32\x01\x70\x31\x00\x44\x18\xFE",
+        certificate_text!(10, "4380 4400", "0000 u", "0002 u", "0005 u", "0008 s"),
+        1,
+        "refused 0002 15 NmiBeforeStack\n",
+    ),
+    (
+        JUMP,
+        certificate_text!(6, "4380 4400", "0000 s", "0003 s"),
+        1,
+        "refused 0000 3 Entry\n",
+    ),
+    // The first byte of a jump, and no instruction
+    (
+        b"\xC3\x00",
+        certificate_text!(2, "4380 4400", "0000 u"),
+        1,
+        "refused 0000 4 Decode Truncated\n",
+    ),
+    (
+        b"\xCB\x30",
+        certificate_text!(2, "4380 4400", "0000 u"),
+        1,
+        "refused 0000 4 Decode Undocumented\n",
+    ),
+    // HALT, and OUT (00),A: the rules do not know them yet
+    (
+        b"\x76",
+        certificate_text!(1, "4380 4400", "0000 u"),
+        1,
+        "refused 0000 12 NotCovered\n",
+    ),
+    (
+        b"\xD3\x00",
+        certificate_text!(2, "4380 4400", "0000 u"),
+        1,
+        "refused 0000 12 NotCovered\n",
+    ),
+    // A ROM of no bytes
+    (
+        b"",
+        certificate_text!(0, "4380 4400", "0000 u"),
+        1,
+        "refused 0000 1 Rom\n",
+    ),
+    // The last line without its line feed, a number with a leading zero, and no line
+    (
+        JUMP,
+        "galcert 1\nrom 6\nstack 4380 4400\nbudget -\nproc main 0000 0 0 -\n\
+         row 0 0000 u * * * * * * * * * * - - - -\n\
+         row 0 0003 s * * * * * * * * * * - - - -\nend",
+        1,
+        "bad certificate line 8\n",
+    ),
+    (JUMP, "galcert 1\nrom 06\n", 1, "bad certificate line 2\n"),
+    (JUMP, "", 1, "bad certificate line 1\n"),
+];
 
-/// What `run` writes, with its status after it.
-fn played(
-    alloc: Global,
-    rom: &[u8],
-    cert: &str,
-    input: &str,
-    steps: u32,
-) -> Result<(Vec<u8>, u8), Fail> {
-    let mut out = Taken::new(alloc);
-    let status = run_on(
-        alloc,
-        &mut Bytes::whole(rom),
-        &mut Bytes::whole(cert.as_bytes()),
-        &mut Bytes::whole(input.as_bytes()),
-        steps,
-        &mut out,
-    );
-    Ok((out.bytes, status))
+#[test]
+fn verdicts_are_told(rt: HostRuntime) {
+    for &(rom, cert, status, text) in VERDICTS {
+        assert!(rt;
+            verify_whole(rt.alloc(), rom, cert).is(status, text),
+            "{text}"
+        );
+    }
 }
 
 #[test]
-fn six_bytes_are_accepted_and_run(rt: HostRuntime) -> Result<(), Fail> {
-    let alloc = rt.alloc();
-    let cert = certificate_text(alloc, 6, 0x4380, 0x4400, &[(0, 'u'), (3, 's')])?;
-    let (table, status) = verified(alloc, JUMP, cert.as_str())?;
-    assert_eq!(rt; status, 0);
-    assert_eq!(rt;
-        table.as_slice(),
-        b"accepted\nmain 0000 depth     0 time      -\nstack 0 of 128\nnmi none\n".as_slice()
-    );
-    let input = "reset 0 00\n3 00 00 00 00 00 00 0\n";
-    let (text, status) = played(alloc, JUMP, cert.as_str(), input, 3)?;
-    assert_eq!(rt; status, 0);
-    assert_eq!(rt;
-        text.as_slice(),
-        b"done 3 30 0003 4400\nregs 0000 0000 0000 0000 0000 0000\nsum 0 0 0\n".as_slice()
-    );
-    let (text, status) = played(alloc, JUMP, cert.as_str(), input, 0)?;
-    assert_eq!(rt; status, 0);
-    assert_eq!(rt;
-        text.as_slice(),
-        b"done 0 0 0000 0000\nregs 0000 0000 0000 0000 0000 0000\nsum 0 0 0\n".as_slice()
-    );
+fn a_rom_of_too_many_bytes_is_refused(rt: HostRuntime) -> Result<(), Fail> {
+    let long = vec![in rt.alloc(); 0; 16_385]?;
+    let cert = certificate_text!(16385, "4380 4400", "0000 u");
+    assert!(rt; verify_whole(rt.alloc(), long.as_slice(), cert).is(1, "refused 0000 1 Rom\n"));
     Ok(())
 }
 
-/// A line of 30 bytes has its line feed as the 31st.
+/// An input, at most this many steps of it, and the status and the text of `run` with JUMP.
+const RUNS: &[(&str, u32, u8, &str)] = &[
+    (
+        "reset 0 00\n3 00 00 00 00 00 00 0\n",
+        3,
+        0,
+        "done 3 30 0003 4400\nregs 0000 0000 0000 0000 0000 0000\nsum 0 0 0\n",
+    ),
+    (
+        "reset 0 00\n3 00 00 00 00 00 00 0\n",
+        0,
+        0,
+        "done 0 0 0000 0000\nregs 0000 0000 0000 0000 0000 0000\nsum 0 0 0\n",
+    ),
+    // The longest line: 30 bytes, with its line feed as the 31st
+    (
+        "reset 0 00\n4294967295 00 00 00 00 00 00 0\n",
+        3,
+        0,
+        "done 3 30 0003 4400\nregs 0000 0000 0000 0000 0000 0000\nsum 0 0 0\n",
+    ),
+    ("", 2, 1, "bad input line 1\n"),
+    ("reset 50688 00\n", 2, 1, "bad input line 1\n"),
+    ("reset 0 00", 2, 1, "bad input line 1\n"),
+    (
+        "reset 0 00\n0 00 00 00 00 00 00 0\n",
+        2,
+        1,
+        "bad input line 2\n",
+    ),
+    (
+        "reset 0 00\n1 00 00 00 00 00 00 2\n",
+        2,
+        1,
+        "bad input line 2\n",
+    ),
+    (
+        "reset 0 00\n1 00 00 00 00 00 0a 0\n",
+        2,
+        1,
+        "bad input line 2\n",
+    ),
+    (
+        "reset 0 00\n4294967295 00 00 00 00 00 00 0 \n",
+        2,
+        1,
+        "bad input line 2\n",
+    ),
+    (
+        "reset 0 00\n1 00 00 00 00 00 00 0\n1  00 00 00 00 00 00 0\n",
+        2,
+        1,
+        "bad input line 3\n",
+    ),
+];
+
 #[test]
-fn the_longest_line_is_good(rt: HostRuntime) -> Result<(), Fail> {
-    let alloc = rt.alloc();
-    let cert = certificate_text(alloc, 6, 0x4380, 0x4400, &[(0, 'u'), (3, 's')])?;
-    let input = "reset 0 00\n4294967295 00 00 00 00 00 00 0\n";
-    let (text, status) = played(alloc, JUMP, cert.as_str(), input, 3)?;
-    assert_eq!(rt; status, 0);
-    assert_eq!(rt;
-        text.as_slice(),
-        b"done 3 30 0003 4400\nregs 0000 0000 0000 0000 0000 0000\nsum 0 0 0\n".as_slice()
-    );
-    Ok(())
+fn runs_are_told(rt: HostRuntime) {
+    for &(input, steps, status, text) in RUNS {
+        let after = run_whole(rt.alloc(), JUMP, JUMP_CERTIFICATE, input, steps);
+        assert!(rt; after.is(status, text), "{input}");
+    }
 }
 
 #[test]
-fn a_store_reaches_work_ram(rt: HostRuntime) -> Result<(), Fail> {
-    let alloc = rt.alloc();
-    let cert = certificate_text(
-        alloc,
-        10,
-        0x4380,
-        0x4400,
-        &[(0, 'u'), (3, 's'), (5, 's'), (8, 's')],
-    )?;
+fn a_store_reaches_work_ram(rt: HostRuntime) {
+    let cert = certificate_text!(10, "4380 4400", "0000 u", "0003 s", "0005 s", "0008 s");
     let input = "reset 0 00\n5 00 00 00 00 00 00 0\n";
-    let (text, status) = played(alloc, STORE, cert.as_str(), input, 5)?;
-    assert_eq!(rt; status, 0);
-    assert_eq!(rt;
-        text.as_slice(),
-        b"done 5 54 0008 4400\nregs 0500 0000 0000 0000 0000 0000\nsum 5 0 0\n".as_slice()
-    );
-    Ok(())
-}
-
-/// Each ROM with its region, its rows and its refusal.
-#[test]
-fn refusals_are_told(rt: HostRuntime) -> Result<(), Fail> {
-    let alloc = rt.alloc();
-    let cases: [(&[u8], u16, u16, &[(u16, char)], &str); 12] = [
-        (
-            &[0x31, 0, 0x44, 0x32, 0, 0, 0x18, 0xFE],
-            0x4380,
-            0x4400,
-            &[(0, 'u'), (3, 's'), (6, 's')],
-            "refused 0003 6 WriteRom\n",
-        ),
-        (
-            &[0x31, 0, 0x44, 0x32, 0, 0x48, 0x18, 0xFE],
-            0x4380,
-            0x4400,
-            &[(0, 'u'), (3, 's'), (6, 's')],
-            "refused 0003 7 WriteUnmapped\n",
-        ),
-        (
-            &[0x31, 0, 0x44, 0x32, 9, 0x70, 0x18, 0xFE],
-            0x4380,
-            0x4400,
-            &[(0, 'u'), (3, 's'), (6, 's')],
-            "refused 0003 12 NotCovered\n",
-        ),
-        (
-            JUMP,
-            0x4380,
-            0x4400,
-            &[(0, 'u')],
-            "refused 0000 12 NotCovered\n",
-        ),
-        (
-            JUMP,
-            0x4400,
-            0x4400,
-            &[(0, 'u'), (3, 's')],
-            "refused 0000 2 Region\n",
-        ),
-        (
-            &[0x31, 0, 0x42],
-            0x4380,
-            0x4400,
-            &[(0, 'u'), (3, 's')],
-            "refused 0000 20 SpWrite\n",
-        ),
-        (
-            &[0x3E, 1, 0x32, 1, 0x70, 0x31, 0, 0x44, 0x18, 0xFE],
-            0x4380,
-            0x4400,
-            &[(0, 'u'), (2, 'u'), (5, 'u'), (8, 's')],
-            "refused 0002 15 NmiBeforeStack\n",
-        ),
-        (
-            JUMP,
-            0x4380,
-            0x4400,
-            &[(0, 's'), (3, 's')],
-            "refused 0000 3 Entry\n",
-        ),
-        (
-            &[0xC3, 0],
-            0x4380,
-            0x4400,
-            &[(0, 'u')],
-            "refused 0000 4 Decode Truncated\n",
-        ),
-        (
-            &[0xCB, 0x30],
-            0x4380,
-            0x4400,
-            &[(0, 'u')],
-            "refused 0000 4 Decode Undocumented\n",
-        ),
-        // HALT, and OUT (00),A: the rules do not know them yet
-        (
-            &[0x76],
-            0x4380,
-            0x4400,
-            &[(0, 'u')],
-            "refused 0000 12 NotCovered\n",
-        ),
-        (
-            &[0xD3, 0x00],
-            0x4380,
-            0x4400,
-            &[(0, 'u')],
-            "refused 0000 12 NotCovered\n",
-        ),
-    ];
-    for (rom, low, top, rows, want) in cases {
-        let cert = certificate_text(alloc, rom.len(), low, top, rows)?;
-        let (text, status) = verified(alloc, rom, cert.as_str())?;
-        assert_eq!(rt; status, 1, "{want}");
-        assert_eq!(rt; text.as_slice(), want.as_bytes(), "{want}");
-    }
-    Ok(())
-}
-
-#[test]
-fn a_rom_of_no_bytes_or_too_many_is_refused(rt: HostRuntime) -> Result<(), Fail> {
-    let alloc = rt.alloc();
-    let long = vec![in alloc; 0; 16_385]?;
-    for rom in [&[], long.as_slice()] {
-        let cert = certificate_text(alloc, rom.len(), 0x4380, 0x4400, &[(0, 'u')])?;
-        let (text, status) = verified(alloc, rom, cert.as_str())?;
-        assert_eq!(rt; status, 1);
-        assert_eq!(rt; text.as_slice(), b"refused 0000 1 Rom\n".as_slice());
-    }
-    Ok(())
-}
-
-#[test]
-fn bad_lines_are_told(rt: HostRuntime) -> Result<(), Fail> {
-    let alloc = rt.alloc();
-    let whole = certificate_text(alloc, 6, 0x4380, 0x4400, &[(0, 'u'), (3, 's')])?;
-    let unended = whole.as_str().strip_suffix("\n").ok_or("a last line feed")?;
-    let spelled = "galcert 1\nrom 06\n";
-    for (cert, want) in [
-        (unended, "bad certificate line 8\n"),
-        (spelled, "bad certificate line 2\n"),
-        ("", "bad certificate line 1\n"),
-    ] {
-        let (text, status) = verified(alloc, JUMP, cert)?;
-        assert_eq!(rt; status, 1);
-        assert_eq!(rt; text.as_slice(), want.as_bytes());
-    }
-    for (input, want) in [
-        ("", "bad input line 1\n"),
-        ("reset 50688 00\n", "bad input line 1\n"),
-        ("reset 0 00", "bad input line 1\n"),
-        ("reset 0 00\n0 00 00 00 00 00 00 0\n", "bad input line 2\n"),
-        ("reset 0 00\n1 00 00 00 00 00 00 2\n", "bad input line 2\n"),
-        ("reset 0 00\n1 00 00 00 00 00 0a 0\n", "bad input line 2\n"),
-        (
-            "reset 0 00\n4294967295 00 00 00 00 00 00 0 \n",
-            "bad input line 2\n",
-        ),
-        (
-            "reset 0 00\n1 00 00 00 00 00 00 0\n1  00 00 00 00 00 00 0\n",
-            "bad input line 3\n",
-        ),
-    ] {
-        let (text, status) = played(alloc, JUMP, whole.as_str(), input, 2)?;
-        assert_eq!(rt; status, 1, "{want}");
-        assert_eq!(rt; text.as_slice(), want.as_bytes());
-    }
-    Ok(())
+    let five = "done 5 54 0008 4400\nregs 0500 0000 0000 0000 0000 0000\nsum 5 0 0\n";
+    assert!(rt; run_whole(rt.alloc(), STORE, cert, input, 5).is(0, five));
 }
 
 /// Each device fails at each call in turn: the status is 3, and what was written stays.
 #[test]
-fn device_failures_are_told(rt: HostRuntime) -> Result<(), Fail> {
+fn device_failures_are_told(rt: HostRuntime) {
     let alloc = rt.alloc();
-    let cert = certificate_text(alloc, 6, 0x4380, 0x4400, &[(0, 'u'), (3, 's')])?;
+    let cert = JUMP_CERTIFICATE.as_bytes();
     let table = b"accepted\nmain 0000 depth     0 time      -\nstack 0 of 128\nnmi none\n";
     for calls in 0..table.len() {
-        let mut out = Taken::failing(alloc, 1, calls as u64);
-        let status = verify_on(
-            alloc,
-            &mut Bytes::whole(JUMP),
-            &mut Bytes::whole(cert.as_str().as_bytes()),
-            &mut out,
-        );
-        assert_eq!(rt; status, 3);
-        assert_eq!(rt; out.bytes.as_slice(), &table[..calls]);
+        let out = Taken::failing(alloc, 1, calls as u64);
+        let after = verify(alloc, Bytes::whole(JUMP), Bytes::whole(cert), out);
+        assert!(rt; after.status == 3 && after.written.as_slice() == &table[..calls]);
     }
     for calls in 0..4 {
-        let mut out = Taken::new(alloc);
-        let status = verify_on(
-            alloc,
-            &mut Bytes::failing(JUMP, 2, calls),
-            &mut Bytes::whole(cert.as_str().as_bytes()),
-            &mut out,
-        );
-        assert_eq!(rt; status, if calls < 4 { 3 } else { 0 });
-        assert!(rt; out.bytes.is_empty());
+        let rom = Bytes::failing(JUMP, 2, calls);
+        let after = verify(alloc, rom, Bytes::whole(cert), Taken::new(alloc));
+        assert!(rt; after.is(3, ""));
     }
     let input = b"reset 0 00\n3 00 00 00 00 00 00 0\n";
     for calls in 0..input.len() {
-        let mut out = Taken::new(alloc);
-        let status = run_on(
-            alloc,
-            &mut Bytes::whole(JUMP),
-            &mut Bytes::whole(cert.as_str().as_bytes()),
-            &mut Bytes::failing(input, 1, calls as u64),
-            3,
-            &mut out,
-        );
-        assert_eq!(rt; status, 3);
-        assert!(rt; out.bytes.is_empty());
+        let (rom, cert) = (Bytes::whole(JUMP), Bytes::whole(cert));
+        let input = Bytes::failing(input, 1, calls as u64);
+        let after = run(alloc, rom, cert, input, 3, Taken::new(alloc));
+        assert!(rt; after.is(3, ""));
     }
-    Ok(())
 }
 
 #[test]
 fn steps_are_decimal_digits(rt: HostRuntime) {
-    assert_eq!(rt; steps_of("0"), Some(0));
-    assert_eq!(rt; steps_of("007"), Some(7));
-    assert_eq!(rt; steps_of("4294967295"), Some(4_294_967_295));
-    for text in ["", "4294967296", "+1", "-1", "1 ", "1a", "99999999999"] {
-        assert_eq!(rt; steps_of(text), None, "{text}");
+    let rows: &[(&str, Option<u32>)] = &[
+        ("0", Some(0)),
+        ("007", Some(7)),
+        ("4294967295", Some(4_294_967_295)),
+        ("", None),
+        ("4294967296", None),
+        ("+1", None),
+        ("-1", None),
+        ("1 ", None),
+        ("1a", None),
+        ("99999999999", None),
+    ];
+    for &(text, steps) in rows {
+        assert!(rt; steps_of(text) == steps, "{text}");
     }
 }

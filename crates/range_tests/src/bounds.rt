@@ -11,7 +11,7 @@ use loop_bounds::{
     Change, Effect, Linear, Part, Ranges, SlotNumber, Term, Tightenable, Variable, becomes,
     decreases, tighten, vanishes,
 };
-use std::test::Fail;
+use std::process::Abort;
 
 /// The ranges of B, C and HL. The others are full.
 #[derive(Drop)]
@@ -68,16 +68,8 @@ impl Tightenable for Equal {
     }
 }
 
-fn words(low: u16, high: u16) -> WordRange {
+fn words((low, high): (u16, u16)) -> WordRange {
     WordRange::new(low, high).unwrap_or(WordRange::full())
-}
-
-fn of_b_and_c(b: WordRange, c: WordRange) -> Registers {
-    Registers {
-        b,
-        c,
-        hl: words(0xffff, 0xffff),
-    }
 }
 
 fn times(coefficient: i32, variable: Variable) -> Term {
@@ -87,24 +79,39 @@ fn times(coefficient: i32, variable: Variable) -> Term {
     }
 }
 
-fn linear(constant: i32, terms: &[Term]) -> Result<Linear, Fail> {
-    let mut sum = Linear::of_constant(constant).ok_or("the constant is too great")?;
-    for term in terms {
-        sum = sum.with_term(*term).ok_or("the term does not fit")?;
+/// A constant, and the coefficients of B, C and HL.
+type Sum = (i32, i32, i32, i32);
+
+fn linear(rt: &impl Abort, (constant, b, c, hl): Sum) -> Linear {
+    let mut sum = Linear::of_constant(constant).expect(rt, "the constant is too great");
+    for term in [
+        times(b, Variable::B),
+        times(c, Variable::C),
+        times(hl, Variable::Hl),
+    ] {
+        if term.coefficient != 0 {
+            sum = sum.with_term(term).expect(rt, "the term does not fit");
+        }
     }
-    Ok(sum)
+    sum
+}
+
+/// -1,000,000,000 - 1,000,000 * A + BC
+fn great(rt: &impl Abort) -> Linear {
+    let constant = Linear::of_constant(-1_000_000_000).expect(rt, "the least constant");
+    let less = constant
+        .with_term(times(-1_000_000, Variable::A))
+        .expect(rt, "the least coefficient");
+    less.with_term(times(1, Variable::Bc))
+        .expect(rt, "a second term")
 }
 
 #[test]
-fn linears_are_checked(rt: HostRuntime) -> Result<(), Fail> {
-    assert!(rt; Linear::of_constant(1_000_000_001) == None);
-    assert!(rt; Linear::of_constant(-1_000_000_001) == None);
-    let sum = linear(
-        -1_000_000_000,
-        &[times(-1_000_000, Variable::A), times(1, Variable::Bc)],
-    )?;
-    assert!(rt; sum.constant() == -1_000_000_000);
-    assert!(rt; sum.terms().len() == 2);
+fn linears_are_checked(rt: HostRuntime) {
+    assert!(rt; Linear::of_constant(1_000_000_001).is_none());
+    assert!(rt; Linear::of_constant(-1_000_000_001).is_none());
+    let sum = great(&rt);
+    assert!(rt; sum.constant() == -1_000_000_000 && sum.terms().len() == 2);
     let refused = [
         (times(1, Variable::Bc), "twice"),
         (times(1, Variable::L), "not rising"),
@@ -112,112 +119,190 @@ fn linears_are_checked(rt: HostRuntime) -> Result<(), Fail> {
         (times(1_000_001, Variable::Iy), "too great"),
     ];
     for (term, why) in refused {
-        let more = sum.with_term(term);
-        assert!(rt; more == None, "{why}");
+        assert!(rt; sum.with_term(term).is_none(), "{why}");
     }
-    let last = times(
-        1,
-        Variable::Slot(SlotNumber::new(63).ok_or("the last slot")?, Part::Low),
-    );
-    let whole = sum.with_term(last).ok_or("the last variable")?;
-    let fourth = whole.with_term(last);
-    assert!(rt; fourth == None, "a fourth term");
+}
+
+#[test]
+fn the_last_variable_fits(rt: HostRuntime) {
+    let number = SlotNumber::new(63).expect(&rt, "the last slot");
     assert!(rt; SlotNumber::new(64).is_none());
-    assert!(rt; Variable::Iy.rank() == 11);
-    assert!(rt; last.variable.rank() == 203);
-    Ok(())
+    let last = times(1, Variable::Slot(number, Part::Low));
+    assert!(rt; Variable::Iy.rank() == 11 && last.variable.rank() == 203);
+    let whole = great(&rt).with_term(last).expect(&rt, "the last variable");
+    assert!(rt; whole.with_term(last).is_none(), "a fourth term");
 }
 
-#[test]
-fn a_loop_of_eight_turns_pays(rt: HostRuntime) -> Result<(), Fail> {
-    // LD B,8 of 7 T-states, and DJNZ to itself, of 13 or 8.
-    let turns = linear(15, &[times(13, Variable::B)])?;
-    let (before, after) = (linear(126, &[])?, linear(20, &[])?);
-    let looping = of_b_and_c(words(1, 8), WordRange::full());
-    let any = of_b_and_c(words(0, 255), WordRange::full());
-    let counts = Effect {
-        b: Change::Lowered(Variable::B),
-        bc: Change::Unknown,
-        ..Effect::unchanged()
-    };
-    assert!(rt; decreases(&turns, &turns, 13, &counts, &looping, &looping));
-    assert!(rt; !decreases(&turns, &turns, 14, &counts, &looping, &looping));
-    assert!(rt; decreases(&turns, &after, 8, &counts, &looping, &any));
-    assert!(rt; !decreases(&turns, &after, 9, &counts, &looping, &any));
-    let sets = Effect {
-        b: Change::Constant(8),
-        ..Effect::unchanged()
-    };
-    assert!(rt; decreases(&before, &turns, 7, &sets, &any, &looping));
-    assert!(rt; !decreases(&before, &turns, 8, &sets, &any, &looping));
-    let unknown = Effect {
-        b: Change::Unknown,
-        ..Effect::unchanged()
-    };
-    assert!(rt; decreases(&before, &turns, 7, &unknown, &any, &looping));
-    assert!(rt; !decreases(&before, &turns, 7, &unknown, &looping, &any));
-    assert!(rt; !decreases(&before, &turns, 7, &Effect::unchanged(), &any, &looping));
-    Ok(())
+/// What a step leaves in a variable.
+#[derive(Clone, Copy)]
+enum Left {
+    OldA,
+    OldB,
+    OldC,
+    OldBc,
+    LoweredB,
+    Constant(u16),
+    Unknown,
 }
 
+fn change(left: Left) -> Change {
+    match left {
+        Left::OldA => Change::Old(Variable::A),
+        Left::OldB => Change::Old(Variable::B),
+        Left::OldC => Change::Old(Variable::C),
+        Left::OldBc => Change::Old(Variable::Bc),
+        Left::LoweredB => Change::Lowered(Variable::B),
+        Left::Constant(word) => Change::Constant(word),
+        Left::Unknown => Change::Unknown,
+    }
+}
+
+/// What a step leaves in B, C and BC. It leaves the other variables as they are.
+type Lefts = (Left, Left, Left);
+
+const KEEPS: Lefts = (Left::OldB, Left::OldC, Left::OldBc);
+
+fn effect((b, c, bc): Lefts) -> Effect {
+    Effect {
+        b: change(b),
+        c: change(c),
+        bc: change(bc),
+        ..Effect::unchanged()
+    }
+}
+
+/// The least and the greatest of B, and of C. HL is FFFF.
+type Bounds = ((u16, u16), (u16, u16));
+
+fn known((b, c): Bounds) -> Registers {
+    Registers {
+        b: words(b),
+        c: words(c),
+        hl: words((0xffff, 0xffff)),
+    }
+}
+
+/// The sums before and after a step of so many T-states, what it leaves, what is known before and after it, and whether
+/// the step is paid.
+type Step = (Sum, Sum, u32, Lefts, Bounds, Bounds, bool);
+
+fn is_as_told(rt: &impl Abort, &(before, after, time, left, from, to, pays): &Step) -> bool {
+    let (before, after) = (linear(rt, before), linear(rt, after));
+    let (from, to) = (known(from), known(to));
+    decreases(&before, &after, time, &effect(left), &from, &to) == pays
+}
+
+const LOOPING: Bounds = ((1, 8), (0, 65_535));
+
+const ANY: Bounds = ((0, 255), (0, 65_535));
+
+// LD B,8 of 7 T-states, and DJNZ to itself, of 13 or 8: the sums before it, at it and behind it.
+const BEFORE: Sum = (126, 0, 0, 0);
+
+const TURNS: Sum = (15, 13, 0, 0);
+
+const AFTER: Sum = (20, 0, 0, 0);
+
+const COUNTS: Lefts = (Left::LoweredB, Left::OldC, Left::Unknown);
+
+const SETS: Lefts = (Left::Constant(8), Left::OldC, Left::OldBc);
+
+const UNKNOWN: Lefts = (Left::Unknown, Left::OldC, Left::OldBc);
+
+const LOOP_STEPS: &[Step] = &[
+    (TURNS, TURNS, 13, COUNTS, LOOPING, LOOPING, true),
+    (TURNS, TURNS, 14, COUNTS, LOOPING, LOOPING, false),
+    (TURNS, AFTER, 8, COUNTS, LOOPING, ANY, true),
+    (TURNS, AFTER, 9, COUNTS, LOOPING, ANY, false),
+    (BEFORE, TURNS, 7, SETS, ANY, LOOPING, true),
+    (BEFORE, TURNS, 8, SETS, ANY, LOOPING, false),
+    (BEFORE, TURNS, 7, UNKNOWN, ANY, LOOPING, true),
+    (BEFORE, TURNS, 7, UNKNOWN, LOOPING, ANY, false),
+    (BEFORE, TURNS, 7, KEEPS, ANY, LOOPING, false),
+];
+
 #[test]
-fn the_arithmetic_does_not_wrap(rt: HostRuntime) -> Result<(), Fail> {
-    let ranges = of_b_and_c(words(0, 255), words(0, 255));
-    let same = Effect::unchanged();
-    let zero = Linear::zero();
-    let up = linear(0, &[times(1_000_000, Variable::Hl)])?;
-    let down = linear(1_000_000_000, &[times(-1_000_000, Variable::Hl)])?;
-    assert!(rt; decreases(&up, &zero, u32::MAX, &same, &ranges, &ranges));
-    assert!(rt; !decreases(&down, &zero, 0, &same, &ranges, &ranges));
-    assert!(rt; decreases(&zero, &down, 0, &same, &ranges, &ranges));
-    assert!(rt; !decreases(&zero, &up, 0, &same, &ranges, &ranges));
+fn a_loop_of_eight_turns_pays(rt: HostRuntime) {
+    for (place, step) in LOOP_STEPS.iter().enumerate() {
+        assert!(rt; is_as_told(&rt, step), "step {place}");
+    }
+}
+
+const BYTES: Bounds = ((0, 255), (0, 255));
+
+const ZERO: Sum = (0, 0, 0, 0);
+
+const UP: Sum = (0, 0, 0, 1_000_000);
+
+const DOWN: Sum = (1_000_000_000, 0, 0, -1_000_000);
+
+// B - C
+const APART: Sum = (0, 1, -1, 0);
+
+// Both become what A was.
+const MOVES: Lefts = (Left::OldA, Left::OldA, Left::OldBc);
+
+const GREAT_STEPS: &[Step] = &[
+    (UP, ZERO, u32::MAX, KEEPS, BYTES, BYTES, true),
+    (DOWN, ZERO, 0, KEEPS, BYTES, BYTES, false),
+    (ZERO, DOWN, 0, KEEPS, BYTES, BYTES, true),
+    (ZERO, UP, 0, KEEPS, BYTES, BYTES, false),
     // B - C after a step that makes both of them what A was: the two merge to 0.
-    let both = linear(0, &[times(1, Variable::B), times(-1, Variable::C)])?;
-    let moved = Effect {
-        b: Change::Old(Variable::A),
-        c: Change::Old(Variable::A),
-        ..Effect::unchanged()
-    };
-    assert!(rt; decreases(&zero, &both, 0, &moved, &ranges, &ranges));
-    assert!(rt; !decreases(&zero, &both, 0, &same, &ranges, &ranges));
-    Ok(())
-}
+    (ZERO, APART, 0, MOVES, BYTES, BYTES, true),
+    (ZERO, APART, 0, KEEPS, BYTES, BYTES, false),
+];
 
 #[test]
-fn facts_are_rewritten(rt: HostRuntime) -> Result<(), Fail> {
-    let five = linear(-5, &[times(1, Variable::B)])?;
-    let six = linear(-6, &[times(1, Variable::B)])?;
-    let minus_six = linear(6, &[times(-1, Variable::B)])?;
-    let apart = linear(0, &[times(1, Variable::B), times(-1, Variable::C)])?;
-    let effects = |b, c| Effect {
-        b,
-        c,
-        ..Effect::unchanged()
-    };
-    let keep = Change::Old(Variable::C);
-    assert!(rt; vanishes(&five, &effects(Change::Constant(5), keep)));
-    assert!(rt; !vanishes(&five, &effects(Change::Constant(4), keep)));
-    assert!(rt; !vanishes(&five, &effects(Change::Unknown, keep)));
-    assert!(rt;
-        vanishes(
-            &apart,
-            &effects(Change::Old(Variable::A), Change::Old(Variable::A))
-        )
-    );
-    assert!(rt; !vanishes(&apart, &Effect::unchanged()));
-    let lowered = effects(Change::Lowered(Variable::B), keep);
-    assert!(rt; becomes(&five, &lowered, &six) && becomes(&five, &lowered, &minus_six));
-    assert!(rt; !becomes(&five, &lowered, &five) && !becomes(&five, &Effect::unchanged(), &six));
-    let swapped = effects(Change::Old(Variable::C), Change::Old(Variable::B));
-    assert!(rt; becomes(&apart, &swapped, &apart));
-    assert!(rt; !becomes(&apart, &effects(Change::Unknown, keep), &apart));
-    Ok(())
+fn the_arithmetic_does_not_wrap(rt: HostRuntime) {
+    for (place, step) in GREAT_STEPS.iter().enumerate() {
+        assert!(rt; is_as_told(&rt, step), "step {place}");
+    }
+}
+
+// B - 5, B - 6 and 6 - B
+const FIVE: Sum = (-5, 1, 0, 0);
+
+const SIX: Sum = (-6, 1, 0, 0);
+
+const MINUS_SIX: Sum = (6, -1, 0, 0);
+
+const LOWERS: Lefts = (Left::LoweredB, Left::OldC, Left::OldBc);
+
+/// What a step leaves, a fact, and whether the fact holds behind the step by itself.
+const VANISHING: &[(Lefts, Sum, bool)] = &[
+    ((Left::Constant(5), Left::OldC, Left::OldBc), FIVE, true),
+    ((Left::Constant(4), Left::OldC, Left::OldBc), FIVE, false),
+    (UNKNOWN, FIVE, false),
+    (MOVES, APART, true),
+    (KEEPS, APART, false),
+];
+
+/// What a step leaves, a fact, another, and whether the first holds behind the step where the other held before.
+const BECOMING: &[(Lefts, Sum, Sum, bool)] = &[
+    (LOWERS, FIVE, SIX, true),
+    (LOWERS, FIVE, MINUS_SIX, true),
+    (LOWERS, FIVE, FIVE, false),
+    (KEEPS, FIVE, SIX, false),
+    ((Left::OldC, Left::OldB, Left::OldBc), APART, APART, true),
+    (UNKNOWN, APART, APART, false),
+];
+
+#[test]
+fn facts_are_rewritten(rt: HostRuntime) {
+    for (place, &(lefts, fact, wanted)) in VANISHING.iter().enumerate() {
+        let found = vanishes(&linear(&rt, fact), &effect(lefts));
+        assert!(rt; found == wanted, "fact {place}");
+    }
+    for (place, &(lefts, fact, given, wanted)) in BECOMING.iter().enumerate() {
+        let found = becomes(&linear(&rt, fact), &effect(lefts), &linear(&rt, given));
+        assert!(rt; found == wanted, "pair {place}");
+    }
 }
 
 /// What tightening by a fact leaves of a state in which all variables are equal.
-fn tightened(fact: &Linear, low: u16, high: u16) -> Option<(u16, u16)> {
+fn tightened(fact: &Linear, range: (u16, u16)) -> Option<(u16, u16)> {
     let mut state = Equal {
-        range: words(low, high),
+        range: words(range),
     };
     if tighten(fact, &mut state) {
         Some((state.range.low(), state.range.high()))
@@ -226,40 +311,45 @@ fn tightened(fact: &Linear, low: u16, high: u16) -> Option<(u16, u16)> {
     }
 }
 
-#[test]
-fn a_fact_cuts_its_variables(rt: HostRuntime) -> Result<(), Fail> {
-    let b = |by| times(by, Variable::B);
-    let c = |by| times(by, Variable::C);
-    let five = linear(-5, &[b(1)])?;
-    assert!(rt; tightened(&five, 0, 10) == Some((5, 5)));
-    assert!(rt; tightened(&five, 6, 10) == None);
+/// A fact, the range before it and the range that it leaves.
+const CUTS: &[(Sum, (u16, u16), Option<(u16, u16)>)] = &[
+    ((-5, 1, 0, 0), (0, 10), Some((5, 5))),
+    ((-5, 1, 0, 0), (6, 10), None),
     // 3 * B = 10 has no whole solution: 10 / 3 is rounded up and down, inwards.
-    assert!(rt; tightened(&linear(-10, &[b(3)])?, 0, 10) == None);
-    assert!(rt; tightened(&linear(10, &[b(-5)])?, 0, 10) == Some((2, 2)));
+    ((-10, 3, 0, 0), (0, 10), None),
+    ((10, -5, 0, 0), (0, 10), Some((2, 2))),
     // 2 * B = C: B is at most half of 10, and then C, like all, at most 5.
-    assert!(rt; tightened(&linear(0, &[b(2), c(-1)])?, 0, 10) == Some((0, 5)));
+    ((0, 2, -1, 0), (0, 10), Some((0, 5))),
     // 2 * B - C - 3 = 0: B from 3 / 2 to 13 / 2, inwards 2 to 6; then C from 1 to 9, which leaves 2 to 6.
-    assert!(rt; tightened(&linear(-3, &[b(2), c(-1)])?, 0, 10) == Some((2, 6)));
+    ((-3, 2, -1, 0), (0, 10), Some((2, 6))),
     // B + C - 30 = 0: B at least 20, so nothing above 10 is enough.
-    assert!(rt; tightened(&linear(-30, &[b(1), c(1)])?, 0, 10) == None);
-    assert!(rt; tightened(&linear(-30, &[b(1), c(1)])?, 0, 20) == Some((10, 20)));
+    ((-30, 1, 1, 0), (0, 10), None),
+    ((-30, 1, 1, 0), (0, 20), Some((10, 20))),
     // B + C + 1 = 0 has no natural solution; a fact without terms cuts nothing.
-    assert!(rt; tightened(&linear(1, &[b(1), c(1)])?, 0, 65_535) == None);
-    assert!(rt; tightened(&linear(5, &[])?, 7, 9) == Some((7, 9)));
+    ((1, 1, 1, 0), (0, 65_535), None),
+    ((5, 0, 0, 0), (7, 9), Some((7, 9))),
     // B - C = 0 is no news of equal variables.
-    assert!(rt; tightened(&linear(0, &[b(1), c(-1)])?, 7, 9) == Some((7, 9)));
-    Ok(())
+    ((0, 1, -1, 0), (7, 9), Some((7, 9))),
+];
+
+#[test]
+fn a_fact_cuts_its_variables(rt: HostRuntime) {
+    for (place, &(fact, range, left)) in CUTS.iter().enumerate() {
+        assert!(rt;
+            tightened(&linear(&rt, fact), range) == left,
+            "fact {place}"
+        );
+    }
 }
 
 /// The state keeps the cuts before the one that leaves nothing.
 #[test]
-fn what_a_refused_fact_leaves(rt: HostRuntime) -> Result<(), Fail> {
+fn what_a_refused_fact_leaves(rt: HostRuntime) {
     // 2 * B - C - 19 = 0: B from 19 / 2 to 29 / 2, inwards 10 to 14, which leaves 10 of 0 to 10; then C is 1.
-    let fact = linear(-19, &[times(2, Variable::B), times(-1, Variable::C)])?;
+    let fact = linear(&rt, (-19, 2, -1, 0));
     let mut state = Equal {
-        range: words(0, 10),
+        range: words((0, 10)),
     };
     assert!(rt; !tighten(&fact, &mut state));
-    assert!(rt; state.range == words(10, 10));
-    Ok(())
+    assert!(rt; state.range.low() == 10 && state.range.high() == 10);
 }

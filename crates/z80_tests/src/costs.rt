@@ -1,4 +1,5 @@
 // T-states and ports against UM0080: each table was written from the manual's T-states, not from the code.
+use crate::pages::with_code;
 use t_states::{FRAME, IDLE_COST, MAX_BUDGET, NMI_COST, cost, cost_range, fixed_numbers, is_io};
 use z80_decode::decode;
 
@@ -155,15 +156,16 @@ const PORTS_BEHIND_ED: &[u8; 256] = b"\
     ................\
     ................";
 
+/// The digits of the tables, by their T-states.
+const DIGITS: &[u8; 24] = b"0123456789ABCDEFGHIJKLMN";
+
 /// The T-states as a digit or a letter, or '-' where no instruction was decoded.
 fn mark_of(bytes: &[u8], taken: bool) -> u8 {
     let Ok((instr, _)) = decode(bytes) else {
         return b'-';
     };
-    match cost(&instr, taken) {
-        digit @ 0..=9 => b'0' + digit,
-        letter => b'A' + (letter - 10),
-    }
+    let states = cost(&instr, taken);
+    DIGITS[usize::from(states)]
 }
 
 /// What a table of the second cost gives, or the first where that makes no difference.
@@ -178,56 +180,40 @@ fn uses_port(bytes: &[u8]) -> bool {
     }
 }
 
-#[test]
-fn costs_every_code(rt: HostRuntime) {
-    for code in 0..=255u8 {
-        let place = usize::from(code);
-        let first = UNPREFIXED[place];
-        assert_eq!(rt; mark_of(&[code, 0, 0, 0], false), first, "{code:02X}");
-        assert_eq!(rt;
-            mark_of(&[code, 0, 0, 0], true),
-            or_same(UNPREFIXED_TAKEN[place], first),
-            "{code:02X} taken"
-        );
-        let first = BEHIND_ED[place];
-        assert_eq!(rt; mark_of(&[0xED, code, 0, 0], false), first, "ED {code:02X}");
-        assert_eq!(rt;
-            mark_of(&[0xED, code, 0, 0], true),
-            or_same(BEHIND_ED_TAKEN[place], first),
-            "ED {code:02X} taken"
-        );
-    }
-}
+/// A page's name, its bytes, the place among them where each code stands in turn, the T-states of all codes, and those
+/// where a condition holds or the instruction repeats.
+const PAGES: &[(&str, [u8; 4], usize, &[u8; 256], &[u8; 256])] = &[
+    ("", [0, 0, 0, 0], 0, UNPREFIXED, UNPREFIXED_TAKEN),
+    ("CB", [0xCB, 0, 0, 0], 1, BEHIND_CB, BEHIND_CB),
+    ("ED", [0xED, 0, 0, 0], 1, BEHIND_ED, BEHIND_ED_TAKEN),
+    ("DD", [0xDD, 0, 0, 0], 1, BEHIND_INDEX, BEHIND_INDEX),
+    ("FD", [0xFD, 0, 0, 0], 1, BEHIND_INDEX, BEHIND_INDEX),
+    (
+        "DD CB 05",
+        [0xDD, 0xCB, 5, 0],
+        3,
+        BEHIND_INDEX_CB,
+        BEHIND_INDEX_CB,
+    ),
+    (
+        "FD CB 05",
+        [0xFD, 0xCB, 5, 0],
+        3,
+        BEHIND_INDEX_CB,
+        BEHIND_INDEX_CB,
+    ),
+];
 
 #[test]
-fn ignores_taken_elsewhere(rt: HostRuntime) {
-    for code in 0..=255u8 {
-        let place = usize::from(code);
-        for taken in [false, true] {
-            assert_eq!(rt;
-                mark_of(&[0xCB, code, 0, 0], taken),
-                BEHIND_CB[place],
-                "CB {code:02X}"
-            );
-            assert_eq!(rt;
-                mark_of(&[0xDD, code, 0, 0], taken),
-                BEHIND_INDEX[place],
-                "DD {code:02X}"
-            );
-            assert_eq!(rt;
-                mark_of(&[0xFD, code, 0, 0], taken),
-                BEHIND_INDEX[place],
-                "FD {code:02X}"
-            );
-            assert_eq!(rt;
-                mark_of(&[0xDD, 0xCB, 5, code], taken),
-                BEHIND_INDEX_CB[place],
-                "DD CB 05 {code:02X}"
-            );
-            assert_eq!(rt;
-                mark_of(&[0xFD, 0xCB, 5, code], taken),
-                BEHIND_INDEX_CB[place],
-                "FD CB 05 {code:02X}"
+fn costs_every_code(rt: HostRuntime) {
+    for &(name, page, place, marks, taken_marks) in PAGES {
+        for code in 0..=255u8 {
+            let bytes = with_code(page, place, code);
+            let first = marks[usize::from(code)];
+            let taken = or_same(taken_marks[usize::from(code)], first);
+            assert!(rt;
+                mark_of(&bytes, false) == first && mark_of(&bytes, true) == taken,
+                "{name} {code:02X}"
             );
         }
     }
@@ -236,26 +222,22 @@ fn ignores_taken_elsewhere(rt: HostRuntime) {
 #[test]
 fn tells_ports(rt: HostRuntime) {
     for code in 0..=255u8 {
-        assert_eq!(rt;
-            uses_port(&[code, 0, 0, 0]),
-            code == 0xD3 || code == 0xDB,
+        let behind_ed = PORTS_BEHIND_ED[usize::from(code)] == b'#';
+        assert!(rt;
+            uses_port(&[code, 0, 0, 0]) == (code == 0xD3 || code == 0xDB)
+                && uses_port(&[0xED, code, 0, 0]) == behind_ed
+                && !uses_port(&[0xCB, code, 0, 0])
+                && !uses_port(&[0xDD, code, 0, 0]),
             "{code:02X}"
         );
-        assert_eq!(rt;
-            uses_port(&[0xED, code, 0, 0]),
-            PORTS_BEHIND_ED[usize::from(code)] == b'#',
-            "ED {code:02X}"
-        );
-        assert!(rt; !uses_port(&[0xCB, code, 0, 0]), "CB {code:02X}");
-        assert!(rt; !uses_port(&[0xDD, code, 0, 0]), "DD {code:02X}");
     }
 }
 
 /// The manual's T-states of what no instruction costs, and the board's frame of 264 lines of 192.
 #[test]
 fn frame_has_its_numbers(rt: HostRuntime) {
-    assert_eq!(rt; (NMI_COST, IDLE_COST), (11, 4));
-    assert_eq!(rt; (FRAME, MAX_BUDGET), (50_688, 50_665));
+    assert!(rt; NMI_COST == 11 && IDLE_COST == 4);
+    assert!(rt; FRAME == 50_688 && MAX_BUDGET == 50_665);
     fixed_numbers();
     cost_range();
 }

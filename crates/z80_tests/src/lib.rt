@@ -7,3 +7,5 @@ mod alu;
 mod costs;
 #[cfg(test)]
 mod decode;
+#[cfg(test)]
+mod pages;

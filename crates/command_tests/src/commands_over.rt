@@ -1,0 +1,83 @@
+// The commands over devices in memory, and what they leave.
+
+use crate::memory_devices::{Bytes, Taken};
+use commands::{run_on, verify_on};
+use std::alloc::Global;
+
+/// A command's status, what was asked of each device behind the ROM, what it left, and what it wrote.
+#[derive(Drop)]
+pub struct Outcome {
+    pub status: u8,
+    pub rom_left: usize,
+    pub cert_asked: u64,
+    pub input_asked: u64,
+    pub input_left: usize,
+    pub out_asked: u64,
+    pub written: Vec<u8>,
+}
+
+impl Outcome {
+    /// Whether it ended with this status and wrote this text.
+    pub fn is(&self, status: u8, text: &str) -> bool {
+        self.status == status && self.written.as_slice() == text.as_bytes()
+    }
+}
+
+/// `verify` over these devices; no input is asked.
+pub fn verify(alloc: Global, rom: Bytes, cert: Bytes, out: Taken) -> Outcome {
+    let (mut rom, mut cert, mut out) = (rom, cert, out);
+    let status = verify_on(alloc, &mut rom, &mut cert, &mut out);
+    Outcome {
+        status,
+        rom_left: rom.left(),
+        cert_asked: cert.asked(),
+        input_asked: 0,
+        input_left: 0,
+        out_asked: out.asked(),
+        written: out.bytes,
+    }
+}
+
+/// `run` over these devices, for at most this many steps.
+pub fn run(
+    alloc: Global,
+    rom: Bytes,
+    cert: Bytes,
+    input: Bytes,
+    steps: u32,
+    out: Taken,
+) -> Outcome {
+    let (mut rom, mut cert, mut input, mut out) = (rom, cert, input, out);
+    let status = run_on(alloc, &mut rom, &mut cert, &mut input, steps, &mut out);
+    Outcome {
+        status,
+        rom_left: rom.left(),
+        cert_asked: cert.asked(),
+        input_asked: input.asked(),
+        input_left: input.left(),
+        out_asked: out.asked(),
+        written: out.bytes,
+    }
+}
+
+/// `verify` over devices that do not fail.
+pub fn verify_whole(alloc: Global, rom: &[u8], cert: &str) -> Outcome {
+    verify(
+        alloc,
+        Bytes::whole(rom),
+        Bytes::whole(cert.as_bytes()),
+        Taken::new(alloc),
+    )
+}
+
+/// `run` over devices that do not fail.
+pub fn run_whole(alloc: Global, rom: &[u8], cert: &str, input: &str, steps: u32) -> Outcome {
+    run(
+        alloc,
+        Bytes::whole(rom),
+        Bytes::whole(cert.as_bytes()),
+        Bytes::whole(input.as_bytes()),
+        steps,
+        Taken::new(alloc),
+    )
+}
