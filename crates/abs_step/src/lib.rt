@@ -1,0 +1,12 @@
+// The abstract step: what one instruction makes of what a row knows, and why a row is refused (docs/CHECKER.md, "The
+// abstract step").
+#![tactic(auto)]
+
+mod ground;
+mod known;
+mod next;
+mod reason;
+
+pub use abs_state::Mode;
+pub use next::{DataWrite, Next, NextKind, Nexts};
+pub use reason::{Reason, Saved};
