@@ -70,6 +70,22 @@ abbrev pub pushed : Bool → WordRegister → Known → Known
 pushed inline words.Pc k = if inline then push_pair (known_pair words.Pc k) no_parts k else k
 pushed inline w k = push_pair (known_pair w k) (parts_of w k.effect) k
 
+-- INC and DEC of a byte, DJNZ's and the block instructions' counts, INC and DEC of a word
+abbrev pub incremented : ByteRegister → Known → Known
+incremented r k = put_flags (zero_fact r) (put_byte r (increment 256 (byte_of r k)) (raised (byte_of r k) 255 (byte_change r k.effect)) k)
+
+abbrev pub counted_down : ByteRegister → Known → Known
+counted_down r k = put_byte r (decrement 256 (byte_of r k)) (lowered (byte_of r k) (byte_change r k.effect)) k
+
+abbrev pub decremented : ByteRegister → Known → Known
+decremented r k = put_flags (zero_fact r) (counted_down r k)
+
+abbrev pub incremented_word : WordRegister → Known → Known
+incremented_word w k = put_word w (increment 65536 (word_of w k)) (raised (word_of w k) 65535 (word_change w k.effect)) k
+
+abbrev pub decremented_word : WordRegister → Known → Known
+decremented_word w k = put_word w (decrement 65536 (word_of w k)) (lowered (word_of w k) (word_change w k.effect)) k
+
 -- what a move leaves of what is known
 unfoldable pub after_move : Ground → Bool → Move → Known → Known
 after_move g inline (SetByte r n) k = put_byte r (single n) Unknown k
@@ -88,9 +104,9 @@ after_move g inline ExchangeDeHl k = exchanged_de_hl k
 after_move g inline ExchangeAf k = exchanged_af k
 after_move g inline ExchangeSets k = exchanged_sets k
 after_move g inline (Arithmetic kind r) k = operated kind r k
-after_move g inline (Increment r) k = put_flags (zero_fact r) (put_byte r (increment 256 (byte_of r k)) (raised (byte_of r k) 255 (byte_change r k.effect)) k)
-after_move g inline (Decrement r) k = put_flags (zero_fact r) (put_byte r (decrement 256 (byte_of r k)) (lowered (byte_of r k) (byte_change r k.effect)) k)
-after_move g inline (CountDown r) k = put_byte r (decrement 256 (byte_of r k)) (lowered (byte_of r k) (byte_change r k.effect)) k
+after_move g inline (Increment r) k = incremented r k
+after_move g inline (Decrement r) k = decremented r k
+after_move g inline (CountDown r) k = counted_down r k
 after_move g inline (Shift kind r) k = changed_byte r (shift_range kind (byte_of r k)) k
 after_move g inline (RotateA kind) k = changed_byte bytes.A (rotate_range kind (byte_of bytes.A k)) k
 after_move g inline DecimalAdjust k = changed_byte bytes.A (full 256) k
@@ -101,8 +117,8 @@ after_move g inline ComplementCarry k = put_flags None k
 after_move g inline (AddWord to from) k = put_flags None (put_word to (sum 65536 (word_of to k) (word_of from k)) Unknown k)
 after_move g inline (AddCarryWord to from) k = put_flags None (put_word to (sum_with_carry 65536 (word_of to k) (word_of from k)) Unknown k)
 after_move g inline (SubtractCarryWord to from) k = put_flags None (put_word to (difference_with_carry 65536 (word_of to k) (word_of from k)) Unknown k)
-after_move g inline (IncrementWord w) k = put_word w (increment 65536 (word_of w k)) (raised (word_of w k) 65535 (word_change w k.effect)) k
-after_move g inline (DecrementWord w) k = put_word w (decrement 65536 (word_of w k)) (lowered (word_of w k) (word_change w k.effect)) k
+after_move g inline (IncrementWord w) k = incremented_word w k
+after_move g inline (DecrementWord w) k = decremented_word w k
 after_move g inline (TestBit b r) k = put_flags None k
 after_move g inline (SetBit b r) k = put_byte r (of_single (with_bit_set (bit b)) (byte_of r k)) Unknown k
 after_move g inline (ResetBit b r) k = put_byte r (of_single (with_bit_reset (bit b)) (byte_of r k)) Unknown k

@@ -4,8 +4,10 @@
 
 mod ground;
 mod known;
+mod moving;
 mod next;
 mod reason;
+mod results;
 
 pub use abs_state::Mode;
 pub use next::{DataWrite, Next, NextKind, Nexts};
