@@ -20,6 +20,9 @@ pub record Ground : Type 0 where
   pub map : AddressMap
   pub cells : List KeptCell
 
+abbrev pub ground_of : List ℕ → AddressMap → List KeptCell → Ground
+ground_of rom map cells = record { rom = rom; map = map; cells = cells }
+
 -- some address of a range passes a test
 abbrev pub any_address : (ℕ → Bool) → Interval → Bool
 any_address test range = list_any test (range_with_len range.low (range.high + 1 - range.low))

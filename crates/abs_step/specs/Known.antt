@@ -33,24 +33,6 @@ use Rattle.abs_step.specs.declared.next.DataWrite.{DataWrite}
 
 -- ---- changes of variables
 
--- each variable as it was
-abbrev pub unchanged : Effect
-unchanged = record {
-  a = Old variables.A;
-  b = Old variables.B;
-  c = Old variables.C;
-  d = Old variables.D;
-  e = Old variables.E;
-  h = Old variables.H;
-  l = Old variables.L;
-  bc = Old variables.Bc;
-  de = Old variables.De;
-  hl = Old variables.Hl;
-  ix = Old variables.Ix;
-  iy = Old variables.Iy;
-  slot = None;
-}
-
 -- how a byte came from the variables before; there is no variable for F, I and the byte in work
 abbrev pub byte_change : ByteRegister → Effect → Change
 byte_change bytes.A e = e.a

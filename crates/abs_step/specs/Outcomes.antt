@@ -21,7 +21,7 @@ use Rattle.abs_state.specs.declared.pairs.Pairs.{Pairs}
 use Rattle.abs_state.specs.declared.state.AbsState.{AbsState}
 use Rattle.abs_step.specs.AfterMove.{after_move}
 use Rattle.abs_step.specs.Ground.{Ground}
-use Rattle.abs_step.specs.Known.{unchanged}
+use Rattle.loop_bounds.specs.Effect.{unchanged}
 use Rattle.abs_step.specs.declared.known.Known.{Known}
 use Rattle.abs_step.specs.declared.next.DataWrite.{DataWrite}
 
@@ -36,21 +36,35 @@ state_tested tests.SearchGoesOn false s = Some s
 abbrev pub tested : Test → Bool → Known → Option Known
 tested test held k = option_map (λ s. record k { state = s }) (state_tested test held k.state)
 
+-- the test that a move is, if it is one
+abbrev pub test_in : Move → Option Test
+test_in (OnlyIf test) = Some test
+test_in _ = None
+
 -- the moves up to the test of a list, the test, and the moves behind it
+abbrev pub moves_to : Option Test → Move → List Move → List Move
+moves_to (Some test) m ms = []
+moves_to None m ms = m ∷ ms
+
+abbrev pub test_or : Option Test → Option Test → Option Test
+test_or (Some test) later = Some test
+test_or None later = later
+
+abbrev pub moves_behind : Option Test → List Move → List Move → List Move
+moves_behind (Some test) here later = here
+moves_behind None here later = later
+
 unfoldable pub before_test : List Move → List Move
 before_test [] = []
-before_test (OnlyIf test ∷ ms) = []
-before_test (m ∷ ms) = m ∷ before_test ms
+before_test (m ∷ ms) = moves_to (test_in m) m (before_test ms)
 
 unfoldable pub test_of : List Move → Option Test
 test_of [] = None
-test_of (OnlyIf test ∷ ms) = Some test
-test_of (m ∷ ms) = test_of ms
+test_of (m ∷ ms) = test_or (test_in m) (test_of ms)
 
 unfoldable pub behind_test : List Move → List Move
 behind_test [] = []
-behind_test (OnlyIf test ∷ ms) = ms
-behind_test (m ∷ ms) = behind_test ms
+behind_test (m ∷ ms) = moves_behind (test_in m) ms (behind_test ms)
 
 -- what is known after some moves
 unfoldable pub after_moves : Ground → Bool → List Move → Known → Known

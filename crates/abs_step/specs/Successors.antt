@@ -1,21 +1,25 @@
 -- Where an instruction leads to, and why a row is refused for itself (docs/CHECKER.md, "The abstract step").
 use Rattle.std.specs.Prelude.{ℕ, ◌==◌, ◌&&◌, ◌||◌, not, Bool, true, false, if◌then◌else◌, List, [], ◌∷◌, ◌++◌, length, Option, Some, None, Result, Ok, Err}
 use Rattle.intervals.specs.Logic.{is_single}
+use Rattle.intervals.specs.declared.pair.Pair.{Pair}
+use Rattle.loop_bounds.specs.Effect.{unchanged}
 use Rattle.stack_shape.specs.declared.slot.Slot.{Slot}
 use Rattle.t_states.specs.Costs.{cost_of}
 use Rattle.t_states.specs.Io.{is_io}
 use Rattle.z80_decode.specs.declared.fault.DecodeFault.{DecodeFault}
 use Rattle.z80_decode.specs.declared.instr.Instr.{Instr}
 use Rattle.z80_decode.specs.declared.instr.Instr.TheVariants.{LoadPair, Push, Pop, ExchangeStack, JumpTo, Call, CallIf, Restart, Return, ReturnIf, ReturnFromInterrupt, ReturnFromNonMaskable}
+use Rattle.z80_decode.specs.declared.operands.Pointer.{Pointer}
+use Rattle.z80_decode.specs.declared.operands.Pointer.TheVariants as pointers
 use Rattle.z80_decode.specs.declared.operands.Register16.TheVariants.{Sp}
 use Rattle.z80_moves.specs.Moves.{moves_of}
 use Rattle.z80_moves.specs.declared.moves.Test.{Test}
-use Rattle.z80_moves.specs.Operands.{pointer_register}
+use Rattle.abs_state.specs.Entries.{main_entry}
 use Rattle.abs_state.specs.declared.mode.Mode.{Mode}
 use Rattle.abs_state.specs.declared.mode.Mode.TheVariants.{Unset, Set, Nmi}
 use Rattle.abs_state.specs.declared.state.AbsState.{AbsState}
 use Rattle.abs_step.specs.Ground.{Ground}
-use Rattle.abs_step.specs.Known.{known_pair, last_slot, unchanged}
+use Rattle.abs_step.specs.Known.{last_slot}
 use Rattle.abs_step.specs.Outcomes.{tested, before_test, test_of, behind_test, after_moves, known_before, known_at_test, settled}
 use Rattle.abs_step.specs.declared.known.Known.{Known}
 use Rattle.abs_step.specs.declared.next.DataWrite.{DataWrite}
@@ -64,25 +68,35 @@ is_empty (slot ∷ slots) = false
 
 -- ---- reasons
 
--- a 65th slot; a pop from an empty shape; main's return from one, or a return to a slot that is no one word
+-- main returns from an empty shape, or a return goes to a slot that is no one word
+abbrev pub returns_nowhere : Bool → List Slot → Bool
+returns_nowhere main shape = if is_empty shape then main else not (is_single (last_slot shape).pair.word)
+
+-- a 65th slot, a pop from an empty shape, or a return to nowhere
 abbrev pub has_no_shape : Bool → Bool → Instr → List Slot → Bool
 has_no_shape main inline instr shape =
-    ((is_push instr || (is_call instr && inline)) && length shape == 64)
+    (length shape == 64 && (is_push instr || (is_call instr && inline)))
     || ((is_pop instr && is_empty shape)
-    || (is_return instr && (if is_empty shape then main else not (is_single (last_slot shape).pair.word))))
+    || (is_return instr && returns_nowhere main shape))
+
+-- the pair that a computed jump goes to
+abbrev pub jump_pair : Pointer → AbsState → Pair
+jump_pair pointers.Hl s = s.pairs.hl
+jump_pair pointers.Ix s = s.pairs.ix
+jump_pair pointers.Iy s = s.pairs.iy
 
 -- a computed jump that is no one word
-abbrev pub jumps_anywhere : Instr → Known → Bool
-jumps_anywhere (JumpTo pointer) k = not (is_single (known_pair (pointer_register pointer) k).word)
-jumps_anywhere _ k = false
+abbrev pub jumps_anywhere : Instr → AbsState → Bool
+jumps_anywhere (JumpTo pointer) s = not (is_single (jump_pair pointer s).word)
+jumps_anywhere _ s = false
 
 -- the lowest reason of a row at an instruction that is not judged by the certificate
-abbrev pub refusal : ℕ → Bool → Bool → Instr → AbsState → Option Reason
-refusal address main inline instr s =
+abbrev pub refusal : Bool → Bool → Instr → AbsState → Option Reason
+refusal main inline instr s =
     if is_io instr then Some reasons.IoSpace
     else if uses_stack instr && is_unset s.mode then Some reasons.StackUnset
     else if has_no_shape main inline instr s.shape then Some reasons.StackShape
-    else if jumps_anywhere instr (known_before address instr s) then Some reasons.NotCovered
+    else if jumps_anywhere instr s then Some reasons.NotCovered
     else None
 
 -- ---- ways on
@@ -126,15 +140,24 @@ way_on None next = []
 way_on (Some k) next = next k ∷ []
 
 -- the ways on of an instruction without a test, and with one: where it is taken, and where it is not
-abbrev pub ways_on : Ground → Bool → Bool → Instr → AbsState → Option Test → Known → List Next
-ways_on g main inline instr s None k = next_of main instr true (kind_of inline instr s.shape) k ∷ []
-ways_on g main inline instr s (Some test) k =
-    way_on (tested test true k) (λ taken. next_of main instr true (kind_of inline instr s.shape) (after_moves g inline (behind_test (moves_of instr)) taken))
+abbrev pub ways_on : Ground → Bool → Bool → Instr → NextKind → Option Test → Known → List Next
+ways_on g main inline instr kind None k = next_of main instr true kind k ∷ []
+ways_on g main inline instr kind (Some test) k =
+    way_on (tested test true k) (λ taken. next_of main instr true kind (after_moves g inline (behind_test (moves_of instr)) taken))
     ++ way_on (tested test false k) (λ left. next_of main instr false kinds.Jump left)
+
+-- the ways on from what is known before the first move
+abbrev pub ways_from : Ground → Bool → Bool → Instr → NextKind → Known → List Next
+ways_from g main inline instr kind k =
+    ways_on g main inline instr kind (test_of (moves_of instr)) (after_moves g inline (before_test (moves_of instr)) k)
 
 -- the successors of a row at an instruction
 abbrev pub nexts_of : Ground → ℕ → Bool → Bool → Instr → AbsState → List Next
-nexts_of g address main inline instr s = ways_on g main inline instr s (test_of (moves_of instr)) (known_at_test g address inline instr s)
+nexts_of g address main inline instr s = ways_from g main inline instr (kind_of inline instr s.shape) (known_before address instr s)
+
+-- a way on of which nothing is known
+abbrev pub no_next : Next
+no_next = record { address = 0; state = main_entry; effect = unchanged; cost = 0; kind = kinds.Exit }
 
 -- ---- answers
 
@@ -145,7 +168,7 @@ answer_by None nexts = Ok nexts
 -- the successors of a row, or its lowest reason, by what stands at its address
 abbrev pub answer_of : Ground → ℕ → Bool → Bool → AbsState → Result Instr DecodeFault → Result (List Next) Reason
 answer_of g address main inline s (Err fault) = Err (reasons.Decode fault)
-answer_of g address main inline s (Ok instr) = answer_by (refusal address main inline instr s) (nexts_of g address main inline instr s)
+answer_of g address main inline s (Ok instr) = answer_by (refusal main inline instr s) (nexts_of g address main inline instr s)
 
 -- the data writes of a row, by what stands at its address: none where no instruction does, nor of input and output
 abbrev pub writes_of : Ground → ℕ → AbsState → Result Instr DecodeFault → List DataWrite

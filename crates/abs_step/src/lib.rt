@@ -8,7 +8,11 @@ mod moving;
 mod next;
 mod reason;
 mod results;
+mod rules;
+mod stepping;
+mod testing;
 
 pub use abs_state::Mode;
 pub use next::{DataWrite, Next, NextKind, Nexts};
 pub use reason::{Reason, Saved};
+pub use stepping::{data_writes, successors};

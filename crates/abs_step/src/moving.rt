@@ -121,7 +121,7 @@ impl Known {
 
     /// One move.
     #[tactic(auto, unfolding(crate::specs::AfterMove::after_move))]
-    fn make(&mut self, ground: &Ground, inline: bool, step: Move)
+    pub(crate) fn make(&mut self, ground: &Ground, inline: bool, step: Move)
         requires { length ground.now.cells ≤ 256 }
         ensures { self.new ≡ after_move ground.now inline step self.old }
     {
@@ -220,11 +220,7 @@ impl Known {
             }
             Move::RotateDigitsLeft | Move::RotateDigitsRight => {
                 self.change_byte(ByteRegister::A, ByteRange::full());
-                self.put_byte(
-                    ByteRegister::Operand,
-                    ByteRange::full(),
-                    Change::Unknown,
-                );
+                self.put_byte(ByteRegister::Operand, ByteRange::full(), Change::Unknown);
             }
             Move::SetCarry
             | Move::ComplementCarry

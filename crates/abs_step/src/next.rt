@@ -1,4 +1,5 @@
 // Where an instruction leads to.
+ghost use Rattle.std.specs.Prelude.{◌≡◌};
 
 use abs_state::AbsState;
 use intervals::{ByteRange, WordRange};
@@ -37,4 +38,35 @@ pub type Nexts = SmallVec<Next, 2>;
 pub struct DataWrite {
     pub at: WordRange,
     pub byte: ByteRange,
+}
+
+impl Default for Next {
+    ghost use Rattle.abs_step.specs.Successors.{no_next};
+
+    ghost is_default = { λ n. n ≡ no_next };
+
+    /// A way on of which nothing is known.
+    fn default() -> Next {
+        Next {
+            address: 0,
+            state: AbsState::of_main(),
+            effect: Effect::unchanged(),
+            cost: 0,
+            kind: NextKind::Exit,
+        }
+    }
+}
+
+impl Default for DataWrite {
+    ghost use Rattle.intervals.specs.Range.{full};
+
+    ghost is_default = { λ w. w ≡ record { at = full 65536; byte = full 256 } };
+
+    /// A write of which nothing is known.
+    fn default() -> DataWrite {
+        DataWrite {
+            at: WordRange::full(),
+            byte: ByteRange::full(),
+        }
+    }
 }
