@@ -3,13 +3,14 @@
 ghost use Rattle.std.specs.Prelude.{◌≡◌, ◌≤◌};
 ghost use Rattle.abs_step.specs.Reason.{number_of, name_of};
 
+use intervals::RegPair;
 use thiserror::Error;
 use z80_decode::DecodeFault;
 
 /// What an NMI routine has to give back: a register pair or I.
 #[derive(Clone, Copy, Debug, PartialEq, Eq)]
 pub enum Saved {
-    // Pair(RegPair),
+    Pair(RegPair),
     I,
 }
 
