@@ -10,6 +10,24 @@ use Rattle.loop_bounds.specs.declared.variable.Part.{Part}
 use Rattle.loop_bounds.specs.declared.variable.Part.TheVariants.{Word, High, Low}
 use Rattle.loop_bounds.specs.Linear.{Sum}
 
+-- each variable as it was
+abbrev pub unchanged : Effect
+unchanged = record {
+  a = Old A;
+  b = Old B;
+  c = Old C;
+  d = Old D;
+  e = Old E;
+  h = Old H;
+  l = Old L;
+  bc = Old Bc;
+  de = Old De;
+  hl = Old Hl;
+  ix = Old Ix;
+  iy = Old Iy;
+  slot = None;
+}
+
 -- what the step leaves in a part of the slot that it writes
 abbrev pub part_change : SlotChange → Part → Change
 part_change s Word = s.word

@@ -47,11 +47,12 @@ pub struct Effect {
 impl Effect {
     ghost use Rattle.loop_bounds.specs.declared.effect.Change.TheVariants.{Old};
     ghost use Rattle.loop_bounds.specs.declared.variable.Variable.{Variable};
-    ghost use Rattle.loop_bounds.specs.Effect.{change_of};
+    ghost use Rattle.loop_bounds.specs.Effect.{unchanged, change_of};
 
     /// Each variable keeps what it holds.
     pub fn unchanged() -> Effect
-        ensures { (v : Variable) → change_of result v ≡ Old v }
+        ensures exact { result ≡ unchanged }
+        ensures old { (v : Variable) → change_of result v ≡ Old v }
     {
         Effect {
             a: Change::Old(Variable::A),

@@ -12,7 +12,7 @@ returns g c =
     let wide : FitsSigned w128 c.constant_left.result = search rules in
     let known = simp to_z-of_z at c.new-left.ensures.known in
     decided_by_value c.is_never_negative.result _ _ c.args.from.now c.args.to.now c.args.cost c.args.effect.now c.add_linear-2.new.self
-    (decrease_value c.unchanged.result c.args.effect.now c.unchanged.ensures c.new-left.result c.add_linear.new.self c.add_linear-2.new.self
+    (decrease_value c.unchanged.result c.args.effect.now c.unchanged.ensures.old c.new-left.result c.add_linear.new.self c.add_linear-2.new.self
     c.constant_left.result known c.new-left.ensures.unknown c.args.from.now c.args.to.now c.args.cost c.constant_left.ensures.value
     c.add_linear.ensures.value c.add_linear-2.ensures.value)
     c.is_never_negative.ensures

@@ -1,0 +1,4 @@
+pub mod ChangeLemmas
+pub mod CoverLemmas
+pub mod TightenHolds
+pub mod Told

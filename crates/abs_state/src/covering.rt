@@ -1,0 +1,62 @@
+// Covering, meeting and joins of states.
+ghost use Rattle.std.specs.Prelude.{◌≡◌, ◌↔◌, ◌⊎◌, IsTrue, IfSome, List};
+ghost use Rattle.intervals.specs.Domain.{Entry};
+ghost use Rattle.abs_state.specs.Covers.{CoversState, MeetsState, hull_of_states};
+ghost use Rattle.abs_state.specs.Holds.{Holds};
+ghost use Rattle.abs_state.specs.Seen.{Seen};
+ghost use Rattle.abs_state.specs.declared.cell.KeptCell.{KeptCell};
+ghost use Rattle.abs_state.specs.declared.state.AbsState.{AbsState as State};
+
+use crate::fact::{covers_fact, hull_of_facts};
+use crate::state::AbsState;
+
+impl AbsState {
+    /// Whether this state covers the other one: its mode covers the other's, no more cells are armed, each pair and each
+    /// slot of the shape covers the other's, and its flag fact is the other's, or it has none. Covering is a preorder, and
+    /// this state then holds of all that the other holds of.
+    pub fn covers(&self, other: &AbsState) -> bool
+        ensures exact { IsTrue result ↔ CoversState self.now other.now }
+        ensures reflexive { self.now ≡ other.now → IsTrue result }
+        ensures transitive { IsTrue result → (third : State) → CoversState other.now third → CoversState self.now third }
+        ensures widens { IsTrue result → (cells : List KeptCell) (entry : Entry) (m : Seen) → Holds other.now cells entry m
+            → Holds self.now cells entry m }
+    {
+        self.covers_each(other)
+    }
+
+    fn covers_each(&self, other: &AbsState) -> bool
+        ensures { IsTrue result ↔ CoversState self.now other.now }
+    {
+        self.mode.covers(other.mode)
+            && self.armed <= other.armed
+            && self.pairs.covers(&other.pairs)
+            && covers_fact(self.flag, other.flag)
+            && self.shape.covers(&other.shape)
+    }
+
+    /// Whether the shapes have one length and, pair by pair and slot by slot, the ranges share a value.
+    pub fn meets(&self, other: &AbsState) -> bool
+        ensures { IsTrue result ↔ MeetsState self.now other.now }
+    {
+        self.pairs.meets(&other.pairs) && self.shape.meets(&other.shape)
+    }
+
+    /// The state that covers both with the least ranges; None where the shapes have two lengths or one mode is `u` and the
+    /// other `n`. It holds of all that either holds of.
+    pub fn join(&self, other: &AbsState) -> Option<AbsState>
+        ensures exact { result ≡ hull_of_states self.now other.now }
+        ensures covers { IfSome result (λ both. CoversState both self.now × CoversState both other.now) }
+        ensures holds { IfSome result (λ both. (cells : List KeptCell) (entry : Entry) (m : Seen)
+            → Holds self.now cells entry m ⊎ Holds other.now cells entry m → Holds both cells entry m) }
+    {
+        let shape = self.shape.join(&other.shape)?;
+        let mode = self.mode.join(other.mode)?;
+        Some(AbsState {
+            mode,
+            armed: self.armed.min(other.armed),
+            pairs: self.pairs.join(&other.pairs),
+            flag: hull_of_facts(self.flag, other.flag),
+            shape,
+        })
+    }
+}

@@ -1,0 +1,22 @@
+// What is known of the machine at an instruction of one procedure: abstract states, how they change, and when they hold
+// (docs/CHECKER.md, "What a row knows").
+#![tactic(auto)]
+
+mod cell;
+mod covering;
+mod entries;
+mod exchanges;
+mod fact;
+mod mode;
+mod narrowing;
+mod pairs;
+mod registers;
+mod stack;
+mod state;
+mod variables;
+
+pub use cell::KeptCell;
+pub use fact::FlagFact;
+pub use mode::Mode;
+pub use pairs::Pairs;
+pub use state::AbsState;

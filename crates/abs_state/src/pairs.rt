@@ -1,0 +1,165 @@
+// The ten pairs of registers, each with what is known of it.
+ghost use Rattle.std.specs.Prelude.{◌≡◌, ◌↔◌, IsTrue, Some};
+ghost use Rattle.abs_state.specs.Pairs.{pair_of, with_pair, full_pairs, own_pairs, CoversMain, CoversAlternate, CoversPairs, MeetsPairs, hull_of_pairs};
+
+use intervals::{Domain, Pair, RegPair};
+
+/// What is known of the ten pairs.
+#[derive(Clone, Copy)]
+pub struct Pairs {
+    pub af: Pair,
+    pub bc: Pair,
+    pub de: Pair,
+    pub hl: Pair,
+    pub ix: Pair,
+    pub iy: Pair,
+    pub alternate_af: Pair,
+    pub alternate_bc: Pair,
+    pub alternate_de: Pair,
+    pub alternate_hl: Pair,
+}
+
+impl Pairs {
+    /// Nothing is known of any pair.
+    pub fn full() -> Pairs
+        ensures { result ≡ full_pairs }
+    {
+        Pairs {
+            af: Pair::full(),
+            bc: Pair::full(),
+            de: Pair::full(),
+            hl: Pair::full(),
+            ix: Pair::full(),
+            iy: Pair::full(),
+            alternate_af: Pair::full(),
+            alternate_bc: Pair::full(),
+            alternate_de: Pair::full(),
+            alternate_hl: Pair::full(),
+        }
+    }
+
+    /// The same ranges, and each pair has itself as its origin.
+    pub fn own(&self) -> Pairs
+        ensures { result ≡ own_pairs self.now }
+    {
+        Pairs {
+            af: own(self.af, RegPair::Af),
+            bc: own(self.bc, RegPair::Bc),
+            de: own(self.de, RegPair::De),
+            hl: own(self.hl, RegPair::Hl),
+            ix: own(self.ix, RegPair::Ix),
+            iy: own(self.iy, RegPair::Iy),
+            alternate_af: own(self.alternate_af, RegPair::AlternateAf),
+            alternate_bc: own(self.alternate_bc, RegPair::AlternateBc),
+            alternate_de: own(self.alternate_de, RegPair::AlternateDe),
+            alternate_hl: own(self.alternate_hl, RegPair::AlternateHl),
+        }
+    }
+
+    /// What is known of a pair.
+    pub fn pair(&self, of: RegPair) -> Pair
+        ensures { result ≡ pair_of of self.now }
+    {
+        match of {
+            RegPair::Af => self.af,
+            RegPair::Bc => self.bc,
+            RegPair::De => self.de,
+            RegPair::Hl => self.hl,
+            RegPair::Ix => self.ix,
+            RegPair::Iy => self.iy,
+            RegPair::AlternateAf => self.alternate_af,
+            RegPair::AlternateBc => self.alternate_bc,
+            RegPair::AlternateDe => self.alternate_de,
+            RegPair::AlternateHl => self.alternate_hl,
+        }
+    }
+
+    /// Puts what is known of one pair in the place of what was.
+    pub fn set(&mut self, of: RegPair, pair: Pair)
+        ensures { self.new ≡ with_pair of pair self.old }
+    {
+        match of {
+            RegPair::Af => self.af = pair,
+            RegPair::Bc => self.bc = pair,
+            RegPair::De => self.de = pair,
+            RegPair::Hl => self.hl = pair,
+            RegPair::Ix => self.ix = pair,
+            RegPair::Iy => self.iy = pair,
+            RegPair::AlternateAf => self.alternate_af = pair,
+            RegPair::AlternateBc => self.alternate_bc = pair,
+            RegPair::AlternateDe => self.alternate_de = pair,
+            RegPair::AlternateHl => self.alternate_hl = pair,
+        }
+    }
+
+    /// Whether each pair covers the other's.
+    pub(crate) fn covers(&self, other: &Pairs) -> bool
+        ensures { IsTrue result ↔ CoversPairs self.now other.now }
+    {
+        self.covers_main(other) && self.covers_alternate(other)
+    }
+
+    fn covers_main(&self, other: &Pairs) -> bool
+        ensures { IsTrue result ↔ CoversMain self.now other.now }
+    {
+        self.af.covers(&other.af)
+            && self.bc.covers(&other.bc)
+            && self.de.covers(&other.de)
+            && self.hl.covers(&other.hl)
+            && self.ix.covers(&other.ix)
+            && self.iy.covers(&other.iy)
+    }
+
+    fn covers_alternate(&self, other: &Pairs) -> bool
+        ensures { IsTrue result ↔ CoversAlternate self.now other.now }
+    {
+        self.alternate_af.covers(&other.alternate_af)
+            && self.alternate_bc.covers(&other.alternate_bc)
+            && self.alternate_de.covers(&other.alternate_de)
+            && self.alternate_hl.covers(&other.alternate_hl)
+    }
+
+    /// Whether each pair meets the other's.
+    pub(crate) fn meets(&self, other: &Pairs) -> bool
+        ensures { IsTrue result ↔ MeetsPairs self.now other.now }
+    {
+        self.af.meets(other.af)
+            && self.bc.meets(other.bc)
+            && self.de.meets(other.de)
+            && self.hl.meets(other.hl)
+            && self.ix.meets(other.ix)
+            && self.iy.meets(other.iy)
+            && self.alternate_af.meets(other.alternate_af)
+            && self.alternate_bc.meets(other.alternate_bc)
+            && self.alternate_de.meets(other.alternate_de)
+            && self.alternate_hl.meets(other.alternate_hl)
+    }
+
+    /// The join of each pair with the other's.
+    pub(crate) fn join(&self, other: &Pairs) -> Pairs
+        ensures { result ≡ hull_of_pairs self.now other.now }
+    {
+        Pairs {
+            af: self.af.join(&other.af),
+            bc: self.bc.join(&other.bc),
+            de: self.de.join(&other.de),
+            hl: self.hl.join(&other.hl),
+            ix: self.ix.join(&other.ix),
+            iy: self.iy.join(&other.iy),
+            alternate_af: self.alternate_af.join(&other.alternate_af),
+            alternate_bc: self.alternate_bc.join(&other.alternate_bc),
+            alternate_de: self.alternate_de.join(&other.alternate_de),
+            alternate_hl: self.alternate_hl.join(&other.alternate_hl),
+        }
+    }
+}
+
+/// A pair with an origin in the place of the one that it has.
+fn own(pair: Pair, origin: RegPair) -> Pair
+    ensures { result ≡ record pair { origin = Some origin } }
+{
+    Pair {
+        origin: Some(origin),
+        ..pair
+    }
+}

@@ -1,0 +1,19 @@
+-- What an answer tells, said of what stands at the address.
+use Rattle.std.proofs.Common.{◌≡◌, sym, subst, drop, ℕ, List, Result, Ok, Err}
+use Rattle.std.specs.Prelude.{IfOk, IfErr}
+use Rattle.board_step.proofs.DecodedLemmas.{decoded_once}
+use Rattle.board_step.specs.Decoded.{StandsAt}
+use Rattle.z80_decode.specs.declared.instr.Instr.{Instr}
+use Rattle.z80_decode.specs.declared.fault.DecodeFault.{DecodeFault}
+
+pub if_ok : {X Y : Type 0} (r : Result X Y) (P Q : X → Type 0) → IfOk r P → ((x : X) → P x → Q x) → IfOk r Q
+if_ok (Ok x) P Q h f = f x h
+if_ok (Err y) P Q h f = tt
+
+pub if_err : {X Y : Type 0} (r : Result X Y) (P Q : Y → Type 0) → IfErr r P → ((y : Y) → P y → Q y) → IfErr r Q
+if_err (Ok x) P Q h f = tt
+if_err (Err y) P Q h f = f y h
+
+-- what holds of the one thing that stands at an address holds of whatever stands there
+pub of_all : (rom : List ℕ) (at : ℕ) (this : Result Instr DecodeFault) (P : Result Instr DecodeFault → Type 0) → StandsAt rom at this → P this → (other : Result Instr DecodeFault) → StandsAt rom at other → P other
+of_all rom at this P here h other there = subst P (decoded_once (drop at rom) this other here there) h

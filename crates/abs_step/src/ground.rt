@@ -1,0 +1,165 @@
+// What never changes beside a row, and what data reads and writes find there.
+ghost use Rattle.std.specs.Prelude.{◌≡◌, ◌≤◌, ◌<◌, take, drop, length, Option, Some, None};
+ghost use Rattle.address_map.specs.Class.{class_of, cell_of};
+ghost use Rattle.address_map.specs.AddressMap.{AddressMap};
+ghost use Rattle.abs_step.specs.Ground.{any_address, is_enable, some_odd, may_enable, mode_after, is_work_cell, cell_at, has_range, arms, armed_after, span, widened, bytes_at, rom_range, read_one, read_range};
+
+use crate::next::DataWrite;
+use abs_state::{KeptCell, Mode};
+use address_map::{Map, RamKind, Rom};
+use intervals::{ByteRange, Domain, WordRange};
+use std::marker::Model;
+
+/// What never changes beside a row: the ROM, its map, and the kept cells, at most 256.
+#[derive(Drop)]
+pub(crate) struct Ground<'a> {
+    pub rom: &'a Rom<'a>,
+    pub map: &'a Map,
+    pub cells: &'a [KeptCell],
+}
+
+impl<'a> Model for Ground<'a> {
+    ghost use Rattle.abs_step.specs.Ground.{Ground as Given};
+
+    ghost Value = { Given };
+
+    ghost view = { λ g. record { rom = g.rom.now; map = g.map.now; cells = g.cells.now } };
+}
+
+/// Whether some byte of a range is odd.
+fn some_odd(range: ByteRange) -> bool
+    ensures { result ≡ some_odd range }
+{
+    range.low() % 2 == 1 || range.low() < range.high()
+}
+
+/// Whether some address of a range is the NMI enable.
+fn some_enable(map: &Map, range: WordRange) -> bool
+    ensures { result ≡ any_address (λ address. is_enable (class_of map.now address).write) range }
+{
+    map.some_enable(range)
+}
+
+/// The least to the greatest of some bytes.
+fn span(bytes: &[u8]) -> ByteRange
+    ensures { result ≡ span bytes.now }
+{
+    let Some((first, rest)) = bytes.split_first() else {
+        return ByteRange::full();
+    };
+    widened(ByteRange::single(*first), rest)
+}
+
+/// A range widened to hold some bytes.
+#[tactic(auto, unfolding(crate::specs::Ground::widened))]
+fn widened(range: ByteRange, bytes: &[u8]) -> ByteRange
+    ensures { result ≡ widened range bytes.now }
+{
+    let mut wide = range;
+    for byte in bytes {
+        wide = wide.join(&ByteRange::single(*byte));
+    }
+    wide
+}
+
+/// Whether an address is of the cell of work RAM at another.
+fn is_at_cell(map: &Map, address: u16, at: u16) -> bool
+    ensures { result ≡ is_work_cell (cell_of map.now address) at }
+{
+    match map.cell(address) {
+        Some(cell) => matches!(cell.ram(), RamKind::Work) && cell.index() == at % 0x400,
+        None => false,
+    }
+}
+
+/// The first of some cells that an address folds to.
+fn cell_at(map: &Map, address: u16, cells: &[KeptCell]) -> Option<KeptCell>
+    ensures { result ≡ cell_at map.now address cells.now }
+{
+    for cell in cells {
+        if is_at_cell(map, address, cell.at) {
+            return Some(*cell);
+        }
+    }
+    None
+}
+
+impl DataWrite {
+    /// Whether the write may enable the NMI.
+    pub(crate) fn may_enable(&self, map: &Map) -> bool
+        ensures { result ≡ may_enable map.now self.now }
+    {
+        some_enable(map, self.at) && some_odd(self.byte)
+    }
+
+    /// Whether the write arms a cell.
+    fn arms(&self, map: &Map, cell: Option<KeptCell>) -> bool
+        ensures { result ≡ arms map.now self.now cell }
+    {
+        match cell {
+            Some(cell) => {
+                self.at.low() == self.at.high()
+                    && is_at_cell(map, self.at.low(), cell.at)
+                    && cell.range.covers(&self.byte)
+            }
+            None => false,
+        }
+    }
+}
+
+/// The mode after a write that may enable the NMI, or not.
+pub(crate) fn mode_after(enables: bool, mode: Mode) -> Mode
+    ensures { result ≡ mode_after enables mode }
+{
+    match mode {
+        Mode::Set if enables => Mode::Nmi,
+        mode => mode,
+    }
+}
+
+impl<'a> Ground<'a> {
+    /// How many cells are armed after a write, where so many were before it.
+    pub(crate) fn armed_after(&self, write: &DataWrite, armed: u16) -> u16
+        requires { length self.now.cells ≤ 256 }
+        ensures { result ≡ armed_after self.now write.now armed }
+    {
+        let next = self.cells.get(usize::from(armed)).copied();
+        if write.arms(self.map, next) {
+            armed + 1
+        } else {
+            armed
+        }
+    }
+
+    fn rom_range(&self, at: WordRange) -> ByteRange
+        ensures { result ≡ rom_range self.now.rom at }
+    {
+        if at.high() >= self.rom.len() {
+            return ByteRange::full();
+        }
+        let bytes = self.rom.bytes_from(at.low());
+        span(&bytes[..usize::from(at.high() - at.low()) + 1])
+    }
+
+    /// The cells that are armed.
+    fn armed(&self, armed: u16) -> &[KeptCell]
+        ensures { result.now ≡ take armed self.now.cells }
+    {
+        let count = self.cells.len().min(usize::from(armed));
+        &self.cells[..count]
+    }
+
+    /// The byte that a data read finds, with so many cells armed.
+    pub(crate) fn read(&self, armed: u16, at: WordRange) -> ByteRange
+        ensures { result ≡ read_range self.now armed at }
+    {
+        if at.low() == at.high() {
+            match cell_at(self.map, at.low(), self.armed(armed)) {
+                Some(cell) => cell.range,
+                None => self.rom_range(at),
+            }
+        } else {
+            self.rom_range(at)
+        }
+    }
+}

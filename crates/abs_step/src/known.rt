@@ -1,0 +1,433 @@
+// What is known while an instruction goes through its moves, and how its registers are read and written.
+ghost use Rattle.std.specs.Prelude.{◌≡◌, ◌≤◌, ◌<◌, ◌-◌, length};
+ghost use Rattle.abs_step.specs.Known.{byte_change, word_change, no_parts, parts_of, with_parts, with_byte_change, slot_parts, with_slot_parts, raised, lowered, byte_of, known_pair, word_of, set_byte, put_flags, put_byte, set_pair, put_pair, put_word, without_last, last_slot, put_last, push_pair, pop_pair, one_more, write_data, write_byte};
+
+use crate::ground::{Ground, mode_after};
+use crate::next::DataWrite;
+use abs_state::{AbsState, FlagFact};
+use arrayvec::ArrayVec;
+use intervals::{ByteRange, Pair, RegPair, WordRange};
+use loop_bounds::{Change, Effect, Part, SlotChange, SlotNumber, Variable};
+use stack_shape::Slot;
+use z80_decode::Register8;
+use z80_moves::{ByteRegister, WordRegister};
+
+/// What is known while an instruction goes through its moves.
+#[derive(Drop)]
+pub struct Known {
+    pub state: AbsState,
+    /// How many cells were armed before the instruction: those that its reads know.
+    pub readable: u16,
+    /// The byte in work.
+    pub operand: ByteRange,
+    /// The address that the instruction works at.
+    pub pointer: WordRange,
+    /// The program counter.
+    pub pc: WordRange,
+    /// What each variable is, by those before the instruction.
+    pub effect: Effect,
+    /// The data writes, a byte each, in order.
+    pub writes: ArrayVec<DataWrite, 2>,
+}
+
+/// The changes of a word and of its bytes.
+#[derive(Clone, Copy)]
+pub(crate) struct Parts {
+    pub word: Change,
+    pub high: Change,
+    pub low: Change,
+}
+
+impl Parts {
+    /// Nothing is known.
+    pub(crate) fn none() -> Parts
+        ensures { result ≡ no_parts }
+    {
+        Parts {
+            word: Change::Unknown,
+            high: Change::Unknown,
+            low: Change::Unknown,
+        }
+    }
+}
+
+fn byte_change(register: ByteRegister, effect: &Effect) -> Change
+    ensures { result ≡ byte_change register effect.now }
+{
+    match register {
+        ByteRegister::A => effect.a,
+        ByteRegister::B => effect.b,
+        ByteRegister::C => effect.c,
+        ByteRegister::D => effect.d,
+        ByteRegister::E => effect.e,
+        ByteRegister::H => effect.h,
+        ByteRegister::L => effect.l,
+        ByteRegister::F | ByteRegister::I | ByteRegister::Operand => Change::Unknown,
+    }
+}
+
+fn word_change(register: WordRegister, effect: &Effect) -> Change
+    ensures { result ≡ word_change register effect.now }
+{
+    match register {
+        WordRegister::Bc => effect.bc,
+        WordRegister::De => effect.de,
+        WordRegister::Hl => effect.hl,
+        WordRegister::Ix => effect.ix,
+        WordRegister::Iy => effect.iy,
+        _ => Change::Unknown,
+    }
+}
+
+fn parts_of(register: WordRegister, effect: &Effect) -> Parts
+    ensures { result ≡ parts_of register effect.now }
+{
+    match register {
+        WordRegister::Af => Parts {
+            high: effect.a,
+            ..Parts::none()
+        },
+        WordRegister::Bc => Parts {
+            word: effect.bc,
+            high: effect.b,
+            low: effect.c,
+        },
+        WordRegister::De => Parts {
+            word: effect.de,
+            high: effect.d,
+            low: effect.e,
+        },
+        WordRegister::Hl => Parts {
+            word: effect.hl,
+            high: effect.h,
+            low: effect.l,
+        },
+        WordRegister::Ix => Parts {
+            word: effect.ix,
+            ..Parts::none()
+        },
+        WordRegister::Iy => Parts {
+            word: effect.iy,
+            ..Parts::none()
+        },
+        WordRegister::Sp | WordRegister::Pc | WordRegister::Pointer => Parts::none(),
+    }
+}
+
+fn put_parts(effect: &mut Effect, register: WordRegister, parts: Parts)
+    ensures { effect.new ≡ with_parts register parts effect.old }
+{
+    match register {
+        WordRegister::Af => effect.a = parts.high,
+        WordRegister::Bc => {
+            effect.bc = parts.word;
+            effect.b = parts.high;
+            effect.c = parts.low;
+        }
+        WordRegister::De => {
+            effect.de = parts.word;
+            effect.d = parts.high;
+            effect.e = parts.low;
+        }
+        WordRegister::Hl => {
+            effect.hl = parts.word;
+            effect.h = parts.high;
+            effect.l = parts.low;
+        }
+        WordRegister::Ix => effect.ix = parts.word,
+        WordRegister::Iy => effect.iy = parts.word,
+        WordRegister::Sp | WordRegister::Pc | WordRegister::Pointer => {}
+    }
+}
+
+fn put_byte_change(effect: &mut Effect, register: Register8, change: Change)
+    ensures { effect.new ≡ with_byte_change register change effect.old }
+{
+    match register {
+        Register8::A => effect.a = change,
+        Register8::B => {
+            effect.b = change;
+            effect.bc = Change::Unknown;
+        }
+        Register8::C => {
+            effect.c = change;
+            effect.bc = Change::Unknown;
+        }
+        Register8::D => {
+            effect.d = change;
+            effect.de = Change::Unknown;
+        }
+        Register8::E => {
+            effect.e = change;
+            effect.de = Change::Unknown;
+        }
+        Register8::H => {
+            effect.h = change;
+            effect.hl = Change::Unknown;
+        }
+        Register8::L => {
+            effect.l = change;
+            effect.hl = Change::Unknown;
+        }
+    }
+}
+
+fn slot_parts(number: SlotNumber, effect: &Effect) -> Parts
+    ensures { result ≡ slot_parts number effect.now }
+{
+    Parts {
+        word: effect.change(Variable::Slot(number, Part::Word)),
+        high: effect.change(Variable::Slot(number, Part::High)),
+        low: effect.change(Variable::Slot(number, Part::Low)),
+    }
+}
+
+fn put_slot_parts(effect: &mut Effect, number: SlotNumber, parts: Parts)
+    ensures { effect.new ≡ with_slot_parts number parts effect.old }
+{
+    effect.slot = Some(SlotChange {
+        number,
+        word: parts.word,
+        high: parts.high,
+        low: parts.low,
+    });
+}
+
+/// One more than a byte was, where no byte of its range is 255.
+pub(crate) fn raised_byte(range: ByteRange, change: Change) -> Change
+    ensures { result ≡ raised range 255 change }
+{
+    match change {
+        Change::Old(variable) if range.high() < 255 => Change::Raised(variable),
+        _ => Change::Unknown,
+    }
+}
+
+/// One more than a word was, where no word of its range is 65,535.
+pub(crate) fn raised_word(range: WordRange, change: Change) -> Change
+    ensures { result ≡ raised range 65535 change }
+{
+    match change {
+        Change::Old(variable) if range.high() < 65535 => Change::Raised(variable),
+        _ => Change::Unknown,
+    }
+}
+
+/// One less than a byte was, where no byte of its range is 0.
+pub(crate) fn lowered_byte(range: ByteRange, change: Change) -> Change
+    ensures { result ≡ lowered range change }
+{
+    match change {
+        Change::Old(variable) if range.low() > 0 => Change::Lowered(variable),
+        _ => Change::Unknown,
+    }
+}
+
+/// One less than a word was, where no word of its range is 0.
+pub(crate) fn lowered_word(range: WordRange, change: Change) -> Change
+    ensures { result ≡ lowered range change }
+{
+    match change {
+        Change::Old(variable) if range.low() > 0 => Change::Lowered(variable),
+        _ => Change::Unknown,
+    }
+}
+
+impl Known {
+    pub(crate) fn byte(&self, register: ByteRegister) -> ByteRange
+        ensures { result ≡ byte_of register self.now }
+    {
+        let pairs = &self.state.pairs;
+        match register {
+            ByteRegister::A => pairs.af.high,
+            ByteRegister::F => pairs.af.low,
+            ByteRegister::B => pairs.bc.high,
+            ByteRegister::C => pairs.bc.low,
+            ByteRegister::D => pairs.de.high,
+            ByteRegister::E => pairs.de.low,
+            ByteRegister::H => pairs.hl.high,
+            ByteRegister::L => pairs.hl.low,
+            ByteRegister::I => ByteRange::full(),
+            ByteRegister::Operand => self.operand,
+        }
+    }
+
+    pub(crate) fn byte_change(&self, register: ByteRegister) -> Change
+        ensures { result ≡ byte_change register self.now.effect }
+    {
+        byte_change(register, &self.effect)
+    }
+
+    /// What is known of a word register.
+    pub(crate) fn pair(&self, register: WordRegister) -> Pair
+        ensures { result ≡ known_pair register self.now }
+    {
+        let pairs = &self.state.pairs;
+        match register {
+            WordRegister::Af => pairs.af,
+            WordRegister::Bc => pairs.bc,
+            WordRegister::De => pairs.de,
+            WordRegister::Hl => pairs.hl,
+            WordRegister::Ix => pairs.ix,
+            WordRegister::Iy => pairs.iy,
+            WordRegister::Sp => Pair::full(),
+            WordRegister::Pc => Pair::of_word(self.pc),
+            WordRegister::Pointer => Pair::of_word(self.pointer),
+        }
+    }
+
+    pub(crate) fn word(&self, register: WordRegister) -> WordRange
+        ensures { result ≡ word_of register self.now }
+    {
+        self.pair(register).word
+    }
+
+    pub(crate) fn word_change(&self, register: WordRegister) -> Change
+        ensures { result ≡ word_change register self.now.effect }
+    {
+        word_change(register, &self.effect)
+    }
+
+    pub(crate) fn parts(&self, register: WordRegister) -> Parts
+        ensures { result ≡ parts_of register self.now.effect }
+    {
+        parts_of(register, &self.effect)
+    }
+
+    fn set_byte(&mut self, register: Register8, range: ByteRange, change: Change)
+        ensures { self.new ≡ set_byte register range change self.old }
+    {
+        self.state.put_byte(register, range);
+        put_byte_change(&mut self.effect, register, change);
+    }
+
+    /// The flags change.
+    pub(crate) fn put_flags(&mut self, fact: Option<FlagFact>)
+        ensures { self.new ≡ put_flags fact self.old }
+    {
+        self.state.put_flags(fact);
+    }
+
+    pub(crate) fn put_byte(&mut self, register: ByteRegister, range: ByteRange, change: Change)
+        ensures { self.new ≡ put_byte register range change self.old }
+    {
+        match register {
+            ByteRegister::A => self.set_byte(Register8::A, range, change),
+            ByteRegister::F => self.put_flags(None),
+            ByteRegister::B => self.set_byte(Register8::B, range, change),
+            ByteRegister::C => self.set_byte(Register8::C, range, change),
+            ByteRegister::D => self.set_byte(Register8::D, range, change),
+            ByteRegister::E => self.set_byte(Register8::E, range, change),
+            ByteRegister::H => self.set_byte(Register8::H, range, change),
+            ByteRegister::L => self.set_byte(Register8::L, range, change),
+            ByteRegister::I => {}
+            ByteRegister::Operand => self.operand = range,
+        }
+    }
+
+    fn set_pair(&mut self, of: RegPair, register: WordRegister, pair: Pair, parts: Parts)
+        ensures { self.new ≡ set_pair of register pair parts self.old }
+    {
+        self.state.put_pair(of, pair);
+        put_parts(&mut self.effect, register, parts);
+    }
+
+    /// A word register becomes a pair.
+    pub(crate) fn put_pair(&mut self, register: WordRegister, pair: Pair, parts: Parts)
+        ensures { self.new ≡ put_pair register pair parts self.old }
+    {
+        match register {
+            WordRegister::Af => self.set_pair(RegPair::Af, register, pair, parts),
+            WordRegister::Bc => self.set_pair(RegPair::Bc, register, pair, parts),
+            WordRegister::De => self.set_pair(RegPair::De, register, pair, parts),
+            WordRegister::Hl => self.set_pair(RegPair::Hl, register, pair, parts),
+            WordRegister::Ix => self.set_pair(RegPair::Ix, register, pair, parts),
+            WordRegister::Iy => self.set_pair(RegPair::Iy, register, pair, parts),
+            WordRegister::Sp => {}
+            WordRegister::Pc => self.pc = pair.word,
+            WordRegister::Pointer => self.pointer = pair.word,
+        }
+    }
+
+    /// A word is written to a word register.
+    pub(crate) fn put_word(&mut self, register: WordRegister, range: WordRange, change: Change)
+        ensures { self.new ≡ put_word register range change self.old }
+    {
+        let parts = Parts {
+            word: change,
+            ..Parts::none()
+        };
+        self.put_pair(register, Pair::of_word(range), parts);
+    }
+
+    /// The number of the last slot; 0 where there is none.
+    fn last_number(&self) -> u8
+        ensures value { result ≡ length self.now.state.shape - 1 }
+        ensures within { result < 64 }
+    {
+        (self.state.shape.len() as u8).saturating_sub(1)
+    }
+
+    /// What is known of the last slot; nothing where there is none.
+    pub(crate) fn last_slot(&self) -> Pair
+        ensures { result ≡ (last_slot self.now.state.shape).pair }
+    {
+        match self.state.shape.top() {
+            Some(slot) => slot.pair,
+            None => Pair::full(),
+        }
+    }
+
+    /// The changes of the last slot.
+    pub(crate) fn last_parts(&self) -> Parts
+        ensures { result ≡ slot_parts (length self.now.state.shape - 1) self.now.effect }
+    {
+        match SlotNumber::new(self.last_number()) {
+            Some(number) => slot_parts(number, &self.effect),
+            None => Parts::none(),
+        }
+    }
+
+    /// The last slot becomes another one, where there is one.
+    pub(crate) fn put_last(&mut self, pair: Pair, parts: Parts)
+        ensures { self.new ≡ put_last pair parts self.old }
+    {
+        let place = self.last_number();
+        let _before = self.state.shape.replace(usize::from(place), Slot { pair });
+        if let Some(number) = SlotNumber::new(place) {
+            put_slot_parts(&mut self.effect, number, parts);
+        }
+    }
+
+    /// A pair is pushed, where there is room for it.
+    pub(crate) fn push_pair(&mut self, pair: Pair, parts: Parts)
+        ensures { self.new ≡ push_pair pair parts self.old }
+    {
+        let Some(number) = SlotNumber::new(self.state.shape.len() as u8) else {
+            return;
+        };
+        let _pushed = self.state.shape.push(Slot { pair });
+        put_slot_parts(&mut self.effect, number, parts);
+    }
+
+    /// The last slot is popped.
+    pub(crate) fn pop_pair(&mut self)
+        ensures { self.new ≡ pop_pair self.old }
+    {
+        let _popped = self.state.shape.pop();
+    }
+
+    /// A byte is written.
+    pub(crate) fn write(&mut self, ground: &Ground, write: DataWrite)
+        requires { length ground.now.cells ≤ 256 }
+        ensures { self.new ≡ write_data ground.now write self.old }
+    {
+        let armed = ground.armed_after(&write, self.state.armed);
+        let mode = mode_after(write.may_enable(ground.map), self.state.mode);
+        self.state.armed = armed;
+        self.state.mode = mode;
+        if self.writes.len() < 2 {
+            self.writes.push(write);
+        }
+    }
+}

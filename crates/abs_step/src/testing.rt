@@ -1,0 +1,164 @@
+// The test of an instruction: what is known where it held and where it did not, and the constants at the end.
+ghost use Rattle.std.specs.Prelude.{◌≡◌, ◌≤◌, Some, None, MatchBool, IfSome, option_map, length, get_or};
+ghost use Rattle.std.specs.Bool.{OnFalse};
+ghost use Rattle.abs_state.specs.Variables.{full_slot};
+ghost use Rattle.abs_step.specs.Outcomes.{state_tested, tested, test_in, before_test, test_of, behind_test, after_moves, constant_first, settled, settled_slot};
+
+use crate::ground::Ground;
+use crate::known::Known;
+use abs_state::AbsState;
+use arrayvec::ArrayVec;
+use intervals::{ByteRange, Pair, RegPair, WordRange};
+use loop_bounds::{Change, SlotChange, SlotNumber};
+use stack_shape::Shape;
+use z80_decode::Register8;
+use z80_moves::{Move, Test};
+
+impl Known {
+    /// Narrows what is known to where a test held, or to where it did not. Tells whether that can be; where it can't,
+    /// nothing changes.
+    pub(crate) fn narrow(&mut self, test: Test, held: bool) -> bool
+        ensures exact { MatchBool result (tested test held self.old ≡ Some self.new) (tested test held self.old ≡ None) }
+        ensures unchanged { OnFalse result (self.new ≡ self.old) }
+    {
+        narrow_state(&mut self.state, test, held)
+    }
+
+    /// The same again.
+    pub(crate) fn copied(&self) -> Known
+        ensures { result ≡ self.now }
+    {
+        let mut writes = ArrayVec::new();
+        let _fits = writes.try_extend_from_slice(self.writes.as_slice());
+        Known {
+            state: self.state.copied(),
+            readable: self.readable,
+            operand: self.operand,
+            pointer: self.pointer,
+            pc: self.pc,
+            effect: self.effect,
+            writes,
+        }
+    }
+}
+
+fn narrow_state(state: &mut AbsState, test: Test, held: bool) -> bool
+    ensures exact { MatchBool result (state_tested test held state.old ≡ Some state.new) (state_tested test held state.old ≡ None) }
+    ensures unchanged { OnFalse result (state.new ≡ state.old) }
+{
+    match test {
+        Test::Flag(condition) => state.narrow(held, condition),
+        Test::BNotZero => state.narrow_byte(!held, Register8::B, 0),
+        Test::BcNotZero => state.narrow_word(!held, RegPair::Bc, 0),
+        Test::SearchGoesOn if held => state.narrow_word(false, RegPair::Bc, 0),
+        Test::SearchGoesOn => true,
+    }
+}
+
+/// The test that a move is, if it is one.
+fn test_in(step: Move) -> Option<Test>
+    ensures { result ≡ test_in step }
+{
+    match step {
+        Move::OnlyIf(test) => Some(test),
+        _ => None,
+    }
+}
+
+/// The test of an instruction, and the moves behind it.
+#[derive(Drop)]
+pub(crate) struct Tested<'a> {
+    pub test: Test,
+    pub behind: &'a [Move],
+}
+
+impl Known {
+    /// Makes the moves up to the test of a list, or all of them where it has none.
+    #[tactic(auto, unfolding(crate::specs::Outcomes::before_test, crate::specs::Outcomes::test_of, crate::specs::Outcomes::behind_test, crate::specs::Outcomes::after_moves))]
+    pub(crate) fn make_to_test<'a>(
+        &mut self,
+        ground: &Ground,
+        inline: bool,
+        moves: &'a [Move],
+    ) -> Option<Tested<'a>>
+        requires { length ground.now.cells ≤ 256 }
+        ensures made { self.new ≡ after_moves ground.now inline (before_test moves.now) self.old }
+        ensures test { option_map (λ t. t.test) result ≡ test_of moves.now }
+        ensures behind { IfSome result (λ t. t.behind.now ≡ behind_test moves.now) }
+    {
+        for (place, step) in moves.iter().enumerate() {
+            if let Some(test) = test_in(*step) {
+                return Some(Tested {
+                    test,
+                    behind: &moves[place + 1..],
+                });
+            }
+            self.make(ground, inline, *step);
+        }
+        None
+    }
+
+    /// The constants go first: a variable whose range is one value is that value.
+    pub(crate) fn settle(&mut self)
+        ensures { self.new ≡ record self.old { effect = settled self.old.state self.old.effect } }
+    {
+        let pairs = &self.state.pairs;
+        let effect = &mut self.effect;
+        effect.a = byte_constant(pairs.af.high, effect.a);
+        effect.b = byte_constant(pairs.bc.high, effect.b);
+        effect.c = byte_constant(pairs.bc.low, effect.c);
+        effect.d = byte_constant(pairs.de.high, effect.d);
+        effect.e = byte_constant(pairs.de.low, effect.e);
+        effect.h = byte_constant(pairs.hl.high, effect.h);
+        effect.l = byte_constant(pairs.hl.low, effect.l);
+        effect.bc = word_constant(pairs.bc.word, effect.bc);
+        effect.de = word_constant(pairs.de.word, effect.de);
+        effect.hl = word_constant(pairs.hl.word, effect.hl);
+        effect.ix = word_constant(pairs.ix.word, effect.ix);
+        effect.iy = word_constant(pairs.iy.word, effect.iy);
+        effect.slot = match effect.slot {
+            Some(change) => Some(settled_slot(&self.state.shape, change)),
+            None => None,
+        };
+    }
+}
+
+/// What is known of a slot; nothing where there is none.
+fn slot_at(shape: &Shape, number: SlotNumber) -> Pair
+    ensures { result ≡ (get_or shape.now number full_slot).pair }
+{
+    match shape.slots().get(usize::from(number.number())) {
+        Some(slot) => slot.pair,
+        None => Pair::full(),
+    }
+}
+
+fn settled_slot(shape: &Shape, change: SlotChange) -> SlotChange
+    ensures { result ≡ settled_slot shape.now change }
+{
+    let pair = slot_at(shape, change.number);
+    SlotChange {
+        number: change.number,
+        word: word_constant(pair.word, change.word),
+        high: byte_constant(pair.high, change.high),
+        low: byte_constant(pair.low, change.low),
+    }
+}
+
+fn byte_constant(range: ByteRange, change: Change) -> Change
+    ensures { result ≡ constant_first range change }
+{
+    match range.value() {
+        Some(byte) => Change::Constant(u16::from(byte)),
+        None => change,
+    }
+}
+
+fn word_constant(range: WordRange, change: Change) -> Change
+    ensures { result ≡ constant_first range change }
+{
+    match range.value() {
+        Some(word) => Change::Constant(word),
+        None => change,
+    }
+}
