@@ -1,0 +1,135 @@
+#!/usr/bin/env bash
+# Runs the built program over files, and compares standard output, standard error and status with what docs/PROGRAM.md
+# says: tools/program.sh GALCERT. Prints each case that is not so, and how many were.
+set -uo pipefail
+galcert=$(realpath "$1")
+here=$(cd "$(dirname "$0")/.." && pwd)
+six=$here/examples/six-bytes/six
+work=$(mktemp -d)
+trap 'rm -rf "$work"' EXIT
+cd "$work" || exit 1
+cases=0
+wrong=0
+
+# Compares the status, the output and the errors of the last command with what is wanted; errors of `+` are any but none.
+judge() {
+    local name=$1 status=$2 out=$3 err=$4
+    cases=$((cases + 1))
+    local is_wrong=
+    [ "$(cat status)" = "$status" ] || is_wrong="status $(cat status) and not $status"
+    printf '%s' "$out" | cmp -s - out || is_wrong="$is_wrong; output $(head -c 200 out)"
+    if [ "$err" = + ]; then
+        [ -s err ] || is_wrong="$is_wrong; no errors"
+    else
+        printf '%s' "$err" | cmp -s - err || is_wrong="$is_wrong; errors $(head -c 200 err)"
+    fi
+    [ -z "$is_wrong" ] || { echo "not as it should be: $name: $is_wrong"; wrong=$((wrong + 1)); }
+}
+
+# Runs the program with these words.
+ask() { "$galcert" "$@" > out 2> err < /dev/null; echo $? > status; }
+
+table=$'accepted\nmain 0000 depth     0 time      -\nstack 0 of 128\nnmi none\n'
+run_of_three=$'done 3 30 0003 4400\nregs 0000 0000 0000 0000 0000 0000\nsum 0 0 0\n'
+run_of_none=$'done 0 0 0000 0000\nregs 0000 0000 0000 0000 0000 0000\nsum 0 0 0\n'
+
+ask verify "$six.rom" "$six.cert"
+judge "the six bytes, verified" 0 "$table" ''
+ask run "$six.rom" "$six.cert" "$six.input" 3
+judge "the six bytes, run" 0 "$run_of_three" ''
+ask run "$six.rom" "$six.cert" "$six.input" 0
+judge "no events" 0 "$run_of_none" ''
+ask run "$six.rom" "$six.cert" "$six.input" 0000000003
+judge "steps with leading zeros" 0 "$run_of_three" ''
+
+# Files that are not there: the first that is asked for fails, and nothing is printed.
+ask verify missing "$six.cert"
+judge "no ROM" 3 '' $'device error\n'
+ask verify "$six.rom" missing
+judge "no certificate" 3 '' $'device error\n'
+ask run "$six.rom" "$six.cert" missing 3
+judge "no input" 3 '' $'device error\n'
+printf '\xD3\x00' > port.rom
+sed 's/^rom 6$/rom 2/; /^row 0 0003/d' "$six.cert" > port.cert
+ask run port.rom port.cert missing 3
+judge "a refused certificate, and no input" 1 $'refused 0000 12 NotCovered\n' ''
+ask verify . "$six.cert"
+judge "a folder as ROM" 3 '' $'device error\n'
+
+# A standard output that takes nothing.
+for words in "verify $six.rom $six.cert" "run $six.rom $six.cert $six.input 3"; do
+    # shellcheck disable=SC2086
+    "$galcert" $words > /dev/full 2> err < /dev/null
+    echo $? > status
+    : > out
+    judge "a full device: ${words%% *}" 3 '' $'device error\n'
+done
+
+# Command lines out of form. STEPS is judged before a file is opened.
+ask run missing missing missing x
+judge "steps x" 2 '' $'bad steps\n'
+ask run missing missing missing 4294967296
+judge "steps above 4294967295" 2 '' $'bad steps\n'
+ask run missing missing missing ''
+judge "no steps" 2 '' $'bad steps\n'
+ask
+judge "no command" 2 '' +
+ask inspect "$six.rom" "$six.cert"
+judge "another command" 2 '' +
+ask verify "$six.rom"
+judge "a word too few" 2 '' +
+ask verify "$six.rom" "$six.cert" "$six.input"
+judge "a word too many" 2 '' +
+ask run "$six.rom" "$six.cert" "$six.input"
+judge "a run without steps" 2 '' +
+ask --help
+judge "--help" 2 '' +
+
+# Files exchanged, empty ones, long ones.
+ask verify "$six.cert" "$six.rom"
+judge "ROM and certificate exchanged" 1 $'bad certificate line 1\n' ''
+: > empty
+ask verify empty "$six.cert"
+judge "a ROM of no bytes" 1 $'refused 0000 1 Rom\n' ''
+ask verify "$six.rom" empty
+judge "an empty certificate" 1 $'bad certificate line 1\n' ''
+head -c 16385 /dev/zero > long.rom
+ask verify long.rom "$six.cert"
+judge "a ROM of 16,385 bytes" 1 $'refused 0000 1 Rom\n' ''
+head -c -1 "$six.cert" > unended.cert
+ask verify "$six.rom" unended.cert
+judge "a last line without its line feed" 1 $'bad certificate line 8\n' ''
+
+# Certificates with many rows: those of address 0000 again and again.
+rows() {
+    grep -v '^row\|^end' "$six.cert"
+    yes "$(grep '^row 0 0000' "$six.cert")" | head -n "$(($1 - 1))"
+    grep '^row 0 0003' "$six.cert"
+    echo end
+}
+for count in 200 65535; do
+    rows $count > rows.cert
+    ask verify "$six.rom" rows.cert
+    judge "$count rows" 0 "$table" ''
+done
+rows 65536 > rows.cert
+ask verify "$six.rom" rows.cert
+judge "65,536 rows" 1 $'bad certificate limit\n' ''
+
+# Inputs.
+printf 'reset 0 00\n3 00 00 00 00 00 00 2\n' > bad.input
+ask run "$six.rom" "$six.cert" bad.input 3
+judge "a bad second line" 1 $'bad input line 2\n' ''
+ask run "$six.rom" "$six.cert" bad.input 0
+judge "a bad line that is not needed" 0 "$run_of_none" ''
+ask run "$six.rom" "$six.cert" empty 0
+judge "an empty input" 1 $'bad input line 1\n' ''
+
+# Files that give a byte at a time.
+bytes() { python3 -c 'import os, sys
+for byte in open(sys.argv[1], "rb").read(): os.write(1, bytes([byte]))' "$1"; }
+ask run <(bytes "$six.rom") <(bytes "$six.cert") <(bytes "$six.input") 3
+judge "a byte at a time" 0 "$run_of_three" ''
+
+echo "$cases cases, $wrong not as they should be"
+[ "$wrong" = 0 ]
