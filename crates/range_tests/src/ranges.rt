@@ -10,114 +10,188 @@ fn words(low: u16, high: u16) -> WordRange {
     WordRange::new(low, high).unwrap_or(WordRange::full())
 }
 
-#[test]
-fn sums_of_bytes(rt: HostRuntime) {
-    let all = ByteRange::full();
-    let cases = [
-        (bytes(1, 3).sum(bytes(10, 20)), bytes(11, 23)),
-        (bytes(200, 210).sum(bytes(60, 70)), bytes(4, 24)),
-        (bytes(200, 210).sum(bytes(40, 70)), all),
-        (bytes(250, 255).sum_with_carry(bytes(0, 0)), all),
-        (bytes(0, 254).sum_with_carry(bytes(0, 0)), bytes(0, 255)),
-        (bytes(8, 9).difference(bytes(1, 3)), bytes(5, 8)),
-        (bytes(1, 2).difference(bytes(3, 4)), bytes(253, 255)),
-        (bytes(1, 4).difference(bytes(3, 3)), all),
-        (bytes(5, 5).difference_with_carry(bytes(5, 5)), all),
-        (bytes(9, 9).difference_with_carry(bytes(4, 4)), bytes(4, 5)),
-        (all.difference_from_itself(), bytes(0, 0)),
-        (bytes(255, 255).increment(), bytes(0, 0)),
-        (bytes(254, 255).increment(), all),
-        (bytes(0, 0).decrement(), bytes(255, 255)),
-        (bytes(1, 9).decrement(), bytes(0, 8)),
-        (bytes(1, 128).negation(), bytes(128, 255)),
-        (bytes(0, 1).negation(), all),
-        (bytes(0, 0).negation(), bytes(0, 0)),
-    ];
-    for (k, (result, expected)) in cases.into_iter().enumerate() {
-        assert!(rt; result == expected, "case {k}");
+/// An operation on a range of bytes.
+#[derive(Clone, Copy)]
+enum ByteOp {
+    Sum(u8, u8),
+    SumWithCarry(u8, u8),
+    Difference(u8, u8),
+    DifferenceWithCarry(u8, u8),
+    DifferenceFromItself,
+    Increment,
+    Decrement,
+    Negation,
+    And(u8, u8),
+    Or(u8, u8),
+    Xor(u8, u8),
+    XorWithItself,
+    Complement,
+    Halves,
+    Doubles,
+    RotationLeft,
+    RotationRight,
+    WithBit7Set,
+    WithBit0Reset,
+}
+
+fn bytes_after(op: ByteOp, (low, high): (u8, u8)) -> ByteRange {
+    let range = bytes(low, high);
+    match op {
+        ByteOp::Sum(low, high) => range.sum(bytes(low, high)),
+        ByteOp::SumWithCarry(low, high) => range.sum_with_carry(bytes(low, high)),
+        ByteOp::Difference(low, high) => range.difference(bytes(low, high)),
+        ByteOp::DifferenceWithCarry(low, high) => range.difference_with_carry(bytes(low, high)),
+        ByteOp::DifferenceFromItself => range.difference_from_itself(),
+        ByteOp::Increment => range.increment(),
+        ByteOp::Decrement => range.decrement(),
+        ByteOp::Negation => range.negation(),
+        ByteOp::And(low, high) => range.and(bytes(low, high)),
+        ByteOp::Or(low, high) => range.or(bytes(low, high)),
+        ByteOp::Xor(low, high) => range.xor(bytes(low, high)),
+        ByteOp::XorWithItself => range.xor_with_itself(),
+        ByteOp::Complement => range.complement(),
+        ByteOp::Halves => range.halves(),
+        ByteOp::Doubles => range.doubles(),
+        ByteOp::RotationLeft => range.rotation_left(),
+        ByteOp::RotationRight => range.rotation_right(),
+        ByteOp::WithBit7Set => range.with_bit_set(7),
+        ByteOp::WithBit0Reset => range.with_bit_reset(0),
     }
 }
 
+/// A range of bytes, what is done with it, and the range of the results.
+const BYTE_SUMS: &[((u8, u8), ByteOp, (u8, u8))] = &[
+    ((1, 3), ByteOp::Sum(10, 20), (11, 23)),
+    ((200, 210), ByteOp::Sum(60, 70), (4, 24)),
+    ((200, 210), ByteOp::Sum(40, 70), (0, 255)),
+    ((250, 255), ByteOp::SumWithCarry(0, 0), (0, 255)),
+    ((0, 254), ByteOp::SumWithCarry(0, 0), (0, 255)),
+    ((8, 9), ByteOp::Difference(1, 3), (5, 8)),
+    ((1, 2), ByteOp::Difference(3, 4), (253, 255)),
+    ((1, 4), ByteOp::Difference(3, 3), (0, 255)),
+    ((5, 5), ByteOp::DifferenceWithCarry(5, 5), (0, 255)),
+    ((9, 9), ByteOp::DifferenceWithCarry(4, 4), (4, 5)),
+    ((0, 255), ByteOp::DifferenceFromItself, (0, 0)),
+    ((255, 255), ByteOp::Increment, (0, 0)),
+    ((254, 255), ByteOp::Increment, (0, 255)),
+    ((0, 0), ByteOp::Decrement, (255, 255)),
+    ((1, 9), ByteOp::Decrement, (0, 8)),
+    ((1, 128), ByteOp::Negation, (128, 255)),
+    ((0, 1), ByteOp::Negation, (0, 255)),
+    ((0, 0), ByteOp::Negation, (0, 0)),
+];
+
 #[test]
-fn sums_of_words(rt: HostRuntime) {
-    let all = WordRange::full();
-    let cases = [
-        (
-            words(0x4000, 0x40ff).sum(words(1, 2)),
-            words(0x4001, 0x4101),
-        ),
-        (words(0xffff, 0xffff).sum(words(1, 1)), words(0, 0)),
-        (words(0xfffe, 0xffff).sum(words(1, 1)), all),
-        (words(0, 9).sum_with_carry(words(5, 5)), words(5, 15)),
-        (words(9, 9).difference_with_carry(words(9, 9)), all),
-        (
-            words(100, 110).difference_with_carry(words(1, 9)),
-            words(90, 109),
-        ),
-        (words(0xffff, 0xffff).increment(), words(0, 0)),
-        (words(0, 0).decrement(), words(0xffff, 0xffff)),
-        (words(0, 5).decrement(), all),
-        (
-            words(0x5000, 0x5010).displacement(0x7f),
-            words(0x507f, 0x508f),
-        ),
-        (
-            words(0x5000, 0x5010).displacement(0x80),
-            words(0x4f80, 0x4f90),
-        ),
-        (words(0, 0).displacement(0xff), words(0xffff, 0xffff)),
-    ];
-    for (k, (result, expected)) in cases.into_iter().enumerate() {
-        assert!(rt; result == expected, "case {k}");
+fn sums_of_bytes(rt: HostRuntime) {
+    for (place, &(range, op, (low, high))) in BYTE_SUMS.iter().enumerate() {
+        assert!(rt; bytes_after(op, range) == bytes(low, high), "row {place}");
     }
 }
+
+/// A range of bytes, what is done with it, and the range of the results.
+const BYTE_LOGIC: &[((u8, u8), ByteOp, (u8, u8))] = &[
+    ((12, 12), ByteOp::And(10, 10), (8, 8)),
+    ((0, 255), ByteOp::And(7, 7), (0, 7)),
+    ((12, 12), ByteOp::Or(3, 3), (15, 15)),
+    ((2, 4), ByteOp::Or(3, 9), (3, 15)),
+    ((0, 64), ByteOp::Or(1, 1), (1, 127)),
+    ((0, 0), ByteOp::Or(0, 1), (0, 1)),
+    ((12, 12), ByteOp::Xor(10, 10), (6, 6)),
+    ((3, 4), ByteOp::Xor(3, 3), (0, 7)),
+    ((0, 255), ByteOp::XorWithItself, (0, 0)),
+    ((0, 16), ByteOp::Complement, (239, 255)),
+    ((3, 9), ByteOp::Halves, (1, 4)),
+    ((3, 127), ByteOp::Doubles, (6, 254)),
+    ((3, 128), ByteOp::Doubles, (0, 255)),
+    ((0x81, 0x81), ByteOp::RotationLeft, (3, 3)),
+    ((0x81, 0x81), ByteOp::RotationRight, (0xc0, 0xc0)),
+    ((1, 2), ByteOp::RotationLeft, (0, 255)),
+    ((1, 1), ByteOp::WithBit7Set, (0x81, 0x81)),
+    ((0xff, 0xff), ByteOp::WithBit0Reset, (0xfe, 0xfe)),
+];
 
 #[test]
 fn logic_of_bytes(rt: HostRuntime) {
-    let all = ByteRange::full();
-    let cases = [
-        (bytes(12, 12).and(bytes(10, 10)), bytes(8, 8)),
-        (all.and(bytes(7, 7)), bytes(0, 7)),
-        (bytes(12, 12).or(bytes(3, 3)), bytes(15, 15)),
-        (bytes(2, 4).or(bytes(3, 9)), bytes(3, 15)),
-        (bytes(0, 64).or(bytes(1, 1)), bytes(1, 127)),
-        (bytes(0, 0).or(bytes(0, 1)), bytes(0, 1)),
-        (bytes(12, 12).xor(bytes(10, 10)), bytes(6, 6)),
-        (bytes(3, 4).xor(bytes(3, 3)), bytes(0, 7)),
-        (all.xor_with_itself(), bytes(0, 0)),
-        (bytes(0, 16).complement(), bytes(239, 255)),
-        (bytes(3, 9).halves(), bytes(1, 4)),
-        (bytes(3, 127).doubles(), bytes(6, 254)),
-        (bytes(3, 128).doubles(), all),
-        (bytes(0x81, 0x81).rotation_left(), bytes(3, 3)),
-        (bytes(0x81, 0x81).rotation_right(), bytes(0xc0, 0xc0)),
-        (bytes(1, 2).rotation_left(), all),
-        (bytes(1, 1).with_bit_set(7), bytes(0x81, 0x81)),
-        (bytes(0xff, 0xff).with_bit_reset(0), bytes(0xfe, 0xfe)),
-    ];
-    for (k, (result, expected)) in cases.into_iter().enumerate() {
-        assert!(rt; result == expected, "case {k}");
+    for (place, &(range, op, (low, high))) in BYTE_LOGIC.iter().enumerate() {
+        assert!(rt; bytes_after(op, range) == bytes(low, high), "row {place}");
+    }
+}
+
+/// An operation on a range of words.
+#[derive(Clone, Copy)]
+enum WordOp {
+    Sum(u16, u16),
+    SumWithCarry(u16, u16),
+    DifferenceWithCarry(u16, u16),
+    Increment,
+    Decrement,
+    Displacement(u8),
+}
+
+fn words_after(op: WordOp, (low, high): (u16, u16)) -> WordRange {
+    let range = words(low, high);
+    match op {
+        WordOp::Sum(low, high) => range.sum(words(low, high)),
+        WordOp::SumWithCarry(low, high) => range.sum_with_carry(words(low, high)),
+        WordOp::DifferenceWithCarry(low, high) => range.difference_with_carry(words(low, high)),
+        WordOp::Increment => range.increment(),
+        WordOp::Decrement => range.decrement(),
+        WordOp::Displacement(byte) => range.displacement(byte),
+    }
+}
+
+/// A range of words, what is done with it, and the range of the results.
+const WORD_SUMS: &[((u16, u16), WordOp, (u16, u16))] = &[
+    ((0x4000, 0x40ff), WordOp::Sum(1, 2), (0x4001, 0x4101)),
+    ((0xffff, 0xffff), WordOp::Sum(1, 1), (0, 0)),
+    ((0xfffe, 0xffff), WordOp::Sum(1, 1), (0, 65_535)),
+    ((0, 9), WordOp::SumWithCarry(5, 5), (5, 15)),
+    ((9, 9), WordOp::DifferenceWithCarry(9, 9), (0, 65_535)),
+    ((100, 110), WordOp::DifferenceWithCarry(1, 9), (90, 109)),
+    ((0xffff, 0xffff), WordOp::Increment, (0, 0)),
+    ((0, 0), WordOp::Decrement, (0xffff, 0xffff)),
+    ((0, 5), WordOp::Decrement, (0, 65_535)),
+    (
+        (0x5000, 0x5010),
+        WordOp::Displacement(0x7f),
+        (0x507f, 0x508f),
+    ),
+    (
+        (0x5000, 0x5010),
+        WordOp::Displacement(0x80),
+        (0x4f80, 0x4f90),
+    ),
+    ((0, 0), WordOp::Displacement(0xff), (0xffff, 0xffff)),
+];
+
+#[test]
+fn sums_of_words(rt: HostRuntime) {
+    for (place, &(range, op, (low, high))) in WORD_SUMS.iter().enumerate() {
+        assert!(rt; words_after(op, range) == words(low, high), "row {place}");
     }
 }
 
 #[test]
 fn ranges(rt: HostRuntime) {
-    assert!(rt; ByteRange::new(4, 3) == None);
-    assert!(rt; bytes(4, 9).intersection(ByteRange::at_most(6)) == Some(bytes(4, 6)));
-    assert!(rt; bytes(4, 9).intersection(ByteRange::at_least(10)) == None);
-    assert!(rt; bytes(4, 9).without(4) == Some(bytes(5, 9)));
-    assert!(rt; bytes(4, 9).without(5) == Some(bytes(4, 9)));
-    assert!(rt; ByteRange::single(0).without(0) == None);
-    assert!(rt; bytes(4, 9).join(&bytes(20, 30)) == bytes(4, 30));
-    assert!(rt; bytes(4, 9).covers(&bytes(5, 9)));
-    assert!(rt; !bytes(4, 9).covers(&bytes(5, 10)));
-    assert!(rt; bytes(4, 9).meets(bytes(9, 20)) && !bytes(4, 9).meets(bytes(10, 20)));
-    assert!(rt; bytes(4, 9).value() == None);
-    assert!(rt; ByteRange::single(7).value() == Some(7));
-    assert!(rt; words(4, 9).low() == 4);
-    assert!(rt; words(4, 9).high() == 9);
-    assert!(rt; words(4, 9).without(9) == Some(words(4, 8)));
-    assert!(rt; words(4, 9).contains(9) && !words(4, 9).contains(10));
+    assert!(rt; ByteRange::new(4, 3).is_none());
+    let range = bytes(4, 9);
+    assert!(rt; range.intersection(ByteRange::at_most(6)) == Some(bytes(4, 6)));
+    assert!(rt; range.intersection(ByteRange::at_least(10)).is_none());
+    assert!(rt; range.without(4) == Some(bytes(5, 9)));
+    assert!(rt; range.without(5) == Some(range));
+    assert!(rt; ByteRange::single(0).without(0).is_none());
+    assert!(rt; range.join(&bytes(20, 30)) == bytes(4, 30));
+    assert!(rt; range.covers(&bytes(5, 9)) && !range.covers(&bytes(5, 10)));
+    assert!(rt; range.meets(bytes(9, 20)) && !range.meets(bytes(10, 20)));
+    assert!(rt; range.value().is_none() && ByteRange::single(7).value() == Some(7));
+}
+
+#[test]
+fn ranges_of_words(rt: HostRuntime) {
+    let range = words(4, 9);
+    assert!(rt; range.low() == 4 && range.high() == 9);
+    assert!(rt; range.without(9) == Some(words(4, 8)));
+    assert!(rt; range.contains(9) && !range.contains(10));
     assert!(rt; WordRange::at_least(0).is_full() && !WordRange::at_most(9).is_full());
 }
 
