@@ -6,7 +6,7 @@
 // IFF2 as bits 1 and 0, the program counter, the T-states (1), and the sum of the bytes of work and video RAM, each times
 // its place from 1 (4). Before it I, IFF1, IFF2 and the program counter are 0, cell i of work RAM holds 7i + 3, and cell i
 // of video RAM 5i + 1, modulo 256. The mask leaves out what the manual leaves open: bits 5 and 3 where flags change, H
-// after DAA, S and P/V after BIT, and P/V after LD A,I.
+// after DAA, S and P/V after BIT, and P/V after LD A,I. Those bits have to be the noise's.
 
 use crate::steps::last_step;
 use address_map::{Map, RamKind, Region, Rom, Starts};
@@ -20,15 +20,23 @@ pub fn row_of(line: &str) -> (Option<[u8; 58]>, &str) {
     (<[u8; 58] as FromHex>::from_hex(digits).ok(), name)
 }
 
-/// Whether the step of a line is as the line says.
+/// Whether the step of a line is as the line says, with the noise 00 and with FF.
 pub fn agrees(row: &[u8; 58]) -> bool {
+    agrees_with(row, 0x00) && agrees_with(row, 0xFF)
+}
+
+/// Whether it is with this noise, which the bits of F are that the manual leaves open.
+fn agrees_with(row: &[u8; 58], noise: u8) -> bool {
     let mut board = board_of(row);
-    let Ok(Some(event)) = stepped(&mut board, &row[..4]) else {
+    let Ok(Some(event)) = stepped(&mut board, &row[..4], noise) else {
         return false;
     };
     let mut words = words_of(&board.regs());
-    words[0] &= 0xFF00 | u16::from(row[4]);
-    event.t == row[53]
+    let (compared, open) = (row[4], !row[4]);
+    let is_noise = board.regs().main.f & open == noise & open;
+    words[0] &= 0xFF00 | u16::from(compared);
+    is_noise
+        && event.t == row[53]
         && board.regs().pc == word(row, 51)
         && are(&words, row)
         && weighed(&board) == u32::from_be_bytes([row[54], row[55], row[56], row[57]])
@@ -114,8 +122,8 @@ fn weighed(board: &Board) -> u32 {
     sum
 }
 
-// One step with the stack in 4380 to 43FF, 0000 the only start, and an environment of zeros.
-fn stepped(board: &mut Board, rom: &[u8]) -> Result<Option<Event>, Trap> {
+// One step with the stack in 4380 to 43FF, 0000 the only start, and inputs that differ from one another; none is read.
+fn stepped(board: &mut Board, rom: &[u8], noise: u8) -> Result<Option<Event>, Trap> {
     let Some(rom) = Rom::of(rom) else {
         return Err(Trap::FetchOutside);
     };
@@ -130,17 +138,21 @@ fn stepped(board: &mut Board, rom: &[u8]) -> Result<Option<Event>, Trap> {
             top: 0x4400,
         },
     };
-    let none = Inputs {
-        in0: 0,
-        in1: 0,
-        in2: 0,
-        bus: 0,
-    };
     let env = Env {
-        inputs: [none, none],
-        noise: 0,
-        r: 0,
-        latch: false,
+        inputs: [inputs_from(0x11), inputs_from(0x51)],
+        noise,
+        r: 0x91,
+        latch: true,
     };
     last_step(board, &rom, &profile, &env, 1)
+}
+
+// Four bytes that differ: this one, and the next three.
+fn inputs_from(byte: u8) -> Inputs {
+    Inputs {
+        in0: byte,
+        in1: byte.wrapping_add(1),
+        in2: byte.wrapping_add(2),
+        bus: byte.wrapping_add(3),
+    }
 }

@@ -4,6 +4,8 @@
 #[cfg(test)]
 mod acceptance;
 #[cfg(test)]
+mod latches;
+#[cfg(test)]
 mod machine;
 #[cfg(test)]
 mod maps;

@@ -10,7 +10,7 @@ use t_states::cost;
 use z80_alu::{RegisterSet, Regs};
 
 // Each number of it is another, where a step can tell: an open read gives AA first and then BB, and R is 5C.
-fn environment() -> Env {
+pub(crate) fn environment() -> Env {
     let first = Inputs {
         in0: 0x10,
         in1: 0x11,
@@ -82,14 +82,14 @@ fn rising(first: u8, step: u8) -> [u8; 0x400] {
     cells
 }
 
-// Cell i of work RAM holds 7i + 3, cell i of video RAM 5i + 1, modulo 256, and object RAM 0.
+// Cell i of work RAM holds 7i + 3, cell i of video RAM 5i + 1, modulo 256, and each of object RAM 6D.
 fn board_with(regs: Regs, phase: u32) -> Board
     requires { phase < frame }
 {
     Board::reset(&Reset {
         work: rising(3, 7),
         video: rising(1, 5),
-        object: [0; 0x100],
+        object: [0x6D; 0x100],
         regs,
         phase,
     })
@@ -110,8 +110,25 @@ pub(crate) fn map_for(rom: &Rom) -> Map
     Map::galaxian(rom.len())
 }
 
-// Steps with the stack in 4380 to 43FF, and each address a start: the T-states, or the trap.
-fn stepped(board: &mut Board, rom: &[u8], steps: u32, env: &Env) -> Result<u32, Trap> {
+// The stack's region of a certificate, and one of all addresses.
+const NARROW: Region = Region {
+    low: 0x4380,
+    top: 0x4400,
+};
+
+pub(crate) const WIDE: Region = Region {
+    low: 0x0000,
+    top: 0xFFFF,
+};
+
+// Steps with the stack in a region, and each address a start: the T-states, or the trap.
+pub(crate) fn stepped(
+    board: &mut Board,
+    rom: &[u8],
+    region: Region,
+    steps: u32,
+    env: &Env,
+) -> Result<u32, Trap> {
     let mut time: u32 = 0;
     if let Some(rom) = Rom::of(rom) {
         let map = map_for(&rom);
@@ -119,10 +136,7 @@ fn stepped(board: &mut Board, rom: &[u8], steps: u32, env: &Env) -> Result<u32, 
         let profile = Profile {
             map: &map,
             starts: &starts,
-            region: Region {
-                low: 0x4380,
-                top: 0x4400,
-            },
+            region,
         };
         for _ in 0..steps {
             let event = board.step_checked(&rom, &profile, env)?;
@@ -156,7 +170,7 @@ fn has(board: &Board, cells: &[(u16, u8)]) -> bool {
 /// What differs from a row of BY_HAND after its steps: nothing, as no text, or the first of these.
 fn difference((rom, steps, changes, pc, t, cells): Row) -> &'static str {
     let mut board = board_with(regs_of(&BEFORE), 0);
-    if stepped(&mut board, rom, steps, &environment()) != Ok(t) {
+    if stepped(&mut board, rom, WIDE, steps, &environment()) != Ok(t) {
         "time"
     } else if words_of(&board.regs()) != with(changes) {
         "registers"
@@ -180,11 +194,19 @@ fn agrees_with_the_manual(rt: HostRuntime) {
 /// What differs from a row of TRAPS, in the same way.
 fn trap_difference((rom, steps, trap): TrapRow) -> &'static str {
     let mut board = board_with(regs_of(&BEFORE), 0);
-    if stepped(&mut board, rom, steps.saturating_sub(1), &environment()).is_err() {
+    if stepped(
+        &mut board,
+        rom,
+        NARROW,
+        steps.saturating_sub(1),
+        &environment(),
+    )
+    .is_err()
+    {
         return "before the trap";
     }
     let words = words_of(&board.regs());
-    if stepped(&mut board, rom, 1, &environment()).err() != trap {
+    if stepped(&mut board, rom, NARROW, 1, &environment()).err() != trap {
         "trap"
     } else if trap.is_some() && words_of(&board.regs()) != words {
         "registers"
@@ -201,7 +223,7 @@ fn traps_by_the_table(rt: HostRuntime) {
     }
 }
 
-fn filled(byte: u8, phase: u32) -> Board
+pub(crate) fn filled(byte: u8, phase: u32) -> Board
     requires { phase < frame }
 {
     let word = u16::from(byte) * 257;
@@ -231,7 +253,7 @@ const FILL: [u8; 18] = [
 #[test]
 fn fills_work_ram(rt: HostRuntime) {
     let mut board = filled(0xFF, 0);
-    let time = stepped(&mut board, &FILL, 1028, &environment());
+    let time = stepped(&mut board, &FILL, NARROW, 1028, &environment());
     assert!(rt; time == Ok(21_528));
     let want = [
         0xFFC1, 0x0000, 0x4400, 0x43FF, 0xFFFF, 0xFFFF, 0x4400, 0xFFFF, 0xFFFF, 0xFFFF, 0xFFFF, 0,
@@ -266,7 +288,7 @@ fn after_enabling(latch: bool) -> (Result<u32, Trap>, [u16; 3], u32) {
         latch,
         ..environment()
     };
-    let time = stepped(&mut board, &enabling(), 7, &env);
+    let time = stepped(&mut board, &enabling(), NARROW, 7, &env);
     let regs = board.regs();
     (
         time,
@@ -280,30 +302,6 @@ fn latches_an_nmi_as_the_environment_says(rt: HostRuntime) {
     let regs = [0x000C, 0x4400, 0x0044];
     assert!(rt; after_enabling(true) == (Ok(72), regs, 12));
     assert!(rt; after_enabling(false) == (Ok(71), regs, 0));
-}
-
-// LD HL,0100; LD (7000),HL; JR to itself: the second byte of the word enables, as the NMI shows that the blank in the
-// third event latches. LD HL,0001 in its place writes the 1 at 7000, which enables nothing.
-/// The kinds of the third and the fourth event of a program, where the events take 10, 16 and 12 T-states and the third
-/// crosses the blank.
-fn kinds_at_the_blank(rom: &[u8]) -> Option<(Kind, Kind)> {
-    let mut board = filled(0, 50_688 - 30);
-    if stepped(&mut board, rom, 2, &environment()) != Ok(26) {
-        return None;
-    }
-    let third = board.kind();
-    if stepped(&mut board, rom, 1, &environment()) != Ok(12) {
-        return None;
-    }
-    Some((third, board.kind()))
-}
-
-#[test]
-fn the_second_byte_of_a_word_enables(rt: HostRuntime) {
-    let enables = [0x21, 0x00, 0x01, 0x22, 0x00, 0x70, 0x18, 0xFE];
-    assert!(rt; kinds_at_the_blank(&enables) == Some((Kind::Instr, Kind::Accept)));
-    let does_not = [0x21, 0x01, 0x00, 0x22, 0x00, 0x70, 0x18, 0xFE];
-    assert!(rt; kinds_at_the_blank(&does_not) == Some((Kind::Instr, Kind::Instr)));
 }
 
 // The next event by what is known of it, where that can be found out.

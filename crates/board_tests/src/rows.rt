@@ -68,6 +68,24 @@ pub(crate) const BY_HAND: &[Row] = &[
     (&[0x2A, 0x00, 0x80], 1, &[(3, 0xBBAA)], 3, 16, &[]),
     // LD HL,(67FF): IN0 and then IN1
     (&[0x2A, 0xFF, 0x67], 1, &[(3, 0x2110)], 3, 16, &[]),
+    // across the ends of the zones: work RAM, open, video RAM, object RAM, IN0 (IN1 stands above), IN2, open, open
+    (&[0x2A, 0xFF, 0x3F], 1, &[(3, 0x03AA)], 3, 16, &[]),
+    (&[0x2A, 0xFF, 0x47], 1, &[(3, 0xBBFC)], 3, 16, &[]),
+    (&[0x2A, 0xFF, 0x4F], 1, &[(3, 0x01AA)], 3, 16, &[]),
+    (&[0x2A, 0xFF, 0x57], 1, &[(3, 0x6DFC)], 3, 16, &[]),
+    (&[0x2A, 0xFF, 0x5F], 1, &[(3, 0x206D)], 3, 16, &[]),
+    (&[0x2A, 0xFF, 0x6F], 1, &[(3, 0xA211)], 3, 16, &[]),
+    (&[0x2A, 0xFF, 0x77], 1, &[(3, 0xBB92)], 3, 16, &[]),
+    (&[0x2A, 0xFF, 0x7F], 1, &[(3, 0xBBAA)], 3, 16, &[]),
+    // LD HL,(0002): the ROM's last byte, and the open one behind it, which is the second read
+    (&[0x2A, 0x02, 0x00], 1, &[(3, 0xBB00)], 3, 16, &[]),
+    // LD SP,67FF; POP BC, LD SP,6FFF; EX (SP),HL, and LD SP,5FFF; RET: the second byte is of the second inputs
+    (&[0x31, 0xFF, 0x67, 0xC1], 2, &[(1, 0x2110), (6, 0x6801)], 4, 20, &[]),
+    (&[0x31, 0xFF, 0x6F, 0xE3], 2, &[(3, 0xA211), (6, 0x6FFF)], 4, 29, &[]),
+    (&[0x31, 0xFF, 0x5F, 0xC9], 2, &[(6, 0x6001)], 0x206D, 20, &[]),
+    // LD (58FE),A; LD HL,(5FFE), and LD (5B00),A; LD HL,(5E00): object RAM's copies follow one another every 100h
+    (&[0x32, 0xFE, 0x58, 0x2A, 0xFE, 0x5F], 2, &[(3, 0x6D12)], 6, 29, &[]),
+    (&[0x32, 0x00, 0x5B, 0x2A, 0x00, 0x5E], 2, &[(3, 0x6D12)], 6, 29, &[]),
     // LD B,0; DJNZ back to itself
     (&[0x06, 0x00, 0x10, 0xFE], 2, &[(1, 0xFF02)], 2, 20, &[]),
     // LD BC,2; LD D,41; LDIR, one turn
