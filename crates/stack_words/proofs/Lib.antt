@@ -1,0 +1,6 @@
+-- The lemmas, lowest first.
+pub mod Bytes
+pub mod Brought
+pub mod WordLaws
+pub mod Laid
+pub mod CalmMoves
