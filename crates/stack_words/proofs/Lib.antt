@@ -4,3 +4,5 @@ pub mod Brought
 pub mod WordLaws
 pub mod Laid
 pub mod CalmMoves
+pub mod EachMove
+pub mod EachInstruction

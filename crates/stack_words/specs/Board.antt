@@ -1,13 +1,15 @@
 -- Helper: the words on the stack of a board, before an event and as its draft leaves them.
-use Rattle.std.specs.Prelude.{ℕ, ◌≡◌, List, false, length}
+use Rattle.std.specs.Prelude.{ℕ, ◌≡◌, List, false, None, length}
 use Rattle.address_map.specs.AddressMap.{AddressMap}
 use Rattle.address_map.specs.RamKind.{size_of}
 use Rattle.address_map.specs.declared.cell.RamKind.TheVariants.{Work}
 use Rattle.address_map.specs.declared.region.Region.{Region}
+use Rattle.z80_decode.specs.declared.instr.Instr.{Instr}
 use Rattle.z80_draft.specs.Draft.{Draft}
+use Rattle.board_step.specs.Context.{Context}
 use Rattle.board_step.specs.State.{State}
-use Rattle.board_step.specs.Step.{committed}
-use Rattle.board_step.specs.Trap.{some_outside}
+use Rattle.board_step.specs.Step.{committed, done}
+use Rattle.board_step.specs.Trap.{some_outside, trap_of_instr}
 use Rattle.stack_words.specs.Region.{IsStackRegion, HasRoom}
 use Rattle.stack_words.specs.Words.{Lays}
 
@@ -36,3 +38,8 @@ pub record ReachesBoard (map : AddressMap) (draft : Draft) (s : State) : Type 0 
   pub phase : (committed map draft s).phase ≡ s.phase
   pub line : (committed map draft s).line ≡ s.line
   pub latched : (committed map draft s).latched ≡ s.latched
+
+-- an instruction meets no trap, and once it is done just these words lie on the stack
+pub record IsDoneWith (c : Context) (region : Region) (instr : Instr) (words : List ℕ) : Type 0 where
+  pub trap : trap_of_instr region c instr ≡ None
+  pub has : HasWords c.hardware.map region (done c instr) words

@@ -7,6 +7,7 @@ use Rattle.address_map.specs.Ranges.{FoldsInto}
 use Rattle.address_map.specs.WorkRam.{work_start}
 use Rattle.address_map.specs.declared.map.WriteClass.TheVariants as writes
 use Rattle.address_map.specs.declared.region.Region.{Region}
+use Rattle.board_step.specs.State.{State}
 use Rattle.z80_draft.specs.declared.access.Write.{Write}
 
 -- the region of a stack: it lies in the first 400h addresses of work RAM, so that each of its bytes has a cell of its own
@@ -21,6 +22,10 @@ pub record IsStackRegion (map : AddressMap) (region : Region) : Type 0 where
 -- the region has room for this many words
 abbrev pub HasRoom : Region → ℕ → Type 0
 HasRoom region count = 2 * count ≤ region.top - region.low
+
+-- the part of the region that is in use: from SP up
+abbrev pub used : Region → State → Region
+used region s = record { low = s.regs.sp; top = region.top }
 
 -- each data write goes to an address that folds to no cell of the region
 abbrev pub Misses : AddressMap → Region → List Write → Type 0
