@@ -40,6 +40,7 @@ use Rattle.stack_words.specs.Region.{HasRoom, Misses, used}
 use Rattle.stack_words.specs.Uses.{is_aside, is_pop, is_push, popped_into, pushed_word}
 use Rattle.stack_words.specs.Words.{Lays}
 use Rattle.stack_words.proofs.CalmMoves.{moves_are_calm}
+use Rattle.stack_words.proofs.WordLaws.{lays-kept}
 use Rattle.stack_words.proofs.EachMove.{aside_leaves, begun, exchange_gives, exchange_leaves, leaves_alike, left, pop_gives, pop_leaves, push_leaves}
 
 -- ---- traps
@@ -157,3 +158,181 @@ push_done c region (instrs.Call nn) words h room is = done_with c region (instrs
 push_done c region (instrs.CallIf cc' nn) words h room is = done_with c region (instrs.CallIf cc' nn) _ refl (call_if c region cc' nn words h room is)
 push_done c region (instrs.Restart p) words h room is = done_with c region (instrs.Restart p) _ refl (restart_call c region p words h room)
 push_done c region _ words h room is = never _ is
+
+-- ---- pops
+
+-- a word is popped, and the register has it
+record Popped (c : Context) (region : Region) (draft : Draft) (w : WordRegister) (word : ℕ) (words : List ℕ) : Type 0 where
+  quiet : Quiet c.hardware.map region draft c.state words
+  gives : word_in w draft ≡ word
+
+pops : (c : Context) (region : Region) (instr : Instr) (taken : Bool) (word : ℕ) (words : List ℕ) (w : WordRegister) → is_sp w ≡ false → HasWords c.hardware.map region c.state (word ∷ words)
+    → Popped c region (moved (outside_of c) (Pop w) (start c instr taken)) w word words
+unfolding moved start
+pops c region instr taken word words w other h = record {
+  quiet = record {
+    leaves = pop_leaves c.hardware.map region (outside_of c) w (start c instr taken) c.state word words other (starts c region instr taken (word ∷ words) h);
+    writes = (word_keeps w _ _).writes;
+  };
+  gives = pop_gives c region w (start c instr taken) word words h.is_region (omega (arith, h.room)) h.laid;
+}
+
+stack_pair_other : (qq : StackPair) → is_sp (stack_register qq) ≡ false
+stack_pair_other pairs.Bc = refl
+stack_pair_other pairs.De = refl
+stack_pair_other pairs.Hl = refl
+stack_pair_other pairs.Af = refl
+stack_pair_other pairs.Ix = refl
+stack_pair_other pairs.Iy = refl
+
+pop_pair : (c : Context) (region : Region) (qq : StackPair) (word : ℕ) (words : List ℕ) → HasWords c.hardware.map region c.state (word ∷ words)
+    → Popped c region (instr_draft c (instrs.Pop qq)) (stack_register qq) word words
+unfolding drafted start
+pop_pair c region qq word words h = pops c region (instrs.Pop qq) false word words (stack_register qq) (stack_pair_other qq) h
+
+return : (c : Context) (region : Region) (word : ℕ) (words : List ℕ) → HasWords c.hardware.map region c.state (word ∷ words) → Popped c region (instr_draft c instrs.Return) Pc word words
+unfolding drafted start
+return c region word words h = pops c region instrs.Return false word words Pc refl h
+
+return_from_interrupt : (c : Context) (region : Region) (word : ℕ) (words : List ℕ) → HasWords c.hardware.map region c.state (word ∷ words)
+    → Popped c region (instr_draft c instrs.ReturnFromInterrupt) Pc word words
+unfolding drafted start
+return_from_interrupt c region word words h = pops c region instrs.ReturnFromInterrupt false word words Pc refl h
+
+return_from_non_maskable : (c : Context) (region : Region) (word : ℕ) (words : List ℕ) → HasWords c.hardware.map region c.state (word ∷ words)
+    → Popped c region (instr_draft c instrs.ReturnFromNonMaskable) Pc word words
+unfolding drafted moved start
+return_from_non_maskable c region word words h =
+    let p = pops c region instrs.ReturnFromNonMaskable false word words Pc refl h in
+    record {
+      quiet = alike c.hardware.map region (moved (outside_of c) (Pop Pc) (start c instrs.ReturnFromNonMaskable false)) _ c.state words refl refl refl p.quiet;
+      gives = p.gives;
+    }
+
+return_if_held : (c : Context) (cc : Condition) → (instr_draft c (instrs.ReturnIf cc)).taken ≡ true
+    → instr_draft c (instrs.ReturnIf cc) ≡ moved (outside_of c) (Pop Pc) (start c (instrs.ReturnIf cc) true)
+unfolding drafted moved start
+return_if_held c cc' h =
+    let o = outside_of c in
+    let e = moved o (OnlyIf (Flag cc')) (draft_on (past (length (spelling (instrs.ReturnIf cc'))) c.state.regs)) in
+    let held : e.taken ≡ true = test_held e.taken (moved o (Pop Pc) e) e refl h in
+    ap (λ (b : Bool). cond b (moved o (Pop Pc) e) e) held ∙ ap (λ (b : Bool). moved o (Pop Pc) (record e { taken = b })) held
+
+return_if : (c : Context) (region : Region) (cc : Condition) (word : ℕ) (words : List ℕ) → HasWords c.hardware.map region c.state (word ∷ words)
+    → (instr_draft c (instrs.ReturnIf cc)).taken ≡ true → Popped c region (instr_draft c (instrs.ReturnIf cc)) Pc word words
+return_if c region cc' word words h taken =
+    subst (λ (d : Draft). Popped c region d Pc word words) (sym (return_if_held c cc' taken)) (pops c region (instrs.ReturnIf cc') true word words Pc refl h)
+
+popped_with : (c : Context) (region : Region) (instr : Instr) (word : ℕ) (words : List ℕ) → trap_of_instr region c instr ≡ trap_of_draft c.hardware.map region (instr_draft c instr)
+    → Popped c region (instr_draft c instr) (popped_into instr) word words → IsDoneWith c region instr words × (word_in (popped_into instr) (instr_draft c instr) ≡ word)
+popped_with c region instr word words no_io p = (done_with c region instr words no_io p.quiet, p.gives)
+
+pub pop_done : (c : Context) (region : Region) (instr : Instr) (word : ℕ) (words : List ℕ) → HasWords c.hardware.map region c.state (word ∷ words) → is_pop instr (instr_draft c instr).taken ≡ true
+    → IsDoneWith c region instr words × (word_in (popped_into instr) (instr_draft c instr) ≡ word)
+pop_done c region (instrs.Pop qq) word words h is = popped_with c region (instrs.Pop qq) word words refl (pop_pair c region qq word words h)
+pop_done c region instrs.Return word words h is = popped_with c region instrs.Return word words refl (return c region word words h)
+pop_done c region (instrs.ReturnIf cc') word words h is = popped_with c region (instrs.ReturnIf cc') word words refl (return_if c region cc' word words h is)
+pop_done c region instrs.ReturnFromInterrupt word words h is = popped_with c region instrs.ReturnFromInterrupt word words refl (return_from_interrupt c region word words h)
+pop_done c region instrs.ReturnFromNonMaskable word words h is = popped_with c region instrs.ReturnFromNonMaskable word words refl (return_from_non_maskable c region word words h)
+pop_done c region _ word words h is = never _ is
+
+-- ---- EX (SP)
+
+pointer_other : (p : Pointer) → is_sp (pointer_register p) ≡ false
+pointer_other pointers.Hl = refl
+pointer_other pointers.Ix = refl
+pointer_other pointers.Iy = refl
+
+pointed : (p : Pointer) (len : ℕ) (regs : Regs) → word_in (pointer_register p) (draft_on (past len regs)) ≡ word_in (pointer_register p) (draft_on regs)
+pointed pointers.Hl len regs = refl
+pointed pointers.Ix len regs = refl
+pointed pointers.Iy len regs = refl
+
+exchange_quiet : (c : Context) (region : Region) (p : Pointer) (word : ℕ) (words : List ℕ) → HasWords c.hardware.map region c.state (word ∷ words)
+    → Quiet c.hardware.map region (instr_draft c (instrs.ExchangeStack p)) c.state (word_in (pointer_register p) (draft_on c.state.regs) ∷ words)
+unfolding drafted moved start
+exchange_quiet c region p word words h =
+    let e = start c (instrs.ExchangeStack p) false in
+    subst (λ (n : ℕ). Quiet c.hardware.map region (instr_draft c (instrs.ExchangeStack p)) c.state (n ∷ words)) (pointed p (length (spelling (instrs.ExchangeStack p))) c.state.regs)
+    (record {
+      leaves = exchange_leaves c.hardware.map region (outside_of c) (pointer_register p) e c.state word words (pointer_other p) (starts c region (instrs.ExchangeStack p) false (word ∷ words) h);
+      writes = (word_keeps (pointer_register p) _ _).writes;
+    })
+
+exchange_takes : (c : Context) (region : Region) (p : Pointer) (word : ℕ) (words : List ℕ) → HasWords c.hardware.map region c.state (word ∷ words)
+    → word_in (pointer_register p) (instr_draft c (instrs.ExchangeStack p)) ≡ word
+unfolding drafted start
+exchange_takes c region p word words h =
+    exchange_gives c region (pointer_register p) (start c (instrs.ExchangeStack p) false) word words h.is_region (omega (arith, h.room)) h.laid
+
+pub exchange_done : (c : Context) (region : Region) (p : Pointer) (word : ℕ) (words : List ℕ) → HasWords c.hardware.map region c.state (word ∷ words)
+    → IsDoneWith c region (instrs.ExchangeStack p) (word_in (pointer_register p) (draft_on c.state.regs) ∷ words) × (word_in (pointer_register p) (instr_draft c (instrs.ExchangeStack p)) ≡ word)
+exchange_done c region p word words h =
+    (done_with c region (instrs.ExchangeStack p) _ refl (exchange_quiet c region p word words h), exchange_takes c region p word words h)
+
+-- ---- the acceptance of an NMI
+
+acceptance_quiet : (c : Context) (region : Region) (words : List ℕ) → HasWords c.hardware.map region c.state words → HasRoom region (1 + length words)
+    → Quiet c.hardware.map region (nmi_draft c) c.state (c.state.regs.pc ∷ words)
+unfolding drafted moved
+acceptance_quiet c region words h room =
+    let e = draft_on c.state.regs in
+    alike c.hardware.map region (moved (outside_of c) (Push Pc) e) (nmi_draft c) c.state (c.state.regs.pc ∷ words) refl refl refl
+    (record { leaves = push_leaves c.hardware.map region (outside_of c) Pc e c.state words room (begun c.hardware.map region e c.state words refl refl refl h); writes = refl })
+
+pub acceptance_done : (c : Context) (region : Region) (words : List ℕ) → HasWords c.hardware.map region c.state words → HasRoom region (1 + length words)
+    → (trap_of_draft c.hardware.map region (nmi_draft c) ≡ None) × HasWords c.hardware.map region (accepted c) (c.state.regs.pc ∷ words)
+acceptance_done c region words h room =
+    let q = acceptance_quiet c region words h room in
+    let new = left c.hardware.map region (nmi_draft c) c.state (c.state.regs.pc ∷ words) q.leaves in (
+      free_of_traps c.hardware.map region (nmi_draft c) c.state (c.state.regs.pc ∷ words) q,
+      record {
+        is_region = new.is_region;
+        work = new.work;
+        room = new.room;
+        laid = lays-kept (committed c.hardware.map (nmi_draft c) c.state) (accepted c) _ region.top (c.state.regs.pc ∷ words) (λ x a b. refl) new.laid;
+      },
+    )
+
+-- ---- instructions that leave the stack alone
+
+-- a draft makes no access of the stack and keeps SP
+record Aside (c : Context) (draft : Draft) : Type 0 where
+  stack : draft.stack ≡ []
+  sp : draft.regs.sp ≡ c.state.regs.sp
+
+calm_aside : (c : Context) (instr : Instr) → are_calm (moves_of instr) ≡ true → Aside c (instr_draft c instr)
+calm_aside c instr calm =
+    let k = moves_are_calm (outside_of c) (moves_of instr) (draft_on (past (length (spelling instr)) c.state.regs)) calm in
+    record { stack = k.stack; sp = k.sp }
+
+call_if_aside : (c : Context) (cc : Condition) (nn : ℕ) → (instr_draft c (instrs.CallIf cc nn)).taken ≡ false → Aside c (instr_draft c (instrs.CallIf cc nn))
+unfolding drafted moved
+call_if_aside c cc' nn h =
+    let o = outside_of c in
+    let e = moved o (OnlyIf (Flag cc')) (draft_on (past (length (spelling (instrs.CallIf cc' nn))) c.state.regs)) in
+    let failed : e.taken ≡ false = test_failed e.taken (drafted o (Push Pc ∷ SetWord Pc nn ∷ []) e) e refl h in
+    subst (Aside c) (ap (λ (b : Bool). cond b (drafted o (Push Pc ∷ SetWord Pc nn ∷ []) e) e) (sym failed)) (record { stack = refl; sp = refl })
+
+return_if_aside : (c : Context) (cc : Condition) → (instr_draft c (instrs.ReturnIf cc)).taken ≡ false → Aside c (instr_draft c (instrs.ReturnIf cc))
+unfolding drafted moved
+return_if_aside c cc' h =
+    let o = outside_of c in
+    let e = moved o (OnlyIf (Flag cc')) (draft_on (past (length (spelling (instrs.ReturnIf cc'))) c.state.regs)) in
+    let failed : e.taken ≡ false = test_failed e.taken (moved o (Pop Pc) e) e refl h in
+    subst (Aside c) (ap (λ (b : Bool). cond b (moved o (Pop Pc) e) e) (sym failed)) (record { stack = refl; sp = refl })
+
+not_taken : (b : Bool) → not b ≡ true → b ≡ false
+not_taken false h = refl
+not_taken true h = never _ h
+
+is_left_aside : (c : Context) (instr : Instr) → is_aside instr (instr_draft c instr).taken ≡ true → Aside c (instr_draft c instr)
+is_left_aside c (instrs.CallIf cc' nn) h = call_if_aside c cc' nn (not_taken _ h)
+is_left_aside c (instrs.ReturnIf cc') h = return_if_aside c cc' (not_taken _ h)
+is_left_aside c instr h = calm_aside c instr h
+
+pub aside_done : (c : Context) (region : Region) (instr : Instr) (words : List ℕ) → HasWords c.hardware.map region c.state words → Misses c.hardware.map (used region c.state) (instr_draft c instr).writes
+    → is_aside instr (instr_draft c instr).taken ≡ true → ((instr_draft c instr).stack ≡ []) × HasWords c.hardware.map region (done c instr) words
+aside_done c region instr words h misses aside =
+    let a = is_left_aside c instr aside in
+    (a.stack, left c.hardware.map region (instr_draft c instr) c.state words (aside_leaves c.hardware.map region (instr_draft c instr) c.state words a.stack a.sp misses h))
