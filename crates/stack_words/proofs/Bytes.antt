@@ -15,7 +15,7 @@ use Rattle.z80_draft.specs.declared.access.Write.{Write}
 use Rattle.z80_draft.specs.declared.access.StackAccess.{StackAccess}
 use Rattle.board_step.specs.Memory.{stored, stored_in, stored_all, stacked_all, stacked_one}
 use Rattle.board_step.specs.State.{State}
-use Rattle.stack_words.specs.Region.{IsStackRegion, Misses}
+use Rattle.stack_words.specs.Region.{IsStackRegion, Misses, used}
 use Rattle.stack_words.specs.Words.{byte_at}
 
 -- each address of the region is work RAM
@@ -52,6 +52,7 @@ byte_missed map region at byte x s misses low high = by (class_of map at).write 
   where
     apart : (class_of map at).write ≡ writes.Ram Work → x % 0x400 ≢ at % 0x400
     apart e same = misses (x, low, high, ap (λ c. cell_of_class c at) e ∙ ap (λ (n : ℕ). Some (Work, n)) (sym same))
+
     by : (c : WriteClass) → (class_of map at).write ≡ c → byte_at (stored_in (class_of map at).write at byte s) x ≡ byte_at s x
     by (writes.Ram Work) e = ap (λ (c : WriteClass). byte_at (stored_in c at byte s) x) e ∙ get_or-set_other s.work (at % 0x400) (x % 0x400) byte 0 (apart e)
     by (writes.Ram Video) e = ap (λ (c : WriteClass). byte_at (stored_in c at byte s) x) e
@@ -70,6 +71,10 @@ all_missed map region [] s misses x low high = refl
 all_missed map region (w ∷ ws) s misses x low high =
     all_missed map region ws (stored map w.at w.byte s) (All-tail (λ (v : Write). FoldsInto map region v.at → ⊥) w ws misses) x low high
     ∙ byte_missed map region w.at w.byte x s (All-head (λ (v : Write). FoldsInto map region v.at → ⊥) w ws misses) low high
+
+-- data writes that miss the region miss the part of it that is in use
+pub used_missed : (map : AddressMap) (region : Region) (ws : List Write) (s : State) → region.low ≤ s.regs.sp → Misses map region ws → Misses map (used region s) ws
+used_missed map region ws s low misses i d h f = misses i d h (f.0, omega (arith, f.1), f.2, f.3)
 
 -- ---- all else
 

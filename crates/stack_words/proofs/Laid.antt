@@ -68,8 +68,8 @@ push_lays map region s sp word words r size room l =
       byte_stored map region r (below sp 2) (low_of word) mid sized (omega arith) (omega arith),
       byte_kept map region r (below sp 2) (low_of word) (below sp 2 + 1) mid (omega arith) (omega arith) (omega arith) (omega arith) (λ e. omega arith) ∙ ap (byte_at mid) next ∙ byte_stored map region r (below sp 1) (high_of word) s size (omega arith) (omega arith),
       subst (λ (n : ℕ). Lays new n region.top words) (sym up)
-      (lays-kept s new sp region.top words (λ x from to.
-        byte_kept map region r (below sp 2) (low_of word) x mid (omega arith) (omega arith) (omega arith) (omega arith) (λ e. omega arith) ∙ byte_kept map region r (below sp 1) (high_of word) x s (omega arith) (omega arith) (omega arith) (omega arith) (λ e. omega arith)) l),
+          (lays-kept s new sp region.top words (λ x from to.
+          byte_kept map region r (below sp 2) (low_of word) x mid (omega arith) (omega arith) (omega arith) (omega arith) (λ e. omega arith) ∙ byte_kept map region r (below sp 1) (high_of word) x s (omega arith) (omega arith) (omega arith) (omega arith) (λ e. omega arith)) l),
     )
 
 -- both bytes of the word at SP lie in the region
@@ -112,7 +112,7 @@ exchange_lays map region s sp old word words r size room l =
       byte_kept map region r (above sp 1) (high_of word) sp mid (omega arith) (omega arith) (omega arith) (omega arith) (λ e. omega arith) ∙ byte_stored map region r sp (low_of word) s size (omega arith) (omega arith),
       ap (byte_at new) (sym up) ∙ byte_stored map region r (above sp 1) (high_of word) mid sized (omega arith) (omega arith),
       lays-kept s new (sp + 2) region.top words (λ x from to.
-        byte_kept map region r (above sp 1) (high_of word) x mid (omega arith) (omega arith) (omega arith) (omega arith) (λ e. omega arith) ∙ byte_kept map region r sp (low_of word) x s (omega arith) (omega arith) (omega arith) (omega arith) (λ e. omega arith)) l.2,
+          byte_kept map region r (above sp 1) (high_of word) x mid (omega arith) (omega arith) (omega arith) (omega arith) (λ e. omega arith) ∙ byte_kept map region r sp (low_of word) x s (omega arith) (omega arith) (omega arith) (omega arith) (λ e. omega arith)) l.2,
     )
 
 -- a byte of the region is read from its cell

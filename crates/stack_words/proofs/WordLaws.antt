@@ -32,9 +32,9 @@ lays-same old new sp top (w ∷ ws) a b x from to =
     elim (cases_lt x (sp + 2)) [
       | inr after ↦ lays-same old new (sp + 2) top ws a.2 b.2 x after to
       | inl before ↦ elim (cases_eq x sp) [
-          | inl at ↦ ap (byte_at new) at ∙ b.0 ∙ sym a.0 ∙ ap (byte_at old) (sym at)
-          | inr other ↦ let next : x ≡ sp + 1 = omega arith in ap (byte_at new) next ∙ b.1 ∙ sym a.1 ∙ ap (byte_at old) (sym next)
-        ]
+        | inl at ↦ ap (byte_at new) at ∙ b.0 ∙ sym a.0 ∙ ap (byte_at old) (sym at)
+        | inr other ↦ let next : x ≡ sp + 1 = omega arith in ap (byte_at new) next ∙ b.1 ∙ sym a.1 ∙ ap (byte_at old) (sym next)
+      ]
     ]
 
 pub halves : (word : ℕ) → word_of (high_of word) (low_of word) ≡ word
