@@ -1,6 +1,5 @@
 -- What a draft brings to the board: the bytes that it writes, and beside them its registers and its halt.
-use Rattle.std.proofs.Common.{All, ◌≡◌, ◌≢◌, ◌<◌, ◌≤◌, ◌+◌, ◌%◌, ◌||◌, ℕ, Bool, true, false, List, [], ◌∷◌, ◌++◌, length, Option, Some, None, refl, sym, ap, subst, ◌∙◌, nat_le, nat_lt}
-use Rattle.std.specs.List.{list_any}
+use Rattle.std.proofs.Common.{◌≡◌, ◌≢◌, ◌<◌, ◌≤◌, ◌||◌, ℕ, Bool, false, List, [], ◌∷◌, ◌++◌, length, Option, Some, None, refl, sym, ap, ◌∙◌, nat_le, nat_lt}
 use Rattle.std.proofs.lemmas.Bool.{or_parts, ltb-false, leb-false}
 use Rattle.std.proofs.lemmas.List.Elements.{All-head, All-tail}
 use Rattle.address_map.specs.AddressMap.{AddressMap}
@@ -20,7 +19,7 @@ use Rattle.board_step.specs.Trap.{some_outside}
 use Rattle.stack_words.specs.Board.{ReachesBoard}
 use Rattle.stack_words.specs.Region.{IsStackRegion, Misses, NoneEnables}
 use Rattle.stack_words.specs.Words.{byte_at, Lays}
-use Rattle.stack_words.proofs.Bytes.{region_class, Same, both_same, all_missed}
+use Rattle.stack_words.proofs.Bytes.{region_class, both_same, all_missed}
 use Rattle.stack_words.proofs.WordLaws.{lays-kept}
 
 -- a state with other registers, halted or not

@@ -1,5 +1,5 @@
 -- Moves that neither use the stack nor write SP.
-use Rattle.std.proofs.Common.{◌≡◌, ◌≢◌, ◌+◌, ◌&&◌, ◌==◌, ℕ, Bool, true, false, not, List, [], ◌∷◌, refl, sym, ap, ◌∙◌, arith}
+use Rattle.std.proofs.Common.{◌≡◌, ◌==◌, ℕ, Bool, true, false, not, List, [], ◌∷◌, refl, ◌∙◌, arith}
 use Rattle.std.proofs.Math.Bool.{cond}
 use Rattle.std.proofs.lemmas.Bool.{and_parts, eqb-true}
 use Rattle.z80_draft.proofs.DraftLemmas.{byte_keeps, word_keeps}
@@ -11,7 +11,7 @@ use Rattle.z80_moves.specs.declared.registers.ByteRegister.TheVariants as bytes
 use Rattle.z80_moves.specs.declared.registers.WordRegister.{WordRegister}
 use Rattle.z80_moves.specs.declared.registers.WordRegister.TheVariants as words
 use Rattle.z80_moves.specs.declared.moves.Move.{Move}
-use Rattle.z80_moves.specs.declared.moves.Move.TheVariants.{SetByte, SetWord, CopyByte, CopyWord, Displace, ReadByte, WriteByte, ReadWord, WriteWord, Push, Pop, ExchangeStack, ExchangeDeHl, ExchangeAf, ExchangeSets, Arithmetic, Increment, Decrement, CountDown, Shift, RotateA, DecimalAdjust, Complement, Negate, SetCarry, ComplementCarry, AddWord, AddCarryWord, SubtractCarryWord, IncrementWord, DecrementWord, TestBit, SetBit, ResetBit, RotateDigitsLeft, RotateDigitsRight, BlockLoadFlags, BlockCompareFlags, LoadASpecial, SetInterrupts, ClearIff1, RestoreIff1, Halt, OnlyIf}
+use Rattle.z80_moves.specs.declared.moves.Move.TheVariants.{SetByte, SetWord, CopyByte, CopyWord, Displace, ReadByte, ReadWord, Push, Pop, ExchangeStack, Increment, Decrement, CountDown, Shift, AddWord, AddCarryWord, SubtractCarryWord, IncrementWord, DecrementWord, SetBit, ResetBit}
 use Rattle.stack_words.specs.Calm.{are_calm, is_calm, is_sp, writes_sp}
 
 -- ---- SP

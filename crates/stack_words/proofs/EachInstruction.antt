@@ -1,5 +1,5 @@
 -- What each instruction, and the acceptance of an NMI, leaves on the stack.
-use Rattle.std.proofs.Common.{All, ◌≡◌, ◌<◌, ◌≤◌, ◌+◌, ◌*◌, ℕ, Bool, true, false, not, List, [], ◌∷◌, length, Option, Some, None, refl, sym, ap, subst, ◌∙◌, arith}
+use Rattle.std.proofs.Common.{◌≡◌, ◌+◌, ◌*◌, ℕ, Bool, true, false, not, List, [], ◌∷◌, length, Some, None, refl, sym, ap, subst, ◌∙◌, arith}
 use Rattle.std.proofs.Math.Bool.{cond}
 use Rattle.address_map.specs.AddressMap.{AddressMap}
 use Rattle.address_map.specs.declared.region.Region.{Region}
@@ -14,31 +14,25 @@ use Rattle.z80_decode.specs.declared.operands.Pointer.{Pointer}
 use Rattle.z80_decode.specs.declared.operands.Pointer.TheVariants as pointers
 use Rattle.z80_decode.specs.declared.operands.StackPair.{StackPair}
 use Rattle.z80_decode.specs.declared.operands.StackPair.TheVariants as pairs
-use Rattle.z80_draft.proofs.DraftLemmas.{drafted_on, drafted_stops, word_keeps}
-use Rattle.z80_draft.specs.Draft.{Draft, draft_on, drafted, goes_on, moved, past, word_in}
-use Rattle.z80_draft.specs.Outside.{Outside}
+use Rattle.z80_draft.proofs.DraftLemmas.{word_keeps}
+use Rattle.z80_draft.specs.Draft.{Draft, draft_on, drafted, moved, past, word_in}
 use Rattle.z80_draft.specs.declared.access.Write.{Write}
 use Rattle.z80_moves.specs.Moves.{moves_of}
 use Rattle.z80_moves.specs.Operands.{pointer_register, stack_register}
-use Rattle.z80_moves.specs.declared.moves.Move.{Move}
-use Rattle.z80_moves.specs.declared.moves.Move.TheVariants.{ClearIff1, ExchangeStack, OnlyIf, Pop, Push, RestoreIff1, SetWord}
-use Rattle.z80_moves.specs.declared.moves.Test.{Test}
+use Rattle.z80_moves.specs.declared.moves.Move.TheVariants.{OnlyIf, Pop, Push, SetWord}
 use Rattle.z80_moves.specs.declared.moves.Test.TheVariants.{Flag}
 use Rattle.z80_moves.specs.declared.registers.WordRegister.{WordRegister}
 use Rattle.z80_moves.specs.declared.registers.WordRegister.TheVariants.{Pc}
 use Rattle.board_step.specs.Context.{Context}
 use Rattle.board_step.specs.Reads.{outside_of}
-use Rattle.board_step.specs.Run.{is_return}
 use Rattle.board_step.specs.State.{State}
 use Rattle.board_step.specs.Step.{accepted, committed, done, instr_draft, nmi_draft}
 use Rattle.board_step.specs.Trap.{is_rom, is_unmapped, some_outside, some_write, trap_of_draft, trap_of_instr}
-use Rattle.board_step.specs.declared.profile.Trap.{Trap}
 use Rattle.board_step.specs.declared.profile.Trap.TheVariants as traps
 use Rattle.stack_words.specs.Board.{HasWords, IsDoneWith, LeavesWords}
 use Rattle.stack_words.specs.Calm.{are_calm, is_sp}
 use Rattle.stack_words.specs.Region.{HasRoom, Misses, used}
 use Rattle.stack_words.specs.Uses.{is_aside, is_pop, is_push, popped_into, pushed_word}
-use Rattle.stack_words.specs.Words.{Lays}
 use Rattle.stack_words.proofs.CalmMoves.{moves_are_calm}
 use Rattle.stack_words.proofs.WordLaws.{lays-kept}
 use Rattle.stack_words.proofs.EachMove.{aside_leaves, begun, exchange_gives, exchange_leaves, leaves_alike, left, pop_gives, pop_leaves, push_leaves}

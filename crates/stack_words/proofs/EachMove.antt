@@ -1,5 +1,5 @@
 -- What each move of the stack leaves on it.
-use Rattle.std.proofs.Common.{All, ◌≡◌, ◌<◌, ◌≤◌, ◌+◌, ◌-◌, ◌*◌, ◌%◌, ◌||◌, ℕ, Bool, true, false, List, [], ◌∷◌, ◌++◌, length, Option, Some, None, refl, sym, ap, subst, ◌∙◌, arith, nat_le, nat_lt}
+use Rattle.std.proofs.Common.{◌≡◌, ◌<◌, ◌≤◌, ◌+◌, ◌-◌, ◌||◌, ℕ, false, List, [], ◌∷◌, ◌++◌, length, Some, None, refl, sym, ap, subst, ◌∙◌, arith, nat_le, nat_lt}
 use Rattle.std.proofs.lemmas.Bool.{le-ltb, lt-leb, or_from}
 use Rattle.std.proofs.lemmas.List.Folds.{list_any-append}
 use Rattle.address_map.specs.AddressMap.{AddressMap}
@@ -7,7 +7,7 @@ use Rattle.address_map.specs.declared.region.Region.{Region}
 use Rattle.z80_alu.specs.Word.{high_of, low_of}
 use Rattle.z80_alu.specs.declared.regs.Regs.{Regs}
 use Rattle.z80_draft.proofs.DraftLemmas.{word_keeps}
-use Rattle.z80_draft.specs.Draft.{Draft, above, below, draft_on, moved, read_word, stack_read, stack_written, with_word, word_in, word_read}
+use Rattle.z80_draft.specs.Draft.{Draft, above, below, moved, read_word, stack_read, stack_written, with_word, word_in, word_read}
 use Rattle.z80_draft.specs.Outside.{Outside}
 use Rattle.z80_draft.specs.declared.access.Write.{Write}
 use Rattle.z80_draft.specs.declared.access.StackAccess.{StackAccess}
@@ -28,7 +28,7 @@ use Rattle.stack_words.proofs.Bytes.{both_same}
 use Rattle.stack_words.proofs.Brought.{brought, bytes_missed, lays-brought, lays-committed, reaches, stacked_two}
 use Rattle.stack_words.proofs.CalmMoves.{word_sp}
 use Rattle.stack_words.proofs.Laid.{at_sp, below_words, exchange_lays, pop_lays, push_lays, word_found}
-use Rattle.stack_words.proofs.WordLaws.{halves, lays-kept, lays-sp}
+use Rattle.stack_words.proofs.WordLaws.{halves, lays-kept}
 
 -- ---- drafts that leave the same
 

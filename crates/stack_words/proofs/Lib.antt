@@ -6,3 +6,4 @@ pub mod Laid
 pub mod CalmMoves
 pub mod EachMove
 pub mod EachInstruction
+pub mod EachUse

@@ -3,7 +3,9 @@ use Rattle.std.specs.Prelude.{ℕ, Bool, true, false, not, length}
 use Rattle.z80_alu.specs.declared.regs.Regs.{Regs}
 use Rattle.z80_decode.specs.Spelling.{spelling}
 use Rattle.z80_decode.specs.declared.instr.Instr.{Instr}
-use Rattle.z80_decode.specs.declared.instr.Instr.TheVariants.{Push, Pop, ExchangeStack, Call, CallIf, Restart, ReturnIf}
+use Rattle.z80_decode.specs.declared.instr.Instr.TheVariants.{Push, Pop, ExchangeStack, Call, CallIf, Restart, ReturnIf, LoadPair, LoadPairDirect, LoadSp, IncrementPair, DecrementPair}
+use Rattle.z80_decode.specs.declared.operands.Direct.TheVariants.{Pair}
+use Rattle.z80_decode.specs.declared.operands.Register16.TheVariants.{Sp}
 use Rattle.z80_draft.specs.Draft.{draft_on, past, word_in}
 use Rattle.z80_moves.specs.Moves.{moves_of}
 use Rattle.z80_moves.specs.Operands.{stack_register}
@@ -34,6 +36,20 @@ is_pop instr taken = is_return instr taken
 abbrev pub popped_into : Instr → WordRegister
 popped_into (Pop qq) = stack_register qq
 popped_into _ = Pc
+
+-- whether an instruction is EX (SP)
+abbrev pub is_exchange : Instr → Bool
+is_exchange (ExchangeStack pointer) = true
+is_exchange _ = false
+
+-- whether an instruction loads SP or counts it: LD SP, INC SP and DEC SP
+abbrev pub sets_sp : Instr → Bool
+sets_sp (LoadPair Sp nn) = true
+sets_sp (LoadPairDirect (Pair Sp) nn) = true
+sets_sp (LoadSp pointer) = true
+sets_sp (IncrementPair Sp) = true
+sets_sp (DecrementPair Sp) = true
+sets_sp _ = false
 
 -- whether an instruction leaves SP and the stack alone: CALL cc and RET cc where they are not taken, and each instruction
 -- whose moves are calm

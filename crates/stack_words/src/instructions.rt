@@ -1,6 +1,6 @@
 // Laws of the instructions, and of the acceptance of an NMI: what each leaves on the stack.
 
-ghost use Rattle.std.specs.Prelude.{ℕ, ◌+◌, ◌≡◌, true, List, [], ◌∷◌, None, length};
+ghost use Rattle.std.specs.Prelude.{ℕ, ◌+◌, ◌≡◌, Bool, true, false, List, [], ◌∷◌, None, length};
 ghost use Rattle.address_map.specs.declared.region.Region.{Region};
 ghost use Rattle.z80_decode.specs.declared.instr.Instr.{Instr};
 ghost use Rattle.z80_decode.specs.declared.instr.Instr.TheVariants.{ExchangeStack};
@@ -12,7 +12,7 @@ ghost use Rattle.board_step.specs.Step.{accepted, done, instr_draft, nmi_draft};
 ghost use Rattle.board_step.specs.Trap.{trap_of_draft};
 ghost use Rattle.stack_words.specs.Board.{HasWords, IsDoneWith};
 ghost use Rattle.stack_words.specs.Region.{HasRoom, Misses, used};
-ghost use Rattle.stack_words.specs.Uses.{is_aside, is_pop, is_push, popped_into, pushed_word};
+ghost use Rattle.stack_words.specs.Uses.{is_aside, is_exchange, is_pop, is_push, popped_into, pushed_word, sets_sp};
 
 /// A law: where the region has room for a word more, PUSH, CALL, CALL cc where it is taken, and RST meet no trap, and leave
 /// their word on top of those that lay there.
@@ -41,4 +41,11 @@ pub fn acceptances_lay_words()
 /// where its data writes miss them.
 pub fn other_instructions_keep_words()
     ensures { (c : Context) (region : Region) (instr : Instr) (words : List ℕ) → HasWords c.hardware.map region c.state words → Misses c.hardware.map (used region c.state) (instr_draft c instr).writes → is_aside instr (instr_draft c instr).taken ≡ true → ((instr_draft c instr).stack ≡ []) × HasWords c.hardware.map region (done c instr) words }
+{}
+
+/// A law: an instruction that neither pushes nor pops, is no EX (SP), and neither loads SP nor counts it, leaves SP and the
+/// stack alone; one that loads or counts SP makes no access of the stack.
+pub fn instructions_are_told_apart()
+    ensures aside { (instr : Instr) (taken : Bool) → is_push instr taken ≡ false → is_pop instr taken ≡ false → is_exchange instr ≡ false → sets_sp instr ≡ false → is_aside instr taken ≡ true }
+    ensures sets { (c : Context) (instr : Instr) → sets_sp instr ≡ true → (instr_draft c instr).stack ≡ [] }
 {}

@@ -9,8 +9,8 @@ mod words;
 
 pub use commits::{commits_stay_in_range, drafts_reach_the_board, missed_bytes_stay};
 pub use instructions::{
-    acceptances_lay_words, exchanges_swap_words, other_instructions_keep_words, pops_take_words,
-    pushes_lay_words,
+    acceptances_lay_words, exchanges_swap_words, instructions_are_told_apart,
+    other_instructions_keep_words, pops_take_words, pushes_lay_words,
 };
 pub use moves::{
     calm_moves_keep_sp, drafts_keep_words, exchange_moves_swap_words, pop_moves_take_words,
