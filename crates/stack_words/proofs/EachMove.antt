@@ -18,7 +18,8 @@ use Rattle.board_step.specs.Context.{Context}
 use Rattle.board_step.specs.Memory.{stored_all, stacked_all}
 use Rattle.board_step.specs.Reads.{outside_of}
 use Rattle.board_step.specs.State.{State}
-use Rattle.board_step.specs.Step.{committed}
+use Rattle.board_step.specs.declared.env.Env.{Env}
+use Rattle.board_step.specs.Step.{committed, ticked}
 use Rattle.board_step.specs.Trap.{some_outside}
 use Rattle.stack_words.specs.Board.{HasWords, LeavesWords}
 use Rattle.stack_words.specs.Calm.{is_sp}
@@ -84,6 +85,16 @@ left map region draft s words l =
       room = l.room;
       laid = subst (λ (regs : Regs). Lays (committed map draft s) regs.sp region.top words) (sym r.regs) l.laid;
     }
+
+-- the T-states go by
+pub words_wait : (map : AddressMap) (region : Region) (before after : State) (t : ℕ) (env : Env) (words : List ℕ) → HasWords map region after words → HasWords map region (ticked before after t env) words
+unfolding ticked
+words_wait map region before after t env words h = record {
+  is_region = h.is_region;
+  work = h.work;
+  room = h.room;
+  laid = lays-kept after (ticked before after t env) after.regs.sp region.top words (λ x a b. refl) h.laid;
+}
 
 -- ---- two accesses more
 

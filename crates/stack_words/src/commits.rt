@@ -11,8 +11,9 @@ ghost use Rattle.board_step.specs.Decoded.{StandsAt};
 ghost use Rattle.board_step.specs.Env.{IsEnv};
 ghost use Rattle.board_step.specs.Memory.{stored_all};
 ghost use Rattle.board_step.specs.State.{AreBytes, IsState, State};
-ghost use Rattle.board_step.specs.Step.{accepted, committed, done};
+ghost use Rattle.board_step.specs.Step.{accepted, committed, done, ticked};
 ghost use Rattle.board_step.specs.Trap.{some_outside};
+ghost use Rattle.board_step.specs.declared.env.Env.{Env};
 ghost use Rattle.stack_words.specs.Board.{HasWords, LeavesWords, ReachesBoard};
 ghost use Rattle.stack_words.specs.Region.{IsStackRegion, Misses, NoneEnables, used};
 ghost use Rattle.stack_words.specs.Words.{byte_at};
@@ -31,6 +32,11 @@ pub fn drafts_reach_the_board()
     ensures rest { (map : AddressMap) (draft : Draft) (s : State) → ReachesBoard map draft s }
     ensures enable { (map : AddressMap) (region : Region) (draft : Draft) (s : State) → IsStackRegion map region → some_outside region draft.stack ≡ false → NoneEnables map draft.writes → (committed map draft s).enable ≡ s.enable }
     ensures words { (map : AddressMap) (region : Region) (draft : Draft) (s : State) (words : List ℕ) → LeavesWords map region draft s words → HasWords map region (committed map draft s) words }
+{}
+
+/// A law: the T-states of an event, which go by last, keep the words.
+pub fn time_keeps_words()
+    ensures { (map : AddressMap) (region : Region) (before after : State) (t : ℕ) (env : Env) (words : List ℕ) → HasWords map region after words → HasWords map region (ticked before after t env) words }
 {}
 
 /// A law: where the ROM holds bytes, an instruction and an acceptance leave each number of the state in its range, before

@@ -7,7 +7,9 @@ mod instructions;
 mod moves;
 mod words;
 
-pub use commits::{commits_stay_in_range, drafts_reach_the_board, missed_bytes_stay};
+pub use commits::{
+    commits_stay_in_range, drafts_reach_the_board, missed_bytes_stay, time_keeps_words,
+};
 pub use instructions::{
     acceptances_lay_words, exchanges_swap_words, instructions_are_told_apart,
     other_instructions_keep_words, pops_take_words, pushes_lay_words,
