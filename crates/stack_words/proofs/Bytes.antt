@@ -15,8 +15,9 @@ use Rattle.z80_draft.specs.declared.access.Write.{Write}
 use Rattle.z80_draft.specs.declared.access.StackAccess.{StackAccess}
 use Rattle.board_step.specs.Memory.{stored, stored_in, stored_all, stacked_all, stacked_one}
 use Rattle.board_step.specs.State.{State}
+use Rattle.stack_words.specs.Board.{HasWords}
 use Rattle.stack_words.specs.Region.{IsStackRegion, Misses, used}
-use Rattle.stack_words.specs.Words.{byte_at}
+use Rattle.stack_words.specs.Words.{byte_at, Lays}
 
 -- each address of the region is work RAM
 pub region_class : (map : AddressMap) (region : Region) → IsStackRegion map region → (at : ℕ) → region.low ≤ at → at < region.top
@@ -75,6 +76,15 @@ all_missed map region (w ∷ ws) s misses x low high =
 -- data writes that miss the region miss the part of it that is in use
 pub used_missed : (map : AddressMap) (region : Region) (ws : List Write) (s : State) → region.low ≤ s.regs.sp → Misses map region ws → Misses map (used region s) ws
 used_missed map region ws s low misses i d h f = misses i d h (f.0, omega (arith, f.1), f.2, f.3)
+
+-- where no words lie, nothing is in use
+pub unused_missed : (map : AddressMap) (region : Region) (ws : List Write) (s : State) → HasWords map region s [] → Misses map (used region s) ws
+unfolding Lays
+unused_missed map region ws s h i d lt f =
+    let empty : s.regs.sp ≡ region.top = h.laid in
+    let from : s.regs.sp ≤ f.0 = f.1 in
+    let to : f.0 < region.top = f.2 in
+    absurd (omega arith)
 
 -- ---- all else
 

@@ -1,5 +1,5 @@
 -- What each instruction, and the acceptance of an NMI, leaves on the stack.
-use Rattle.std.proofs.Common.{◌≡◌, ◌+◌, ◌*◌, ℕ, Bool, true, false, not, List, [], ◌∷◌, length, Some, None, refl, sym, ap, subst, ◌∙◌, arith}
+use Rattle.std.proofs.Common.{◌≡◌, ◌+◌, ◌*◌, ℕ, Bool, true, false, not, List, [], ◌∷◌, length, None, refl, sym, ap, subst, ◌∙◌, arith}
 use Rattle.std.proofs.Math.Bool.{cond}
 use Rattle.address_map.specs.AddressMap.{AddressMap}
 use Rattle.address_map.specs.declared.region.Region.{Region}
@@ -14,9 +14,9 @@ use Rattle.z80_decode.specs.declared.operands.Pointer.{Pointer}
 use Rattle.z80_decode.specs.declared.operands.Pointer.TheVariants as pointers
 use Rattle.z80_decode.specs.declared.operands.StackPair.{StackPair}
 use Rattle.z80_decode.specs.declared.operands.StackPair.TheVariants as pairs
+use Rattle.z80_decode.specs.declared.operands.Register16.TheVariants.{Sp}
 use Rattle.z80_draft.proofs.DraftLemmas.{word_keeps}
 use Rattle.z80_draft.specs.Draft.{Draft, draft_on, drafted, moved, past, word_in}
-use Rattle.z80_draft.specs.declared.access.Write.{Write}
 use Rattle.z80_moves.specs.Moves.{moves_of}
 use Rattle.z80_moves.specs.Operands.{pointer_register, stack_register}
 use Rattle.z80_moves.specs.declared.moves.Move.TheVariants.{OnlyIf, Pop, Push, SetWord}
@@ -24,27 +24,22 @@ use Rattle.z80_moves.specs.declared.moves.Test.TheVariants.{Flag}
 use Rattle.z80_moves.specs.declared.registers.WordRegister.{WordRegister}
 use Rattle.z80_moves.specs.declared.registers.WordRegister.TheVariants.{Pc}
 use Rattle.board_step.specs.Context.{Context}
+use Rattle.board_step.specs.Memory.{stored_all, stacked_all}
 use Rattle.board_step.specs.Reads.{outside_of}
 use Rattle.board_step.specs.State.{State}
 use Rattle.board_step.specs.Step.{accepted, committed, done, instr_draft, nmi_draft}
-use Rattle.board_step.specs.Trap.{is_rom, is_unmapped, some_outside, some_write, trap_of_draft, trap_of_instr}
-use Rattle.board_step.specs.declared.profile.Trap.TheVariants as traps
+use Rattle.board_step.specs.Trap.{trap_of_draft, trap_of_instr}
 use Rattle.stack_words.specs.Board.{HasWords, IsDoneWith, LeavesWords}
 use Rattle.stack_words.specs.Calm.{are_calm, is_sp}
-use Rattle.stack_words.specs.Region.{HasRoom, Misses, used}
+use Rattle.stack_words.specs.Region.{AllTaken, HasRoom, IsStackRegion, Misses, used}
 use Rattle.stack_words.specs.Uses.{is_aside, is_pop, is_push, popped_into, pushed_word}
+use Rattle.stack_words.specs.Words.{Lays}
 use Rattle.stack_words.proofs.CalmMoves.{moves_are_calm}
+use Rattle.stack_words.proofs.Traps.{no_trap}
 use Rattle.stack_words.proofs.WordLaws.{lays-kept}
 use Rattle.stack_words.proofs.EachMove.{aside_leaves, begun, exchange_gives, exchange_leaves, leaves_alike, left, pop_gives, pop_leaves, push_leaves}
 
 -- ---- traps
-
--- a draft without data writes whose stack accesses lie in the region meets no trap
-no_trap : (map : AddressMap) (region : Region) (draft : Draft) → draft.writes ≡ [] → some_outside region draft.stack ≡ false → trap_of_draft map region draft ≡ None
-unfolding trap_of_draft
-no_trap map region draft none inside =
-    ap (λ (ws : List Write). cond (some_write map is_rom ws) (Some traps.WriteRom) (cond (some_write map is_unmapped ws) (Some traps.WriteUnmapped) (cond (some_outside region draft.stack) (Some traps.StackOutside) None))) none
-    ∙ ap (λ (b : Bool). cond b (Some traps.StackOutside) None) inside
 
 -- a draft without data writes leaves words
 record Quiet (map : AddressMap) (region : Region) (draft : Draft) (s : State) (words : List ℕ) : Type 0 where
@@ -52,7 +47,8 @@ record Quiet (map : AddressMap) (region : Region) (draft : Draft) (s : State) (w
   writes : draft.writes ≡ []
 
 free_of_traps : (map : AddressMap) (region : Region) (draft : Draft) (s : State) (words : List ℕ) → Quiet map region draft s words → trap_of_draft map region draft ≡ None
-free_of_traps map region draft s words q = no_trap map region draft q.writes q.leaves.inside
+free_of_traps map region draft s words q =
+    no_trap map region draft (subst (AllTaken map) (sym q.writes) (λ i d h. absurd (omega arith))) q.leaves.inside
 
 alike : (map : AddressMap) (region : Region) (old new : Draft) (s : State) (words : List ℕ) → new.stack ≡ old.stack → new.writes ≡ old.writes → new.regs.sp ≡ old.regs.sp
     → Quiet map region old s words → Quiet map region new s words
@@ -330,3 +326,9 @@ pub aside_done : (c : Context) (region : Region) (instr : Instr) (words : List �
 aside_done c region instr words h misses aside =
     let a = is_left_aside c instr aside in
     (a.stack, left c.hardware.map region (instr_draft c instr) c.state words (aside_leaves c.hardware.map region (instr_draft c instr) c.state words a.stack a.sp misses h))
+
+-- ---- LD SP,nn
+
+pub load_sp_done : (c : Context) (region : Region) → IsStackRegion c.hardware.map region → length c.state.work ≡ 0x400 → HasWords c.hardware.map region (done c (instrs.LoadPair Sp region.top)) []
+unfolding committed drafted moved stored_all stacked_all Lays
+load_sp_done c region r size = record { is_region = r; work = size; room = omega arith; laid = refl }

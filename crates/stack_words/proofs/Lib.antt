@@ -4,6 +4,7 @@ pub mod Brought
 pub mod WordLaws
 pub mod Laid
 pub mod CalmMoves
+pub mod Traps
 pub mod EachMove
 pub mod EachInstruction
 pub mod EachUse

@@ -34,3 +34,7 @@ Misses map region ws = All (λ (w : Write). FoldsInto map region w.at → ⊥) w
 -- none of these data writes goes to the NMI enable
 abbrev pub NoneEnables : AddressMap → List Write → Type 0
 NoneEnables map ws = All (λ (w : Write). (class_of map w.at).write ≢ writes.NmiEnable) ws
+
+-- each of these data writes goes to an address that takes data: it is neither ROM nor unmapped
+abbrev pub AllTaken : AddressMap → List Write → Type 0
+AllTaken map ws = All (λ (w : Write). ((class_of map w.at).write ≢ writes.Rom) × ((class_of map w.at).write ≢ writes.Unmapped)) ws

@@ -1,17 +1,20 @@
 // Laws of the instructions, and of the acceptance of an NMI: what each leaves on the stack.
 
 ghost use Rattle.std.specs.Prelude.{ℕ, ◌+◌, ◌≡◌, Bool, true, false, List, [], ◌∷◌, None, length};
+ghost use Rattle.address_map.specs.RamKind.{size_of};
+ghost use Rattle.address_map.specs.declared.cell.RamKind.TheVariants.{Work};
 ghost use Rattle.address_map.specs.declared.region.Region.{Region};
 ghost use Rattle.z80_decode.specs.declared.instr.Instr.{Instr};
-ghost use Rattle.z80_decode.specs.declared.instr.Instr.TheVariants.{ExchangeStack};
+ghost use Rattle.z80_decode.specs.declared.instr.Instr.TheVariants.{ExchangeStack, LoadPair};
 ghost use Rattle.z80_decode.specs.declared.operands.Pointer.{Pointer};
+ghost use Rattle.z80_decode.specs.declared.operands.Register16.TheVariants.{Sp};
 ghost use Rattle.z80_draft.specs.Draft.{draft_on, word_in};
 ghost use Rattle.z80_moves.specs.Operands.{pointer_register};
 ghost use Rattle.board_step.specs.Context.{Context};
 ghost use Rattle.board_step.specs.Step.{accepted, done, instr_draft, nmi_draft};
 ghost use Rattle.board_step.specs.Trap.{trap_of_draft};
 ghost use Rattle.stack_words.specs.Board.{HasWords, IsDoneWith};
-ghost use Rattle.stack_words.specs.Region.{HasRoom, Misses, used};
+ghost use Rattle.stack_words.specs.Region.{HasRoom, IsStackRegion, Misses, used};
 ghost use Rattle.stack_words.specs.Uses.{is_aside, is_exchange, is_pop, is_push, popped_into, pushed_word, sets_sp};
 
 /// A law: where the region has room for a word more, PUSH, CALL, CALL cc where it is taken, and RST meet no trap, and leave
@@ -35,6 +38,11 @@ pub fn exchanges_swap_words()
 /// of the words that lay there.
 pub fn acceptances_lay_words()
     ensures { (c : Context) (region : Region) (words : List ℕ) → HasWords c.hardware.map region c.state words → HasRoom region (1 + length words) → (trap_of_draft c.hardware.map region (nmi_draft c) ≡ None) × HasWords c.hardware.map region (accepted c) (c.state.regs.pc ∷ words) }
+{}
+
+/// A law: LD SP,nn with the region's top begins a stack: no words lie on it.
+pub fn loads_of_sp_begin_a_stack()
+    ensures { (c : Context) (region : Region) → IsStackRegion c.hardware.map region → length c.state.work ≡ size_of Work → HasWords c.hardware.map region (done c (LoadPair Sp region.top)) [] }
 {}
 
 /// A law: an instruction that leaves SP and the stack alone makes no access of the stack, and the words stay that lie there,

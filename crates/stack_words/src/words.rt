@@ -1,7 +1,10 @@
 // Laws of the words on a stack: their bytes, and their order.
 
 ghost use Rattle.std.specs.Prelude.{ℕ, ◌+◌, ◌*◌, ◌<◌, ◌≤◌, ◌≡◌, List, [], ◌∷◌, ◌++◌, length, reverse};
+ghost use Rattle.address_map.specs.AddressMap.{AddressMap};
+ghost use Rattle.address_map.specs.declared.region.Region.{Region};
 ghost use Rattle.board_step.specs.State.{State};
+ghost use Rattle.stack_words.specs.Board.{HasWords};
 ghost use Rattle.stack_words.specs.Words.{byte_at, Lays, on_top};
 
 /// A law: the words that lie from a stack pointer up take two bytes each, no other words lie there, and states lay the same
@@ -11,6 +14,11 @@ pub fn words_are_their_bytes()
     ensures one { (s : State) (sp top : ℕ) (words others : List ℕ) → Lays s sp top words → Lays s sp top others → words ≡ others }
     ensures kept { (old new : State) (sp top : ℕ) (words : List ℕ) → ((at : ℕ) → sp ≤ at → at < top → byte_at new at ≡ byte_at old at) → Lays old sp top words → Lays new sp top words }
     ensures same { (old new : State) (sp top : ℕ) (words : List ℕ) → Lays old sp top words → Lays new sp top words → (at : ℕ) → sp ≤ at → at < top → byte_at new at ≡ byte_at old at }
+{}
+
+/// A law: where words lie on the stack, SP is two bytes for each word below the region's top, and in the region.
+pub fn words_place_sp()
+    ensures { (map : AddressMap) (region : Region) (s : State) (words : List ℕ) → HasWords map region s words → (s.regs.sp + 2 * length words ≡ region.top) × (region.low ≤ s.regs.sp) }
 {}
 
 /// A law: of an activation's words the last pushed lies lowest, and below all that lie under them.
