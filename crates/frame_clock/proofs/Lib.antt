@@ -1,0 +1,3 @@
+-- The lemmas, lowest first.
+pub mod Clocks
+pub mod Times

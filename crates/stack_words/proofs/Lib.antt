@@ -1,0 +1,10 @@
+-- The lemmas, lowest first.
+pub mod Bytes
+pub mod Brought
+pub mod WordLaws
+pub mod Laid
+pub mod CalmMoves
+pub mod Traps
+pub mod EachMove
+pub mod EachInstruction
+pub mod EachUse

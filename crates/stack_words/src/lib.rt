@@ -1,0 +1,22 @@
+// The words on the stack (docs/SHAPES.md, "The words on the stack"): what an instruction, or the acceptance of an NMI, does
+// to them, before its T-states go by. Each law is the contract of a function with an empty body.
+#![tactic(auto)]
+
+mod commits;
+mod instructions;
+mod moves;
+mod words;
+
+pub use commits::{
+    commits_stay_in_range, drafts_meet_no_trap, drafts_reach_the_board, missed_bytes_stay,
+    time_keeps_words,
+};
+pub use instructions::{
+    acceptances_lay_words, exchanges_swap_words, instructions_are_told_apart,
+    loads_of_sp_begin_a_stack, other_instructions_keep_words, pops_take_words, pushes_lay_words,
+};
+pub use moves::{
+    calm_moves_keep_sp, drafts_keep_words, exchange_moves_swap_words, pop_moves_take_words,
+    push_moves_lay_words,
+};
+pub use words::{words_are_ordered, words_are_their_bytes, words_place_sp};
