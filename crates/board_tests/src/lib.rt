@@ -1,4 +1,4 @@
-// The tests of the board: its address maps, and its machine, by rows worked by hand.
+// The tests of the board: its machine, by rows worked by hand.
 #![tactic(auto)]
 
 #[cfg(test)]
@@ -7,7 +7,5 @@ mod acceptance;
 mod latches;
 #[cfg(test)]
 mod machine;
-#[cfg(test)]
-mod maps;
 #[cfg(test)]
 mod rows;
