@@ -18,11 +18,11 @@ use Rattle.abs_state.specs.Entries.{main_entry}
 use Rattle.abs_state.specs.declared.mode.Mode.{Mode}
 use Rattle.abs_state.specs.declared.mode.Mode.TheVariants.{Unset, Set, Nmi}
 use Rattle.abs_state.specs.declared.state.AbsState.{AbsState}
-use Rattle.abs_step.specs.Ground.{Ground}
-use Rattle.abs_step.specs.Known.{last_slot}
-use Rattle.abs_step.specs.Outcomes.{tested, before_test, test_of, behind_test, after_moves, known_before, known_at_test, settled}
-use Rattle.abs_step.specs.declared.known.Known.{Known}
-use Rattle.abs_step.specs.declared.next.DataWrite.{DataWrite}
+use Rattle.abs_draft.specs.Ground.{Ground}
+use Rattle.abs_draft.specs.Known.{last_slot}
+use Rattle.abs_draft.specs.Outcomes.{tested, before_test, test_of, behind_test, after_moves, known_before, known_at_test, settled}
+use Rattle.abs_draft.specs.declared.known.Known.{Known}
+use Rattle.abs_draft.specs.declared.data_write.DataWrite.{DataWrite}
 use Rattle.abs_step.specs.declared.next.Next.{Next}
 use Rattle.abs_step.specs.declared.next.NextKind.{NextKind}
 use Rattle.abs_step.specs.declared.next.NextKind.TheVariants as kinds

@@ -2,7 +2,6 @@
 ghost use Rattle.std.specs.Prelude.{◌≡◌};
 
 use abs_state::AbsState;
-use intervals::{ByteRange, WordRange};
 use loop_bounds::Effect;
 use smallvec::SmallVec;
 
@@ -33,13 +32,6 @@ pub struct Next {
 /// At most two ways on.
 pub type Nexts = SmallVec<Next, 2>;
 
-/// A data write of one byte: where it may go to, and which bytes it may write.
-#[derive(Clone, Copy)]
-pub struct DataWrite {
-    pub at: WordRange,
-    pub byte: ByteRange,
-}
-
 impl Default for Next {
     ghost use Rattle.abs_step.specs.Successors.{no_next};
 
@@ -53,20 +45,6 @@ impl Default for Next {
             effect: Effect::unchanged(),
             cost: 0,
             kind: NextKind::Exit,
-        }
-    }
-}
-
-impl Default for DataWrite {
-    ghost use Rattle.intervals.specs.Range.{full};
-
-    ghost is_default = { λ w. w ≡ record { at = full 65536; byte = full 256 } };
-
-    /// A write of which nothing is known.
-    fn default() -> DataWrite {
-        DataWrite {
-            at: WordRange::full(),
-            byte: ByteRange::full(),
         }
     }
 }

@@ -4,60 +4,39 @@ ghost use Rattle.board_step.specs.Decoded.{StandsAt};
 ghost use Rattle.z80_decode.specs.Spelling.{spelling};
 ghost use Rattle.z80_decode.specs.declared.instr.Instr.{Instr as Instruction};
 ghost use Rattle.z80_decode.specs.declared.fault.DecodeFault.{DecodeFault as Fault};
-ghost use Rattle.abs_step.specs.Ground.{ground_of};
-ghost use Rattle.abs_step.specs.Outcomes.{known_before};
+ghost use Rattle.abs_draft.specs.Ground.{ground_of};
 ghost use Rattle.abs_step.specs.Successors.{next_of, ways_from, answer_of, writes_of};
 
-use crate::ground::Ground;
-use crate::known::Known;
-use crate::next::{DataWrite, Next, NextKind, Nexts};
+use crate::next::{Next, NextKind, Nexts};
 use crate::reason::Reason;
 use crate::rules::{kind_of, refusal, set_stack};
+use abs_draft::{DataWrite, Ground, Known};
 use abs_state::{AbsState, KeptCell};
 use address_map::{Map, Rom};
-use arrayvec::ArrayVec;
 use board_step::fetch;
-use intervals::{ByteRange, WordRange};
-use loop_bounds::Effect;
 use smallvec::SmallVec;
 use std::alloc::Global;
 use t_states::{cost, is_io};
 use z80_decode::Instr;
 use z80_moves::moves_for;
 
-impl Known {
-    /// What is known once the program counter stands behind an instruction of this length, before its first move.
-    fn before(address: u16, len: u8, state: &AbsState) -> Known
-        ensures { (instr : Instruction) → len ≡ length (spelling instr) → result ≡ known_before address instr state.now }
-    {
-        Known {
-            state: state.copied(),
-            readable: state.armed,
-            operand: ByteRange::single(0),
-            pointer: WordRange::single(0),
-            pc: WordRange::single(address.wrapping_add(u16::from(len))),
-            effect: Effect::unchanged(),
-            writes: ArrayVec::new(),
-        }
-    }
-
-    /// A way on, once all moves of it are made.
-    fn next(mut self, main: bool, instr: &Instr, taken: bool, kind: NextKind) -> Next
-        ensures { result ≡ next_of main instr.now taken kind self }
-    {
-        self.settle();
-        set_stack(main, instr, &mut self.state);
-        let address = match kind {
-            NextKind::Jump | NextKind::Call => self.pc.low(),
-            NextKind::Exit => 0,
-        };
-        Next {
-            address,
-            state: self.state,
-            effect: self.effect,
-            cost: cost(instr, taken),
-            kind,
-        }
+/// A way on, once all moves of it are made.
+fn next_of(known: Known, main: bool, instr: &Instr, taken: bool, kind: NextKind) -> Next
+    ensures { result ≡ next_of main instr.now taken kind known }
+{
+    let mut known = known;
+    known.settle();
+    set_stack(main, instr, &mut known.state);
+    let address = match kind {
+        NextKind::Jump | NextKind::Call => known.pc.low(),
+        NextKind::Exit => 0,
+    };
+    Next {
+        address,
+        state: known.state,
+        effect: known.effect,
+        cost: cost(instr, taken),
+        kind,
     }
 }
 
@@ -87,7 +66,7 @@ pub fn successors(
     ensures err { IfErr result (λ reason. (decoded : Result Instruction Fault) → StandsAt rom.now address decoded
         → answer_of (ground_of rom.now map.now cells.now) address main inline state.now decoded ≡ Err reason) }
 {
-    let ground = Ground { rom, map, cells };
+    let ground = Ground::of(rom, map, cells);
     match fetch(rom, address) {
         Ok((instr, len)) => successors_at(
             alloc, &ground, address, main, inline, &instr, len, state,
@@ -137,16 +116,16 @@ fn ways_on(
     let moves = moves_for(instr);
     match known.make_to_test(ground, inline, moves.as_slice()) {
         None => {
-            let _fits = nexts.push(known.next(main, instr, true, kind));
+            let _fits = nexts.push(next_of(known, main, instr, true, kind));
         }
         Some(tested) => {
             let mut left = known.copied();
             if known.narrow(tested.test, true) {
                 known.make_all(ground, inline, tested.behind);
-                let _fits = nexts.push(known.next(main, instr, true, kind));
+                let _fits = nexts.push(next_of(known, main, instr, true, kind));
             }
             if left.narrow(tested.test, false) {
-                let _fits = nexts.push(left.next(main, instr, false, NextKind::Jump));
+                let _fits = nexts.push(next_of(left, main, instr, false, NextKind::Jump));
             }
         }
     }
@@ -171,7 +150,7 @@ pub fn data_writes(
 {
     let mut writes = SmallVec::new(alloc);
     if let Ok((instr, len)) = fetch(rom, address) {
-        let ground = Ground { rom, map, cells };
+        let ground = Ground::of(rom, map, cells);
         add_writes(&ground, address, &instr, len, state, &mut writes);
     }
     writes

@@ -1,8 +1,8 @@
-use Rattle.std.proofs.Common.{◌≡◌, refl, Ok, Err}
+use Rattle.std.proofs.Common.{◌≡◌, refl, subst, Ok, Err}
 use Rattle.std.specs.Prelude.{Result}
 use Rattle.z80_decode.specs.declared.instr.Instr.{Instr}
 use Rattle.z80_decode.specs.declared.fault.DecodeFault.{DecodeFault}
-use Rattle.abs_step.specs.Ground.{ground_of}
+use Rattle.abs_draft.specs.Ground.{Ground, ground_of}
 use Rattle.abs_step.specs.Successors.{answer_of}
 use Rattle.abs_step.specs.declared.reason.Reason.TheVariants.{Decode}
 use Rattle.abs_step.proofs.Answered.{if_ok, if_err, of_all}
@@ -13,14 +13,16 @@ returns-in-Ok-clause-ok c =
     if_ok c.successors_at.result _ _ c.successors_at.ensures.ok
     (λ nexts e. of_all c.args.rom.now c.args.address (Ok c.in-Ok.instr)
     (λ (d : Result Instr DecodeFault). answer_of (ground_of c.args.rom.now c.args.map.now c.args.cells.now) c.args.address c.args.main c.args.inline c.args.state.now d ≡ Ok nexts.items)
-    c.in-Ok.ensures.stands e)
+    c.in-Ok.ensures.stands
+    (subst (λ (g : Ground). answer_of g c.args.address c.args.main c.args.inline c.args.state.now (Ok c.in-Ok.instr) ≡ Ok nexts.items) c.of-ground.ensures e))
 
 pub returns-in-Ok-clause-err : goal.returns-in-Ok-clause-err
 returns-in-Ok-clause-err c =
     if_err c.successors_at.result _ _ c.successors_at.ensures.err
     (λ reason e. of_all c.args.rom.now c.args.address (Ok c.in-Ok.instr)
     (λ (d : Result Instr DecodeFault). answer_of (ground_of c.args.rom.now c.args.map.now c.args.cells.now) c.args.address c.args.main c.args.inline c.args.state.now d ≡ Err reason)
-    c.in-Ok.ensures.stands e)
+    c.in-Ok.ensures.stands
+    (subst (λ (g : Ground). answer_of g c.args.address c.args.main c.args.inline c.args.state.now (Ok c.in-Ok.instr) ≡ Err reason) c.of-ground.ensures e))
 
 pub returns-in-Err-clause-err : goal.returns-in-Err-clause-err
 returns-in-Err-clause-err c =

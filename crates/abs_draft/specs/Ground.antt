@@ -12,7 +12,7 @@ use Rattle.intervals.specs.Range.{Interval, single, full, hull}
 use Rattle.abs_state.specs.declared.cell.KeptCell.{KeptCell}
 use Rattle.abs_state.specs.declared.mode.Mode.{Mode}
 use Rattle.abs_state.specs.declared.mode.Mode.TheVariants.{Unset, Set, Nmi}
-use Rattle.abs_step.specs.declared.next.DataWrite.{DataWrite}
+use Rattle.abs_draft.specs.declared.data_write.DataWrite.{DataWrite}
 
 -- what never changes beside a row
 pub record Ground : Type 0 where

@@ -14,8 +14,8 @@ use Rattle.z80_moves.specs.declared.registers.ByteRegister.{ByteRegister}
 use Rattle.z80_moves.specs.declared.registers.ByteRegister.TheVariants as bytes
 use Rattle.abs_state.specs.declared.fact.FlagFact.{FlagFact}
 use Rattle.abs_state.specs.declared.fact.FlagFact.TheVariants.{Zero, Compared}
-use Rattle.abs_step.specs.Known.{byte_of}
-use Rattle.abs_step.specs.declared.known.Known.{Known}
+use Rattle.abs_draft.specs.Known.{byte_of}
+use Rattle.abs_draft.specs.declared.known.Known.{Known}
 
 -- A after an operation of it and a byte; SUB A and XOR A give 0
 abbrev pub arithmetic_range : ArithmeticKind → ByteRegister → Known → Interval

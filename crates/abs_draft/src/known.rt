@@ -1,9 +1,12 @@
 // What is known while an instruction goes through its moves, and how its registers are read and written.
 ghost use Rattle.std.specs.Prelude.{◌≡◌, ◌≤◌, ◌<◌, ◌-◌, length};
-ghost use Rattle.abs_step.specs.Known.{byte_change, word_change, no_parts, parts_of, with_parts, with_byte_change, slot_parts, with_slot_parts, raised, lowered, byte_of, known_pair, word_of, set_byte, put_flags, put_byte, set_pair, put_pair, put_word, without_last, last_slot, put_last, push_pair, pop_pair, one_more, write_data, write_byte};
+ghost use Rattle.z80_decode.specs.Spelling.{spelling};
+ghost use Rattle.z80_decode.specs.declared.instr.Instr.{Instr as Instruction};
+ghost use Rattle.abs_draft.specs.Outcomes.{known_before};
+ghost use Rattle.abs_draft.specs.Known.{byte_change, word_change, no_parts, parts_of, with_parts, with_byte_change, slot_parts, with_slot_parts, raised, lowered, byte_of, known_pair, word_of, set_byte, put_flags, put_byte, set_pair, put_pair, put_word, without_last, last_slot, put_last, push_pair, pop_pair, one_more, write_data, write_byte};
 
+use crate::data_write::DataWrite;
 use crate::ground::{Ground, mode_after};
-use crate::next::DataWrite;
 use abs_state::{AbsState, FlagFact};
 use arrayvec::ArrayVec;
 use intervals::{ByteRange, Pair, RegPair, WordRange};
@@ -234,6 +237,22 @@ pub(crate) fn lowered_word(range: WordRange, change: Change) -> Change
 }
 
 impl Known {
+    /// What is known once the program counter stands behind an instruction at an address, 0 to 65,535, of this length, 1 to 4
+    /// bytes, before its first move.
+    pub fn before(address: u16, len: u8, state: &AbsState) -> Known
+        ensures { (instr : Instruction) → len ≡ length (spelling instr) → result ≡ known_before address instr state.now }
+    {
+        Known {
+            state: state.copied(),
+            readable: state.armed,
+            operand: ByteRange::single(0),
+            pointer: WordRange::single(0),
+            pc: WordRange::single(address.wrapping_add(u16::from(len))),
+            effect: Effect::unchanged(),
+            writes: ArrayVec::new(),
+        }
+    }
+
     pub(crate) fn byte(&self, register: ByteRegister) -> ByteRange
         ensures { result ≡ byte_of register self.now }
     {
@@ -423,7 +442,7 @@ impl Known {
         ensures { self.new ≡ write_data ground.now write self.old }
     {
         let armed = ground.armed_after(&write, self.state.armed);
-        let mode = mode_after(write.may_enable(ground.map), self.state.mode);
+        let mode = mode_after(ground.may_enable(&write), self.state.mode);
         self.state.armed = armed;
         self.state.mode = mode;
         if self.writes.len() < 2 {

@@ -2,7 +2,7 @@
 ghost use Rattle.std.specs.Prelude.{◌≡◌, ◌≤◌, Some, None, MatchBool, IfSome, option_map, length, get_or};
 ghost use Rattle.std.specs.Bool.{OnFalse};
 ghost use Rattle.abs_state.specs.Variables.{full_slot};
-ghost use Rattle.abs_step.specs.Outcomes.{state_tested, tested, test_in, before_test, test_of, behind_test, after_moves, constant_first, settled, settled_slot};
+ghost use Rattle.abs_draft.specs.Outcomes.{state_tested, tested, test_in, before_test, test_of, behind_test, after_moves, constant_first, settled, settled_slot};
 
 use crate::ground::Ground;
 use crate::known::Known;
@@ -17,7 +17,7 @@ use z80_moves::{Move, Test};
 impl Known {
     /// Narrows what is known to where a test held, or to where it did not. Tells whether that can be; where it can't,
     /// nothing changes.
-    pub(crate) fn narrow(&mut self, test: Test, held: bool) -> bool
+    pub fn narrow(&mut self, test: Test, held: bool) -> bool
         ensures exact { MatchBool result (tested test held self.old ≡ Some self.new) (tested test held self.old ≡ None) }
         ensures unchanged { OnFalse result (self.new ≡ self.old) }
     {
@@ -25,7 +25,7 @@ impl Known {
     }
 
     /// The same again.
-    pub(crate) fn copied(&self) -> Known
+    pub fn copied(&self) -> Known
         ensures { result ≡ self.now }
     {
         let mut writes = ArrayVec::new();
@@ -67,7 +67,7 @@ fn test_in(step: Move) -> Option<Test>
 
 /// The test of an instruction, and the moves behind it.
 #[derive(Drop)]
-pub(crate) struct Tested<'a> {
+pub struct Tested<'a> {
     pub test: Test,
     pub behind: &'a [Move],
 }
@@ -75,7 +75,7 @@ pub(crate) struct Tested<'a> {
 impl Known {
     /// Makes the moves up to the test of a list, or all of them where it has none.
     #[tactic(auto, unfolding(crate::specs::Outcomes::before_test, crate::specs::Outcomes::test_of, crate::specs::Outcomes::behind_test, crate::specs::Outcomes::after_moves))]
-    pub(crate) fn make_to_test<'a>(
+    pub fn make_to_test<'a>(
         &mut self,
         ground: &Ground,
         inline: bool,
@@ -99,7 +99,7 @@ impl Known {
     }
 
     /// The constants go first: a variable whose range is one value is that value.
-    pub(crate) fn settle(&mut self)
+    pub fn settle(&mut self)
         ensures { self.new ≡ record self.old { effect = settled self.old.state self.old.effect } }
     {
         let pairs = &self.state.pairs;

@@ -1,6 +1,6 @@
 use Rattle.std.proofs.Common.{◌≡◌, drop}
-use Rattle.abs_step.specs.Outcomes.{after_moves, before_test, test_of, behind_test}
-use Rattle.abs_step.proofs.known.Known.make_to_test.Given as goal
+use Rattle.abs_draft.specs.Outcomes.{after_moves, before_test, test_of, behind_test}
+use Rattle.abs_draft.proofs.known.Known.make_to_test.Given as goal
 
 abbrev pub invariant-loop-place : goal.invariant-loop-place
 invariant-loop-place l =

@@ -1,12 +1,12 @@
 // The moves of an instruction, on what is known.
 ghost use Rattle.std.specs.Prelude.{◌≡◌, ◌≤◌, length};
-ghost use Rattle.abs_step.specs.AfterMove.{take_slot, exchanged_stack, exchanged_de_hl, exchanged_af, exchanged_sets, operated, changed_byte, read_word, write_word, pushed, incremented, decremented, counted_down, incremented_word, decremented_word, after_move};
-ghost use Rattle.abs_step.specs.Known.{write_byte};
-ghost use Rattle.abs_step.specs.Outcomes.{after_moves};
+ghost use Rattle.abs_draft.specs.AfterMove.{take_slot, exchanged_stack, exchanged_de_hl, exchanged_af, exchanged_sets, operated, changed_byte, read_word, write_word, pushed, incremented, decremented, counted_down, incremented_word, decremented_word, after_move};
+ghost use Rattle.abs_draft.specs.Known.{write_byte};
+ghost use Rattle.abs_draft.specs.Outcomes.{after_moves};
 
+use crate::data_write::DataWrite;
 use crate::ground::Ground;
 use crate::known::{Known, Parts, lowered_byte, lowered_word, raised_byte, raised_word};
-use crate::next::DataWrite;
 use crate::results::{compared, rotated, shifted, zero_of};
 use abs_state::FlagFact;
 use intervals::{ByteRange, Pair, WordRange};
@@ -287,9 +287,9 @@ impl Known {
         );
     }
 
-    /// Some moves, one after another.
+    /// Makes some moves, one after another. `inline` says whether a call pushes its return word here.
     #[tactic(auto, unfolding(crate::specs::Outcomes::after_moves))]
-    pub(crate) fn make_all(&mut self, ground: &Ground, inline: bool, moves: &[Move])
+    pub fn make_all(&mut self, ground: &Ground, inline: bool, moves: &[Move])
         requires { length ground.now.cells ≤ 256 }
         ensures { self.new ≡ after_moves ground.now inline moves.now self.old }
     {

@@ -1,6 +1,6 @@
 // The ranges that operations leave, and the flag facts.
 ghost use Rattle.std.specs.Prelude.{◌≡◌};
-ghost use Rattle.abs_step.specs.Results.{arithmetic_range, shift_range, rotate_range, zero_fact, compare_fact};
+ghost use Rattle.abs_draft.specs.Results.{arithmetic_range, shift_range, rotate_range, zero_fact, compare_fact};
 
 use crate::known::Known;
 use abs_state::FlagFact;

@@ -17,10 +17,10 @@ use Rattle.z80_moves.specs.declared.registers.WordRegister.{WordRegister}
 use Rattle.z80_moves.specs.declared.registers.WordRegister.TheVariants as words
 use Rattle.abs_state.specs.Registers.{exchange_de_hl, exchange_af, exchange_sets}
 use Rattle.abs_state.specs.declared.fact.FlagFact.TheVariants.{Zero}
-use Rattle.abs_step.specs.Ground.{Ground, read_range}
-use Rattle.abs_step.specs.Known.{no_parts, parts_of, slot_parts, byte_change, word_change, raised, lowered, byte_of, word_of, known_pair, put_byte, put_pair, put_word, put_flags, push_pair, put_last, pop_pair, last_slot, write_byte}
-use Rattle.abs_step.specs.Results.{arithmetic_range, shift_range, rotate_range, zero_fact, compare_fact}
-use Rattle.abs_step.specs.declared.known.Known.{Known}
+use Rattle.abs_draft.specs.Ground.{Ground, read_range}
+use Rattle.abs_draft.specs.Known.{no_parts, parts_of, slot_parts, byte_change, word_change, raised, lowered, byte_of, word_of, known_pair, put_byte, put_pair, put_word, put_flags, push_pair, put_last, pop_pair, last_slot, write_byte}
+use Rattle.abs_draft.specs.Results.{arithmetic_range, shift_range, rotate_range, zero_fact, compare_fact}
+use Rattle.abs_draft.specs.declared.known.Known.{Known}
 
 -- the word register that a move exchanges or pops gets what is known of the last slot
 abbrev pub take_slot : WordRegister → Known → Known

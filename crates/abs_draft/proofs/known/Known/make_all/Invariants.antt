@@ -1,6 +1,6 @@
 use Rattle.std.proofs.Common.{◌≡◌, drop}
-use Rattle.abs_step.specs.Outcomes.{after_moves}
-use Rattle.abs_step.proofs.known.Known.make_all.Given as goal
+use Rattle.abs_draft.specs.Outcomes.{after_moves}
+use Rattle.abs_draft.proofs.known.Known.make_all.Given as goal
 
 abbrev pub invariant-loop-step : goal.invariant-loop-step
 invariant-loop-step l =

@@ -26,10 +26,10 @@ use Rattle.abs_state.specs.Variables.{full_slot}
 use Rattle.abs_state.specs.declared.fact.FlagFact.{FlagFact}
 use Rattle.abs_state.specs.declared.pairs.Pairs.{Pairs}
 use Rattle.abs_state.specs.declared.state.AbsState.{AbsState}
-use Rattle.abs_step.specs.Ground.{Ground, may_enable, mode_after, armed_after}
-use Rattle.abs_step.specs.declared.known.Known.{Known}
-use Rattle.abs_step.specs.declared.known.Parts.{Parts}
-use Rattle.abs_step.specs.declared.next.DataWrite.{DataWrite}
+use Rattle.abs_draft.specs.Ground.{Ground, may_enable, mode_after, armed_after}
+use Rattle.abs_draft.specs.declared.known.Known.{Known}
+use Rattle.abs_draft.specs.declared.known.Parts.{Parts}
+use Rattle.abs_draft.specs.declared.data_write.DataWrite.{DataWrite}
 
 -- ---- changes of variables
 

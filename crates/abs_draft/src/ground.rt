@@ -2,9 +2,9 @@
 ghost use Rattle.std.specs.Prelude.{◌≡◌, ◌≤◌, ◌<◌, take, drop, length, Option, Some, None};
 ghost use Rattle.address_map.specs.Class.{class_of, cell_of};
 ghost use Rattle.address_map.specs.AddressMap.{AddressMap};
-ghost use Rattle.abs_step.specs.Ground.{any_address, is_enable, some_odd, may_enable, mode_after, is_work_cell, cell_at, has_range, arms, armed_after, span, widened, bytes_at, rom_range, read_one, read_range};
+ghost use Rattle.abs_draft.specs.Ground.{ground_of, any_address, is_enable, some_odd, may_enable, mode_after, is_work_cell, cell_at, has_range, arms, armed_after, span, widened, bytes_at, rom_range, read_one, read_range};
 
-use crate::next::DataWrite;
+use crate::data_write::DataWrite;
 use abs_state::{KeptCell, Mode};
 use address_map::{Map, RamKind, Rom};
 use intervals::{ByteRange, Domain, WordRange};
@@ -12,14 +12,14 @@ use std::marker::Model;
 
 /// What never changes beside a row: the ROM, its map, and the kept cells, at most 256.
 #[derive(Drop)]
-pub(crate) struct Ground<'a> {
-    pub rom: &'a Rom<'a>,
-    pub map: &'a Map,
-    pub cells: &'a [KeptCell],
+pub struct Ground<'a> {
+    rom: &'a Rom<'a>,
+    map: &'a Map,
+    cells: &'a [KeptCell],
 }
 
 impl<'a> Model for Ground<'a> {
-    ghost use Rattle.abs_step.specs.Ground.{Ground as Given};
+    ghost use Rattle.abs_draft.specs.Ground.{Ground as Given};
 
     ghost Value = { Given };
 
@@ -85,13 +85,6 @@ fn cell_at(map: &Map, address: u16, cells: &[KeptCell]) -> Option<KeptCell>
 }
 
 impl DataWrite {
-    /// Whether the write may enable the NMI.
-    pub(crate) fn may_enable(&self, map: &Map) -> bool
-        ensures { result ≡ may_enable map.now self.now }
-    {
-        some_enable(map, self.at) && some_odd(self.byte)
-    }
-
     /// Whether the write arms a cell.
     fn arms(&self, map: &Map, cell: Option<KeptCell>) -> bool
         ensures { result ≡ arms map.now self.now cell }
@@ -118,6 +111,20 @@ pub(crate) fn mode_after(enables: bool, mode: Mode) -> Mode
 }
 
 impl<'a> Ground<'a> {
+    /// Lends a ROM, its map, and the kept cells, at most 256.
+    pub fn of(rom: &'a Rom<'a>, map: &'a Map, cells: &'a [KeptCell]) -> Ground<'a>
+        ensures { result ≡ ground_of rom.now map.now cells.now }
+    {
+        Ground { rom, map, cells }
+    }
+
+    /// Whether a write may enable the NMI: some address is the NMI enable, and some byte is odd.
+    pub(crate) fn may_enable(&self, write: &DataWrite) -> bool
+        ensures { result ≡ may_enable self.now.map write.now }
+    {
+        some_enable(self.map, write.at) && some_odd(write.byte)
+    }
+
     /// How many cells are armed after a write, where so many were before it.
     pub(crate) fn armed_after(&self, write: &DataWrite, armed: u16) -> u16
         requires { length self.now.cells ≤ 256 }

@@ -19,11 +19,11 @@ use Rattle.abs_state.specs.Narrowing.{byte_is, word_is, condition_is}
 use Rattle.abs_state.specs.Variables.{full_slot}
 use Rattle.abs_state.specs.declared.pairs.Pairs.{Pairs}
 use Rattle.abs_state.specs.declared.state.AbsState.{AbsState}
-use Rattle.abs_step.specs.AfterMove.{after_move}
-use Rattle.abs_step.specs.Ground.{Ground}
+use Rattle.abs_draft.specs.AfterMove.{after_move}
+use Rattle.abs_draft.specs.Ground.{Ground}
 use Rattle.loop_bounds.specs.Effect.{unchanged}
-use Rattle.abs_step.specs.declared.known.Known.{Known}
-use Rattle.abs_step.specs.declared.next.DataWrite.{DataWrite}
+use Rattle.abs_draft.specs.declared.known.Known.{Known}
+use Rattle.abs_draft.specs.declared.data_write.DataWrite.{DataWrite}
 
 -- what is known of a state where a test held, and where it did not; none where that can't be
 abbrev pub state_tested : Test → Bool → AbsState → Option AbsState

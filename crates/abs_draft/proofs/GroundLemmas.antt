@@ -10,7 +10,7 @@ use Rattle.address_map.specs.Class.{class_of}
 use Rattle.address_map.specs.Ranges.{SomeWrite}
 use Rattle.address_map.specs.declared.map.WriteClass.{WriteClass}
 use Rattle.address_map.specs.declared.map.WriteClass.TheVariants as writes
-use Rattle.abs_step.specs.Ground.{any_address, is_enable}
+use Rattle.abs_draft.specs.Ground.{any_address, is_enable}
 
 -- an element that passes, where one does
 one_in : (test : ℕ → Bool) (xs : List ℕ) → list_any test xs ≡ true → (i : ℕ) × (i < length xs) × (test (get_or xs i 0) ≡ true)
