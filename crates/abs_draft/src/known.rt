@@ -54,69 +54,6 @@ impl Parts {
     }
 }
 
-fn byte_change(register: ByteRegister, effect: &Effect) -> Change
-    ensures { result ≡ byte_change register effect.now }
-{
-    match register {
-        ByteRegister::A => effect.a,
-        ByteRegister::B => effect.b,
-        ByteRegister::C => effect.c,
-        ByteRegister::D => effect.d,
-        ByteRegister::E => effect.e,
-        ByteRegister::H => effect.h,
-        ByteRegister::L => effect.l,
-        ByteRegister::F | ByteRegister::I | ByteRegister::Operand => Change::Unknown,
-    }
-}
-
-fn word_change(register: WordRegister, effect: &Effect) -> Change
-    ensures { result ≡ word_change register effect.now }
-{
-    match register {
-        WordRegister::Bc => effect.bc,
-        WordRegister::De => effect.de,
-        WordRegister::Hl => effect.hl,
-        WordRegister::Ix => effect.ix,
-        WordRegister::Iy => effect.iy,
-        _ => Change::Unknown,
-    }
-}
-
-fn parts_of(register: WordRegister, effect: &Effect) -> Parts
-    ensures { result ≡ parts_of register effect.now }
-{
-    match register {
-        WordRegister::Af => Parts {
-            high: effect.a,
-            ..Parts::none()
-        },
-        WordRegister::Bc => Parts {
-            word: effect.bc,
-            high: effect.b,
-            low: effect.c,
-        },
-        WordRegister::De => Parts {
-            word: effect.de,
-            high: effect.d,
-            low: effect.e,
-        },
-        WordRegister::Hl => Parts {
-            word: effect.hl,
-            high: effect.h,
-            low: effect.l,
-        },
-        WordRegister::Ix => Parts {
-            word: effect.ix,
-            ..Parts::none()
-        },
-        WordRegister::Iy => Parts {
-            word: effect.iy,
-            ..Parts::none()
-        },
-        WordRegister::Sp | WordRegister::Pc | WordRegister::Pointer => Parts::none(),
-    }
-}
-
 fn put_parts(effect: &mut Effect, register: WordRegister, parts: Parts)
     ensures { effect.new ≡ with_parts register parts effect.old }
 {
@@ -274,7 +211,16 @@ impl Known {
     pub(crate) fn byte_change(&self, register: ByteRegister) -> Change
         ensures { result ≡ byte_change register self.now.effect }
     {
-        byte_change(register, &self.effect)
+        match register {
+            ByteRegister::A => self.effect.a,
+            ByteRegister::B => self.effect.b,
+            ByteRegister::C => self.effect.c,
+            ByteRegister::D => self.effect.d,
+            ByteRegister::E => self.effect.e,
+            ByteRegister::H => self.effect.h,
+            ByteRegister::L => self.effect.l,
+            ByteRegister::F | ByteRegister::I | ByteRegister::Operand => Change::Unknown,
+        }
     }
 
     /// What is known of a word register.
@@ -304,13 +250,49 @@ impl Known {
     pub(crate) fn word_change(&self, register: WordRegister) -> Change
         ensures { result ≡ word_change register self.now.effect }
     {
-        word_change(register, &self.effect)
+        match register {
+            WordRegister::Bc => self.effect.bc,
+            WordRegister::De => self.effect.de,
+            WordRegister::Hl => self.effect.hl,
+            WordRegister::Ix => self.effect.ix,
+            WordRegister::Iy => self.effect.iy,
+            _ => Change::Unknown,
+        }
     }
 
     pub(crate) fn parts(&self, register: WordRegister) -> Parts
         ensures { result ≡ parts_of register self.now.effect }
     {
-        parts_of(register, &self.effect)
+        match register {
+            WordRegister::Af => Parts {
+                high: self.effect.a,
+                ..Parts::none()
+            },
+            WordRegister::Bc => Parts {
+                word: self.effect.bc,
+                high: self.effect.b,
+                low: self.effect.c,
+            },
+            WordRegister::De => Parts {
+                word: self.effect.de,
+                high: self.effect.d,
+                low: self.effect.e,
+            },
+            WordRegister::Hl => Parts {
+                word: self.effect.hl,
+                high: self.effect.h,
+                low: self.effect.l,
+            },
+            WordRegister::Ix => Parts {
+                word: self.effect.ix,
+                ..Parts::none()
+            },
+            WordRegister::Iy => Parts {
+                word: self.effect.iy,
+                ..Parts::none()
+            },
+            WordRegister::Sp | WordRegister::Pc | WordRegister::Pointer => Parts::none(),
+        }
     }
 
     fn set_byte(&mut self, register: Register8, range: ByteRange, change: Change)
