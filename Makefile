@@ -18,9 +18,11 @@ galcert: crates.txt $(shell find crates -name '*.rt' -o -name '*.antt' | grep -v
 	cd crates/galcert && rt run -- verify ../../$(SIX).rom ../../$(SIX).cert
 	cp crates/galcert/out/galcert galcert
 
-# The gate: every proof from nothing, the edits that must be refused, the tests and the stored run.
+# The gate: every proof from nothing, the edits that must be refused, the tests and the stored run; and then the program that
+# it built, over files.
 test:
 	rt ci
+	tools/program.sh crates/galcert/out/galcert
 
 # The edits that the gate leaves out, each of which must be refused too; CRATES="a b" tries those of some crates.
 edits:
