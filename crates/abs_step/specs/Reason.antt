@@ -1,7 +1,10 @@
 -- The table of reasons: numbers and names.
 use Rattle.std.specs.Prelude.{ℕ, List, codes}
+use Rattle.intervals.specs.RegPair.{name_of as pair_name_of}
 use Rattle.abs_step.specs.declared.reason.Reason.{Reason}
 use Rattle.abs_step.specs.declared.reason.Reason.TheVariants as reasons
+use Rattle.abs_step.specs.declared.reason.Saved.{Saved}
+use Rattle.abs_step.specs.declared.reason.Saved.TheVariants as saved
 
 -- the numbers of the table of reasons (docs/CHECKER.md)
 abbrev pub number_of : Reason → ℕ
@@ -52,3 +55,8 @@ name_of reasons.HaltInNmi = codes "HaltInNmi"
 name_of reasons.SpWrite = codes "SpWrite"
 name_of reasons.CellRange = codes "CellRange"
 name_of reasons.CellUnarmed = codes "CellUnarmed"
+
+-- what a routine has to give back, by its name
+abbrev pub saved_name_of : Saved → List ℕ
+saved_name_of (saved.Pair pair) = pair_name_of pair
+saved_name_of saved.I = codes "I"

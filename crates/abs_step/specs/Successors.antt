@@ -15,6 +15,7 @@ use Rattle.z80_decode.specs.declared.operands.Register16.TheVariants.{Sp}
 use Rattle.z80_moves.specs.Moves.{moves_of}
 use Rattle.z80_moves.specs.declared.moves.Test.{Test}
 use Rattle.abs_state.specs.Entries.{main_entry}
+use Rattle.abs_state.specs.Mode.{is_unset}
 use Rattle.abs_state.specs.declared.mode.Mode.{Mode}
 use Rattle.abs_state.specs.declared.mode.Mode.TheVariants.{Unset, Set, Nmi}
 use Rattle.abs_state.specs.declared.state.AbsState.{AbsState}
@@ -56,11 +57,6 @@ is_pop _ = false
 
 abbrev pub uses_stack : Instr → Bool
 uses_stack instr = (is_call instr || is_return instr) || (is_push instr || is_pop instr)
-
-abbrev pub is_unset : Mode → Bool
-is_unset Unset = true
-is_unset Set = false
-is_unset Nmi = false
 
 abbrev pub is_empty : List Slot → Bool
 is_empty [] = true

@@ -1,7 +1,7 @@
 // Why a certificate is refused.
 
 ghost use Rattle.std.specs.Prelude.{◌≡◌, ◌≤◌};
-ghost use Rattle.abs_step.specs.Reason.{number_of, name_of};
+ghost use Rattle.abs_step.specs.Reason.{number_of, name_of, saved_name_of};
 
 use intervals::RegPair;
 use thiserror::Error;
@@ -12,6 +12,18 @@ use z80_decode::DecodeFault;
 pub enum Saved {
     Pair(RegPair),
     I,
+}
+
+impl Saved {
+    /// The name of the register or the pair, as the manual writes it.
+    pub fn name(self) -> &'static [u8]
+        ensures { result.now ≡ saved_name_of self }
+    {
+        match self {
+            Saved::Pair(pair) => pair.name(),
+            Saved::I => b"I",
+        }
+    }
 }
 
 /// Why a certificate is refused, by the table of reasons in docs/CHECKER.md.

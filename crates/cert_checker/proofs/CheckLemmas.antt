@@ -12,8 +12,8 @@ use Rattle.cert_checker.specs.Covers.{is_covered, stands_at}
 use Rattle.cert_checker.specs.Profile.{has_row}
 use Rattle.cert_checker.specs.Profile.{map_named}
 use Rattle.cert_checker.specs.Row.{RowReason, IsConsistent, reason_given}
-use Rattle.cert_checker.specs.declared.reason.Reason.{Reason}
-use Rattle.cert_checker.specs.declared.reason.Reason.TheVariants as reasons
+use Rattle.abs_step.specs.declared.reason.Reason.{Reason}
+use Rattle.abs_step.specs.declared.reason.Reason.TheVariants as reasons
 
 -- a row has one lowest reason
 pub one_reason : (rom : List ℕ) (cert : Contents) (row : Row) (a b : Option Reason) → RowReason rom cert row a → RowReason rom cert row b → a ≡ b

@@ -6,14 +6,15 @@ use Rattle.std.proofs.lemmas.List.{get_or_default, get_or-drop, take_all, length
 use Rattle.std.proofs.lemmas.Grind.{common_steps}
 use Rattle.certificate.specs.Contents.{RowsRise}
 use Rattle.certificate.specs.declared.contents.Row.{Row}
-use Rattle.certificate.specs.declared.contents.Mode.{Mode}
-use Rattle.cert_checker.specs.Covers.{row_covers, mode_covers, is_covered}
+use Rattle.abs_state.specs.Mode.{covers_mode}
+use Rattle.abs_state.specs.declared.mode.Mode.{Mode}
+use Rattle.cert_checker.specs.Covers.{row_covers, is_covered}
 
 -- a row at another address covers nothing here
 pub elsewhere : (address : ℕ) (mode : Mode) (row : Row) → row.address ≢ address → row_covers address mode row ≡ false
 elsewhere address mode row ne =
     let h : nat_eq row.address address ≡ false = grind (arith, common_steps) in
-    ap (λ (b : Bool). b && mode_covers row.mode mode) h
+    ap (λ (b : Bool). b && covers_mode row.mode mode) h
 
 -- no row of these covers
 abbrev pub NoneCover : List Row → ℕ → Mode → ℕ → ℕ → Type 0

@@ -6,8 +6,9 @@ use Rattle.board_step.specs.Decoded.{StandsAt}
 use Rattle.board_step.specs.Trap.{is_rom, is_unmapped}
 use Rattle.certificate.specs.Contents.{Contents}
 use Rattle.certificate.specs.declared.contents.Row.{Row}
-use Rattle.certificate.specs.declared.contents.Mode.{Mode}
-use Rattle.certificate.specs.declared.contents.Mode.TheVariants.{Unset, Set}
+use Rattle.abs_state.specs.Mode.{is_unset}
+use Rattle.abs_state.specs.declared.mode.Mode.{Mode}
+use Rattle.abs_state.specs.declared.mode.Mode.TheVariants.{Unset, Set, Nmi}
 use Rattle.z80_decode.specs.Spelling.{spelling}
 use Rattle.z80_decode.specs.declared.instr.Instr.{Instr}
 use Rattle.z80_decode.specs.declared.instr.Instr.TheVariants.{Nop, LoadImmediate, StoreA, LoadPair, Jump, JumpRelative}
@@ -19,7 +20,7 @@ use Rattle.z80_decode.specs.declared.operands.Register16.TheVariants.{Sp}
 use Rattle.cert_checker.specs.Covers.{is_covered, row_covers, stands_at}
 use Rattle.address_map.specs.AddressMap.{AddressMap}
 use Rattle.cert_checker.specs.Profile.{map_named}
-use Rattle.cert_checker.specs.Row.{IsConsistent, written_by, has_class, may_enable, target_of, mode_after, is_covered_after, is_supported, leads_on, is_unset, reason_of, reason_given}
+use Rattle.cert_checker.specs.Row.{IsConsistent, written_by, has_class, may_enable, target_of, mode_after, is_covered_after, is_supported, leads_on, reason_of, reason_given}
 
 -- what holds of a row that nothing is against
 pub record Stands (rom : List ℕ) (cert : Contents) (row : Row) : Type 0 where
@@ -84,6 +85,7 @@ by_known P nop load store pair jump relative _ e = cc
 store_in : (map : AddressMap) (rows : List Row) (nn : ℕ) (at : ℕ) (mode : Mode) (b : Bool) → may_enable map (StoreA (Direct nn)) ≡ b →
     is_covered_after rows at (mode_after map (StoreA (Direct nn)) mode) ≡ true → (may_enable map (StoreA (Direct nn)) && is_unset mode) ≡ false → may_enable map (StoreA (Direct nn)) ≡ false
 store_in map rows nn at mode false e leads waits = e
+store_in map rows nn at Nmi true e leads waits = cc
 store_in map rows nn at Unset true e leads waits = let h : (true && true) ≡ false = ap (λ (b : Bool). b && true) (sym e) ∙ waits in cc
 store_in map rows nn at Set true e leads waits =
     let h : is_covered_after rows at (cond true None (Some Set)) ≡ true = ap (λ (b : Bool). is_covered_after rows at (cond b None (Some Set))) (sym e) ∙ leads in cc

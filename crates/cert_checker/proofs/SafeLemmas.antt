@@ -21,7 +21,7 @@ use Rattle.board_step.proofs.DecodedLemmas.{decoded_once}
 use Rattle.board_step.proofs.StepLemmas.{traps_executing}
 use Rattle.certificate.specs.Contents.{Contents}
 use Rattle.certificate.specs.declared.contents.Row.{Row}
-use Rattle.certificate.specs.declared.contents.Mode.TheVariants.{Unset}
+use Rattle.abs_state.specs.declared.mode.Mode.TheVariants.{Unset}
 use Rattle.z80_decode.specs.Spelling.{spelling}
 use Rattle.z80_decode.specs.declared.instr.Instr.{Instr}
 use Rattle.z80_decode.specs.declared.fault.DecodeFault.{DecodeFault}

@@ -4,13 +4,13 @@ use Rattle.address_map.specs.AddressMap.{AddressMap}
 use Rattle.address_map.specs.WorkRam.{work_start}
 use Rattle.address_map.specs.declared.region.Region.{Region}
 use Rattle.certificate.specs.Contents.{Contents}
-use Rattle.certificate.specs.declared.contents.Mode.TheVariants.{Unset}
+use Rattle.abs_state.specs.declared.mode.Mode.TheVariants.{Unset}
 use Rattle.certificate.specs.declared.contents.Row.{Row}
 use Rattle.cert_checker.specs.Covers.{is_covered}
 use Rattle.cert_checker.specs.Profile.{map_named}
 use Rattle.cert_checker.specs.Row.{RowReason, IsConsistent}
-use Rattle.cert_checker.specs.declared.reason.Reason.{Reason}
-use Rattle.cert_checker.specs.declared.reason.Reason.TheVariants as reasons
+use Rattle.abs_step.specs.declared.reason.Reason.{Reason}
+use Rattle.abs_step.specs.declared.reason.Reason.TheVariants as reasons
 
 -- the ROM has 1 to 16,384 bytes, as many as the certificate says
 pub record FitsRom (rom : List ℕ) (cert : Contents) : Type 0 where

@@ -3,5 +3,4 @@ pub mod Accepts
 pub mod Certified
 pub mod Covers
 pub mod Profile
-pub mod Reason
 pub mod Row

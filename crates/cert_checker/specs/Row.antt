@@ -8,8 +8,9 @@ use Rattle.board_step.specs.Decoded.{StandsAt}
 use Rattle.z80_draft.specs.Draft.{displaced}
 use Rattle.board_step.specs.Trap.{is_rom, is_unmapped}
 use Rattle.certificate.specs.Contents.{Contents}
-use Rattle.certificate.specs.declared.contents.Mode.{Mode}
-use Rattle.certificate.specs.declared.contents.Mode.TheVariants.{Unset, Set}
+use Rattle.abs_state.specs.Mode.{is_unset}
+use Rattle.abs_state.specs.declared.mode.Mode.{Mode}
+use Rattle.abs_state.specs.declared.mode.Mode.TheVariants.{Unset, Set, Nmi}
 use Rattle.certificate.specs.declared.contents.Row.{Row}
 use Rattle.z80_decode.specs.Spelling.{spelling}
 use Rattle.z80_decode.specs.declared.fault.DecodeFault.{DecodeFault}
@@ -21,8 +22,8 @@ use Rattle.z80_decode.specs.declared.operands.Register8.TheVariants.{A}
 use Rattle.z80_decode.specs.declared.operands.Register16.TheVariants.{Sp}
 use Rattle.cert_checker.specs.Covers.{is_covered}
 use Rattle.cert_checker.specs.Profile.{map_named}
-use Rattle.cert_checker.specs.declared.reason.Reason.{Reason}
-use Rattle.cert_checker.specs.declared.reason.Reason.TheVariants as reasons
+use Rattle.abs_step.specs.declared.reason.Reason.{Reason}
+use Rattle.abs_step.specs.declared.reason.Reason.TheVariants as reasons
 
 -- whether the checker knows an instruction: NOP, LD A,n, LD (nn),A, LD SP,nn, JP nn and JR e
 abbrev pub is_supported : Instr → Bool
@@ -63,8 +64,9 @@ target_of (Jump nn) behind = nn
 target_of (JumpRelative e) behind = displaced behind e
 target_of _ behind = behind
 
--- The mode that an instruction leads to. Where SP is set and NMIs may be enabled there is none yet.
+-- The mode that an instruction leads to. Where SP is set and NMIs may be enabled, or an NMI may come, there is none yet.
 abbrev pub mode_after : AddressMap → Instr → Mode → Option Mode
+mode_after map instr Nmi = None
 mode_after map (LoadPair Sp nn) mode = Some Set
 mode_after map instr Unset = Some Unset
 mode_after map instr Set = if may_enable map instr then None else Some Set
@@ -78,10 +80,6 @@ is_covered_after rows address None = false
 abbrev pub leads_on : AddressMap → Contents → Row → Instr → Bool
 leads_on map cert row instr =
     is_supported instr && is_covered_after cert.rows (target_of instr ((row.address + length (spelling instr)) % 65536)) (mode_after map instr row.mode)
-
-abbrev pub is_unset : Mode → Bool
-is_unset Unset = true
-is_unset Set = false
 
 -- whether an instruction sets SP to a word other than the region's top
 abbrev pub sets_sp_wrongly : Contents → Instr → Bool

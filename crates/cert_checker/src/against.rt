@@ -8,7 +8,7 @@ ghost use Rattle.cert_checker.specs.Profile.{map_named};
 ghost use Rattle.cert_checker.specs.Row.{RowReason, is_supported, written_by, has_class, passes, may_enable, target_of, mode_after, is_covered_after, sets_sp_wrongly, reason_of};
 
 use crate::covering::covers;
-use crate::reason::Reason;
+use abs_step::Reason;
 use address_map::{Map, Rom, WriteClass};
 use board_step::{displace, fetch};
 use certificate::{Certificate, Mode, Row};
@@ -106,6 +106,8 @@ fn next_mode(map: &Map, instr: &Instr, mode: Mode) -> Option<Mode>
     ensures { result ≡ mode_after map.now instr.now mode }
 {
     match (instr, mode) {
+        // The rules of an NMI are not judged yet.
+        (_, Mode::Nmi) => None,
         (Instr::LoadPair(Register16::Sp, _), _) => Some(Mode::Set),
         (_, Mode::Unset) => Some(Mode::Unset),
         (_, Mode::Set) if enables_nmi(map, instr) => None,

@@ -11,7 +11,7 @@ ghost use Rattle.cert_checker.specs.declared.checking.Refused.{Refused};
 use crate::accepted::Accepted;
 use crate::against::reason_against;
 use crate::covering::covers;
-use crate::reason::Reason;
+use abs_step::Reason;
 use address_map::{Map, Region, Rom, Starts};
 use certificate::{Certificate, Mode};
 use thiserror::Error;

@@ -1,21 +1,11 @@
 // Which rows cover a state.
 
 ghost use Rattle.std.specs.Prelude.{◌≡◌, ◌<◌, ◌≤◌, ℕ, length, slice_index_or, true};
-ghost use Rattle.cert_checker.specs.Covers.{mode_covers, is_covered};
+ghost use Rattle.cert_checker.specs.Covers.{is_covered};
 ghost use Rattle.certificate.specs.Contents.{RowsRise};
 ghost use Rattle.certificate.specs.declared.contents.Row.{Row};
 
 use certificate::{Mode, Row};
-
-/// Whether a row of one mode covers a state of another.
-pub fn mode_includes(row: Mode, state: Mode) -> bool
-    ensures { result ≡ mode_covers row state }
-{
-    match (row, state) {
-        (Mode::Unset, _) | (Mode::Set, Mode::Set) => true,
-        (Mode::Set, Mode::Unset) => false,
-    }
-}
 
 /// The number of the first row whose address is not below this one.
 fn first_from(rows: &[Row], address: u16) -> usize
@@ -37,7 +27,7 @@ pub fn covers(rows: &[Row], address: u16, mode: Mode) -> bool
         if row.address != address {
             return false;
         }
-        if mode_includes(row.mode, mode) {
+        if row.mode.covers(mode) {
             return true;
         }
     }

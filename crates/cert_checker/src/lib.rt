@@ -6,11 +6,10 @@ mod accepted;
 mod against;
 mod checking;
 mod covering;
-mod reason;
 
+pub use abs_step::{Reason, Saved};
 pub use accepted::Accepted;
 pub use against::reason_against;
 pub use certificate;
 pub use checking::{CheckFault, Refused, check};
-pub use covering::{covers, mode_includes};
-pub use reason::{Reason, Saved};
+pub use covering::covers;

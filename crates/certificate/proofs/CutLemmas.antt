@@ -2,8 +2,8 @@ use Rattle.std.proofs.Common.{◌≡◌, ◌==◌, ℕ, ◌∷◌, [], ◌++◌,
 use Rattle.std.specs.List.{slice_split, AllByRecursion, join_with_byte}
 use Rattle.std.proofs.lemmas.List.Splits.{slice_split_at}
 use Rattle.std.proofs.lemmas.List.Elements.{All-from_recursion}
-use Rattle.certificate.specs.declared.contents.Mode.{Mode}
-use Rattle.certificate.specs.declared.contents.Mode.TheVariants.{Unset, Set}
+use Rattle.abs_state.specs.declared.mode.Mode.{Mode}
+use Rattle.abs_state.specs.declared.mode.Mode.TheVariants.{Unset, Set, Nmi}
 use Rattle.certificate.specs.declared.line.Line.{Line}
 use Rattle.certificate.specs.declared.line.Line.TheVariants as lines
 use Rattle.certificate.specs.Fields.{fields_in}
@@ -19,6 +19,7 @@ cut bytes = map fields_in (slice_split (λ b. b == 10) bytes)
 plain_mode : (m : Mode) → IsPlain (mode_letter m)
 plain_mode Unset = plain_from_test (codes "u") refl
 plain_mode Set = plain_from_test (codes "s") refl
+plain_mode Nmi = plain_from_test (codes "n") refl
 
 -- no field of a line has a space or an LF
 plain_line : (line : Line) → IsInRange line → ArePlain (fields_of line)

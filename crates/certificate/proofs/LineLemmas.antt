@@ -3,8 +3,8 @@ use Rattle.std.specs.Fmt.{decimal}
 use Rattle.std.proofs.lemmas.Fmt.{decimal_injective}
 use Rattle.std.proofs.lemmas.Bool.Decides.{nat_tests}
 use Rattle.address_map.specs.declared.region.Region.{Region}
-use Rattle.certificate.specs.declared.contents.Mode.{Mode}
-use Rattle.certificate.specs.declared.contents.Mode.TheVariants.{Unset, Set}
+use Rattle.abs_state.specs.declared.mode.Mode.{Mode}
+use Rattle.abs_state.specs.declared.mode.Mode.TheVariants.{Unset, Set, Nmi}
 use Rattle.certificate.specs.declared.contents.Proc.{Proc}
 use Rattle.certificate.specs.declared.contents.Row.{Row}
 use Rattle.certificate.specs.declared.line.Keyword.{Keyword}
@@ -63,8 +63,13 @@ word_from_decimal m n small_m small_n same = decimal_injective m n (omega arith)
 mode_letter_injective : (m n : Mode) → mode_letter m ≡ mode_letter n → m ≡ n
 mode_letter_injective Unset Unset same = refl
 mode_letter_injective Set Set same = refl
+mode_letter_injective Nmi Nmi same = refl
 mode_letter_injective Unset Set same = absurd (omega (arith, ap (λ xs. get_or xs 0 0) same))
+mode_letter_injective Unset Nmi same = absurd (omega (arith, ap (λ xs. get_or xs 0 0) same))
 mode_letter_injective Set Unset same = absurd (omega (arith, ap (λ xs. get_or xs 0 0) same))
+mode_letter_injective Set Nmi same = absurd (omega (arith, ap (λ xs. get_or xs 0 0) same))
+mode_letter_injective Nmi Unset same = absurd (omega (arith, ap (λ xs. get_or xs 0 0) same))
+mode_letter_injective Nmi Set same = absurd (omega (arith, ap (λ xs. get_or xs 0 0) same))
 
 region_same : (r s : Region) → r.low ≡ s.low → r.top ≡ s.top → r ≡ s
 region_same r s low top =

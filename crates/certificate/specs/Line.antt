@@ -2,8 +2,8 @@
 use Rattle.std.specs.Prelude.{ℕ, List, [], ◌∷◌, ◌++◌, codes, replicate}
 use Rattle.std.specs.Fmt.{decimal}
 use Rattle.certificate.specs.Fields.{IsWord, hex4}
-use Rattle.certificate.specs.declared.contents.Mode.{Mode}
-use Rattle.certificate.specs.declared.contents.Mode.TheVariants.{Unset, Set}
+use Rattle.abs_state.specs.declared.mode.Mode.{Mode}
+use Rattle.abs_state.specs.declared.mode.Mode.TheVariants.{Unset, Set, Nmi}
 use Rattle.certificate.specs.declared.line.Keyword.{Keyword}
 use Rattle.certificate.specs.declared.line.Keyword.TheVariants as keywords
 use Rattle.certificate.specs.declared.line.Line.{Line}
@@ -12,6 +12,7 @@ use Rattle.certificate.specs.declared.line.Line.TheVariants as lines
 abbrev pub mode_letter : Mode → List ℕ
 mode_letter Unset = codes "u"
 mode_letter Set = codes "s"
+mode_letter Nmi = codes "n"
 
 -- a row's ten pairs, of which nothing is known, and its four fields that say nothing
 abbrev pub unknown_fields : List (List ℕ)

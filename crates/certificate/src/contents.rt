@@ -3,6 +3,7 @@
 ghost use Rattle.std.specs.Prelude.{◌≡◌, ◌<◌, ◌≤◌, length};
 ghost use Rattle.certificate.specs.Contents.{RowsRise, MAX_ROW_COUNT};
 
+use abs_state::Mode;
 use address_map::Region;
 use std::marker::Model;
 
@@ -11,15 +12,6 @@ pub(crate) const ROW_LIMIT: usize = 65_535;
 
 // The definitions say it as a number.
 const _: () = prove!(ROW_LIMIT == 65_535);
-
-/// What is known of the stack pointer and the NMI at a row.
-#[derive(Clone, Copy, PartialEq, Eq)]
-pub enum Mode {
-    /// `u`: SP may not be set yet, and no NMI comes.
-    Unset,
-    /// `s`: SP is set, and no NMI comes.
-    Set,
-}
 
 /// A procedure: how it stands in the order of calls, and the bytes of stack that it needs.
 #[derive(Clone, Copy)]

@@ -10,7 +10,8 @@ mod line;
 mod reader;
 mod text;
 
-pub use contents::{Certificate, Mode, Proc, Row};
+pub use abs_state::Mode;
+pub use contents::{Certificate, Proc, Row};
 pub use device::{DeviceFault, Sink, Source};
 pub use fault::CertFault;
 pub use fields::{Fields, decimal_between, flag_field, hex2_field};

@@ -5,8 +5,9 @@ ghost use Rattle.std.specs.Fmt.{decimal};
 ghost use Rattle.certificate.specs.Fields.{Reads, IsWord, fields_in, Always, hex4};
 ghost use Rattle.certificate.specs.Line.{IsInRange, mode_letter, unknown_fields, keyword_text, fields_of};
 
-use crate::contents::{Mode, Proc, Row};
+use crate::contents::{Proc, Row};
 use crate::fields::{Fields, decimal_field, hex4_field};
+use abs_state::Mode;
 use address_map::Region;
 
 /// One line of a certificate's text, with what it says.
@@ -62,6 +63,8 @@ fn mode_field(field: &[u8]) -> Option<Mode>
         Some(Mode::Unset)
     } else if field == b"s".as_slice() {
         Some(Mode::Set)
+    } else if field == b"n".as_slice() {
+        Some(Mode::Nmi)
     } else {
         None
     }

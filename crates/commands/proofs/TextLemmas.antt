@@ -4,11 +4,11 @@ use Rattle.std.specs.Prelude.{min, codes}
 use Rattle.std.specs.Fmt.{decimal}
 use Rattle.std.proofs.lemmas.Bool.{false≢true}
 use Rattle.std.proofs.lemmas.List.{take-replicate}
-use Rattle.cert_checker.specs.Reason.{name_of, number_of}
+use Rattle.abs_step.specs.Reason.{name_of, number_of}
 use Rattle.cert_checker.specs.declared.checking.Refused.{Refused}
 use Rattle.certificate.specs.Contents.{Contents}
 use Rattle.certificate.specs.Device.{Takes}
-use Rattle.commands.specs.Verdict.{accepted_text, detail_of, refused_text, right_in_5}
+use Rattle.commands.specs.Verdict.{accepted_text, detail_of, gap_before, refused_text, right_in_5}
 use Rattle.certificate.specs.Fields.{hex4}
 use Rattle.certificate.proofs.DeviceLemmas.{takes_both}
 
@@ -49,15 +49,16 @@ table r a b c d e f g h certificate depth used size same same_used same_size p q
     then_takes r f g h (decimal (certificate.region.top - certificate.region.low)) _ (subst (λ (n : ℕ). Takes f (decimal n) g) same_size v) w)))))
 
 -- the pieces of a refusal
-pub refusal : {X E : Type 0} (r : Result X E) (a b c d e f g h i : Option (List ℕ)) (refused : Refused) (number : ℕ) (name detail : List ℕ) →
-    number ≡ number_of refused.reason → name ≡ name_of refused.reason → detail ≡ detail_of refused.reason →
+pub refusal : {X E : Type 0} (r : Result X E) (a b c d e f g h i j : Option (List ℕ)) (refused : Refused) (number : ℕ) (name gap detail : List ℕ) →
+    number ≡ number_of refused.reason → name ≡ name_of refused.reason → gap ≡ gap_before detail → detail ≡ detail_of refused.reason →
     Takes a (codes "refused ") b → Takes b (hex4 refused.address) c → Takes c (codes " ") d → Takes d (decimal number) e → Takes e (codes " ") f →
-    Takes f name g → Takes g detail h → OnOk r (Takes h (codes "\n") i) → OnOk r (Takes a (refused_text refused) i)
-refusal r a b c d e f g h i refused number name detail is named told p q s t u v w x =
-    then_takes r a b i _ _ p (
-    then_takes r b c i (hex4 refused.address) _ q (
-    then_takes r c d i _ _ s (
-    then_takes r d e i (decimal (number_of refused.reason)) _ (subst (λ (n : ℕ). Takes d (decimal n) e) is t) (
-    then_takes r e f i _ _ u (
-    then_takes r f g i (name_of refused.reason) _ (subst (λ (xs : List ℕ). Takes f xs g) named v) (
-    then_takes r g h i (detail_of refused.reason) _ (subst (λ (xs : List ℕ). Takes g xs h) told w) x))))))
+    Takes f name g → Takes g gap h → Takes h detail i → OnOk r (Takes i (codes "\n") j) → OnOk r (Takes a (refused_text refused) j)
+refusal r a b c d e f g h i j refused number name gap detail is named parted told p q s t u v w x y =
+    then_takes r a b j _ _ p (
+    then_takes r b c j (hex4 refused.address) _ q (
+    then_takes r c d j _ _ s (
+    then_takes r d e j (decimal (number_of refused.reason)) _ (subst (λ (n : ℕ). Takes d (decimal n) e) is t) (
+    then_takes r e f j _ _ u (
+    then_takes r f g j (name_of refused.reason) _ (subst (λ (xs : List ℕ). Takes f xs g) named v) (
+    then_takes r g h j (gap_before (detail_of refused.reason)) _ (subst (λ (xs : List ℕ). Takes g xs h) (parted ∙ ap gap_before told) w) (
+    then_takes r h i j (detail_of refused.reason) _ (subst (λ (xs : List ℕ). Takes h xs i) told x) y)))))))

@@ -2,11 +2,10 @@
 use Rattle.std.specs.Prelude.{ℕ, ◌-◌, List, [], ◌∷◌, ◌++◌, length, codes, replicate}
 use Rattle.std.specs.Fmt.{decimal}
 use Rattle.std.specs.List.{concat}
-use Rattle.cert_checker.specs.Reason.{number_of, name_of}
+use Rattle.abs_step.specs.Reason.{number_of, name_of, saved_name_of}
 use Rattle.cert_checker.specs.declared.checking.Refused.{Refused}
-use Rattle.cert_checker.specs.declared.reason.Reason.{Reason}
-use Rattle.cert_checker.specs.declared.reason.Reason.TheVariants as reasons
-use Rattle.cert_checker.specs.declared.reason.Saved.TheVariants as saved
+use Rattle.abs_step.specs.declared.reason.Reason.{Reason}
+use Rattle.abs_step.specs.declared.reason.Reason.TheVariants as reasons
 use Rattle.certificate.specs.Contents.{Contents}
 use Rattle.certificate.specs.Fields.{hex4}
 use Rattle.z80_decode.specs.declared.fault.DecodeFault.TheVariants as decoding
@@ -23,16 +22,21 @@ accepted_text c = concat (
 
 -- what is printed behind a reason's name
 abbrev pub detail_of : Reason → List ℕ
-detail_of (reasons.Decode decoding.Truncated) = codes " Truncated"
-detail_of (reasons.Decode decoding.Undocumented) = codes " Undocumented"
-detail_of (reasons.SavedRegister saved.I) = codes " I"
+detail_of (reasons.Decode decoding.Truncated) = codes "Truncated"
+detail_of (reasons.Decode decoding.Undocumented) = codes "Undocumented"
+detail_of (reasons.SavedRegister saved) = saved_name_of saved
 detail_of _ = []
+
+-- the space before a word, if there is one
+abbrev pub gap_before : List ℕ → List ℕ
+gap_before [] = []
+gap_before (letter ∷ letters) = codes " "
 
 -- the line of a refused certificate
 abbrev pub refused_text : Refused → List ℕ
 refused_text r = concat (
     codes "refused " ∷ hex4 r.address ∷ codes " " ∷ decimal (number_of r.reason) ∷ codes " " ∷ name_of r.reason ∷
-    detail_of r.reason ∷ codes "\n" ∷ [])
+    gap_before (detail_of r.reason) ∷ detail_of r.reason ∷ codes "\n" ∷ [])
 
 -- a line that ends in a line's number
 abbrev pub bad_line_text : List ℕ → ℕ → List ℕ

@@ -2,9 +2,9 @@
 
 ghost use Rattle.std.specs.Prelude.{◌≡◌, OnErr, OnOk};
 ghost use Rattle.certificate.specs.Device.{HasGrown, Takes};
-ghost use Rattle.commands.specs.Verdict.{accepted_text, bad_line_text, detail_of, refused_text, right_in_5};
+ghost use Rattle.commands.specs.Verdict.{accepted_text, bad_line_text, detail_of, gap_before, refused_text, right_in_5};
 
-use cert_checker::{Reason, Refused, Saved};
+use cert_checker::{Reason, Refused};
 use certificate::{Certificate, DeviceFault, Sink};
 use itoa::Buffer;
 use runner::{put, put_decimal, put_hex4};
@@ -52,7 +52,9 @@ pub fn write_refused<W: Sink>(refused: &Refused, out: &mut W) -> Result<(), Devi
     put_decimal(out, u128::from(refused.reason.number()))?;
     put(out, b" ")?;
     put(out, refused.reason.name())?;
-    put(out, detail(refused.reason))?;
+    let detail = detail(refused.reason);
+    put(out, gap_before(detail))?;
+    put(out, detail)?;
     put(out, b"\n")
 }
 
@@ -60,11 +62,18 @@ fn detail(reason: Reason) -> &'static [u8]
     ensures { result.now ≡ detail_of reason }
 {
     match reason {
-        Reason::Decode(DecodeFault::Truncated) => b" Truncated",
-        Reason::Decode(DecodeFault::Undocumented) => b" Undocumented",
-        Reason::SavedRegister(Saved::I) => b" I",
+        Reason::Decode(DecodeFault::Truncated) => b"Truncated",
+        Reason::Decode(DecodeFault::Undocumented) => b"Undocumented",
+        Reason::SavedRegister(saved) => saved.name(),
         _ => b"",
     }
+}
+
+/// The space that stands before a word, if there is one.
+fn gap_before(word: &[u8]) -> &'static [u8]
+    ensures { result.now ≡ gap_before word.now }
+{
+    if word.is_empty() { b"" } else { b" " }
 }
 
 /// Writes a line that ends in a line's number, as `bad certificate line 3`.

@@ -1,5 +1,5 @@
--- The order of the pairs of registers.
-use Rattle.std.specs.Prelude.{ℕ}
+-- The order of the pairs of registers, and their names.
+use Rattle.std.specs.Prelude.{ℕ, List, codes}
 use Rattle.intervals.specs.declared.reg_pair.RegPair.{RegPair}
 use Rattle.intervals.specs.declared.reg_pair.RegPair.TheVariants.{Af, Bc, De, Hl, Ix, Iy, AlternateAf, AlternateBc, AlternateDe, AlternateHl}
 
@@ -15,3 +15,16 @@ place_of AlternateAf = 6
 place_of AlternateBc = 7
 place_of AlternateDe = 8
 place_of AlternateHl = 9
+
+-- the name of a pair (UM0080, "CPU Registers")
+abbrev pub name_of : RegPair → List ℕ
+name_of Af = codes "AF"
+name_of Bc = codes "BC"
+name_of De = codes "DE"
+name_of Hl = codes "HL"
+name_of Ix = codes "IX"
+name_of Iy = codes "IY"
+name_of AlternateAf = codes "AF'"
+name_of AlternateBc = codes "BC'"
+name_of AlternateDe = codes "DE'"
+name_of AlternateHl = codes "HL'"

@@ -17,7 +17,7 @@ pub enum RegPair {
 }
 
 impl RegPair {
-    ghost use Rattle.intervals.specs.RegPair.{place_of};
+    ghost use Rattle.intervals.specs.RegPair.{name_of, place_of};
 
     /// The place of the pair in the order AF BC DE HL IX IY AF' BC' DE' HL', 0 to 9.
     pub fn place(self) -> usize
@@ -25,5 +25,23 @@ impl RegPair {
         ensures within { result < 10 }
     {
         self as usize
+    }
+
+    /// The name of the pair, as the manual writes it: `AF`, or `AF'` for that of the alternate set.
+    pub fn name(self) -> &'static [u8]
+        ensures { result.now ≡ name_of self }
+    {
+        match self {
+            RegPair::Af => b"AF",
+            RegPair::Bc => b"BC",
+            RegPair::De => b"DE",
+            RegPair::Hl => b"HL",
+            RegPair::Ix => b"IX",
+            RegPair::Iy => b"IY",
+            RegPair::AlternateAf => b"AF'",
+            RegPair::AlternateBc => b"BC'",
+            RegPair::AlternateDe => b"DE'",
+            RegPair::AlternateHl => b"HL'",
+        }
     }
 }

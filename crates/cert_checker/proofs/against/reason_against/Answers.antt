@@ -1,6 +1,6 @@
 use Rattle.std.proofs.Common.{◌<◌, ℕ, Option, Some, None, IfNone, Ok, Err, refl, length, arith}
 use Rattle.board_step.proofs.DecodedLemmas.{inside}
-use Rattle.cert_checker.specs.declared.reason.Reason.{Reason}
+use Rattle.abs_step.specs.declared.reason.Reason.{Reason}
 use Rattle.cert_checker.proofs.against.reason_against.Goals as goal
 
 pub returns-in-Ok-clause-reason : goal.returns-in-Ok-clause-reason

@@ -2,9 +2,10 @@ use Rattle.std.proofs.Common.{◌≡◌, ◌≢◌, ◌&&◌, ◌+◌, ◌-◌, 
 use Rattle.std.proofs.lemmas.List.{length-drop}
 use Rattle.std.proofs.lemmas.Grind.{common_steps}
 use Rattle.certificate.specs.declared.contents.Row.{Row}
-use Rattle.certificate.specs.declared.contents.Mode.{Mode}
-use Rattle.certificate.specs.declared.contents.Mode.TheVariants.{Unset}
-use Rattle.cert_checker.specs.Covers.{mode_covers, row_covers}
+use Rattle.abs_state.specs.Mode.{covers_mode}
+use Rattle.abs_state.specs.declared.mode.Mode.{Mode}
+use Rattle.abs_state.specs.declared.mode.Mode.TheVariants.{Unset}
+use Rattle.cert_checker.specs.Covers.{row_covers}
 use Rattle.cert_checker.proofs.CoverLemmas.{none_before, none_at_all, found_at, tail_at, tail_within, tail_is}
 use Rattle.cert_checker.proofs.covering.covers.Goals as goal
 
@@ -12,10 +13,10 @@ use Rattle.cert_checker.proofs.covering.covers.Goals as goal
 abbrev blank : Row
 blank = record { address = 0; mode = Unset }
 
-covering : (address : ℕ) (mode : Mode) (row : Row) → row.address ≡ address → mode_covers row.mode mode ≡ true → row_covers address mode row ≡ true
+covering : (address : ℕ) (mode : Mode) (row : Row) → row.address ≡ address → covers_mode row.mode mode ≡ true → row_covers address mode row ≡ true
 covering address mode row at covers =
     let h : nat_eq row.address address ≡ true = grind (arith, common_steps) in
-    ap (λ (b : Bool). b && mode_covers row.mode mode) h ∙ covers
+    ap (λ (b : Bool). b && covers_mode row.mode mode) h ∙ covers
 
 pub returns-then-row-address : goal.returns-then-row-address
 returns-then-row-address c =
@@ -24,11 +25,11 @@ returns-then-row-address c =
     (tail_within _ _ _ c.loop-row-test.true)
     (subst (λ (row : Row). row.address ≢ c.args.address) at c.if-row-address.true))
 
-pub returns-then-mode_includes : goal.returns-then-mode_includes
-returns-then-mode_includes c =
+pub returns-then-covers : goal.returns-then-covers
+returns-then-covers c =
     let at = tail_at c.args.rows.now c.first_from-first.result c.loop-row.row-index blank in
-    let covers : mode_covers (get_or (take (length c.args.rows.now - c.first_from-first.result) (drop c.first_from-first.result c.args.rows.now)) c.loop-row.row-index blank).mode c.args.mode ≡ true =
-    sym c.mode_includes.ensures ∙ c.if-mode_includes.true in
+    let covers : covers_mode (get_or (take (length c.args.rows.now - c.first_from-first.result) (drop c.first_from-first.result c.args.rows.now)) c.loop-row.row-index blank).mode c.args.mode ≡ true =
+    sym c.covers.ensures ∙ c.if-covers.true in
     sym (found_at _ _ _ (c.first_from-first.result + c.loop-row.row-index) blank (tail_within _ _ _ c.loop-row-test.true)
     (subst (λ (row : Row). row_covers c.args.address c.args.mode row ≡ true) at (covering _ _ _ c.if-row-address.false covers)))
 
