@@ -1,0 +1,5 @@
+// What is known while an instruction goes through its moves stays true of what the machine does (docs/CHECKER.md, "The
+// abstract step"): for each kind of move, the abstract one contains the machine's. Each law is the contract of a function
+// with an empty body.
+#![tactic(auto)]
+
