@@ -3,3 +3,7 @@ pub mod Parts
 pub mod Puts
 pub mod Numbers
 pub mod Results
+pub mod Writes
+pub mod EachMove
+pub mod CalmMoves
+pub mod Ranges

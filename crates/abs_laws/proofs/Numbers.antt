@@ -1,20 +1,17 @@
 -- What operations make of values lies in what they make of ranges, and variables that count follow.
-use Rattle.std.proofs.Common.{◌≡◌, ℕ, ◌+◌, ◌-◌, ◌*◌, ◌/◌, ◌%◌, ◌^◌, ◌<◌, ◌≤◌, min, max, Bool, true, false, cond, eqb, ltb, leb, refl, arith, rules, sym, ◌∙◌, ap, subst, ℤ, pos, ◌+ℤ◌, ◌-ℤ◌, bit_and, bit_or, bit_xor}
-use Rattle.std.specs.Int.{from_bool}
+use Rattle.std.proofs.Common.{◌≡◌, ℕ, ◌+◌, ◌-◌, ◌%◌, ◌<◌, Bool, true, false, cond, ltb, refl, arith, rules, ◌∙◌, ap, pos, ◌+ℤ◌, ◌-ℤ◌}
 use Rattle.std.proofs.lemmas.Int.{ints}
 use Rattle.std.proofs.lemmas.Bool.Decides.{nat_tests}
 use Rattle.z80_alu.proofs.BitTests.{from_bool_le}
 use Rattle.z80_alu.specs.Add.{sum8, difference8}
 use Rattle.z80_alu.specs.Words.{sum16, difference16}
 use Rattle.z80_draft.specs.Draft.{displaced}
-use Rattle.intervals.specs.Range.{Interval, Within, full}
-use Rattle.intervals.specs.Logic.{ones_from, disjunction, exclusive_disjunction}
+use Rattle.intervals.specs.Range.{Interval, Within}
 use Rattle.intervals.specs.Sums.{sum, sum_with_carry, difference, difference_with_carry, increment, decrement, negation, displacement, displacement_of}
-use Rattle.intervals.proofs.Bytes.{or_within, xor_within}
 use Rattle.intervals.proofs.Laws.{window_of_bytes, window_of_words, displacement_of_words}
 use Rattle.loop_bounds.specs.Effect.{Valuation}
 use Rattle.loop_bounds.specs.declared.effect.Change.{Change}
-use Rattle.loop_bounds.specs.declared.effect.Change.TheVariants.{Old, Raised, Lowered, Constant, Unknown}
+use Rattle.loop_bounds.specs.declared.effect.Change.TheVariants.{Old, Raised, Lowered, Unknown}
 use Rattle.abs_draft.specs.Known.{raised, lowered}
 use Rattle.abs_laws.specs.Fits.{Follows}
 

@@ -1,12 +1,11 @@
 -- What is known of a draft, register by register; and how it stays true where the registers and the state change.
-use Rattle.std.proofs.Common.{◌≡◌, ◌<◌, ◌≤◌, ◌+◌, ◌*◌, ◌/◌, ◌%◌, ℕ, zero, suc, Bool, true, false, refl, sym, ◌∙◌, ap, subst, arith, rules, List, [], ◌∷◌, length, Option, Some, None}
+use Rattle.std.proofs.Common.{◌≡◌, ◌<◌, ◌+◌, ◌*◌, ◌/◌, ◌%◌, ℕ, zero, suc, Bool, false, refl, sym, ◌∙◌, subst, arith, List, [], length, Option, Some, None}
 use Rattle.intervals.specs.Domain.{Entry}
 use Rattle.intervals.specs.Pair.{HoldsPair}
-use Rattle.intervals.specs.Range.{Interval, Within}
+use Rattle.intervals.specs.Range.{Within}
 use Rattle.intervals.proofs.PairChanges.{written_word_holds}
 use Rattle.loop_bounds.specs.Effect.{Valuation, change_of}
 use Rattle.loop_bounds.specs.declared.effect.Change.{Change}
-use Rattle.loop_bounds.specs.declared.effect.Change.TheVariants.{Unknown}
 use Rattle.loop_bounds.specs.declared.effect.Effect.{Effect}
 use Rattle.loop_bounds.specs.declared.variable.Variable.{Variable}
 use Rattle.loop_bounds.specs.declared.variable.Variable.TheVariants as variables
@@ -23,7 +22,6 @@ use Rattle.abs_state.specs.Cell.{HoldsCells}
 use Rattle.abs_state.specs.CutLaws.{byte_lies}
 use Rattle.abs_state.specs.Fact.{HoldsFact}
 use Rattle.abs_state.specs.Holds.{Holds, HoldsMode}
-use Rattle.abs_state.specs.Seen.{Seen}
 use Rattle.abs_state.specs.Variables.{value_in}
 use Rattle.abs_state.specs.declared.fact.FlagFact.{FlagFact}
 use Rattle.abs_state.specs.declared.fact.FlagFact.TheVariants.{Zero, Compared}

@@ -1,5 +1,5 @@
 -- What a written register leaves is true of the draft.
-use Rattle.std.proofs.Common.{◌≡◌, ◌<◌, ◌≤◌, ◌+◌, ◌*◌, ◌/◌, ◌%◌, ℕ, Bool, true, false, refl, sym, ◌∙◌, ap, subst, arith, rules, List, [], ◌∷◌, length, Option, Some, None}
+use Rattle.std.proofs.Common.{◌≡◌, ◌<◌, ◌+◌, ◌*◌, ◌/◌, ◌%◌, ℕ, refl, sym, subst, arith, List, [], length, Option, None}
 use Rattle.intervals.specs.Domain.{Entry}
 use Rattle.intervals.specs.Pair.{HoldsPair, written_bytes, written_word}
 use Rattle.intervals.specs.Range.{Interval, Within, full}
@@ -13,8 +13,8 @@ use Rattle.loop_bounds.specs.declared.effect.Change.TheVariants.{Unknown}
 use Rattle.loop_bounds.specs.declared.effect.Effect.{Effect}
 use Rattle.loop_bounds.specs.declared.variable.Variable.{Variable}
 use Rattle.loop_bounds.specs.declared.variable.Variable.TheVariants as variables
-use Rattle.z80_alu.proofs.FlagsLemmas.{flags_byte-lt, flags_of-flags_byte}
-use Rattle.z80_alu.specs.Flags.{flags_byte, flags_of}
+use Rattle.z80_alu.proofs.FlagsLemmas.{flags_byte-lt}
+use Rattle.z80_alu.specs.Flags.{flags_byte}
 use Rattle.z80_alu.specs.declared.flags.Flags.{Flags}
 use Rattle.z80_alu.specs.declared.regs.Regs.{Regs}
 use Rattle.z80_decode.specs.declared.operands.Register8.{Register8}
@@ -35,7 +35,7 @@ use Rattle.abs_draft.specs.Ground.{Ground}
 use Rattle.abs_draft.specs.Known.{with_byte_change, with_parts, set_byte, set_pair, put_byte, put_pair, put_word, put_flags}
 use Rattle.abs_draft.specs.declared.known.Known.{Known}
 use Rattle.abs_laws.specs.Fits.{Fits, Follows, IsThere, seen_by}
-use Rattle.abs_laws.proofs.Parts.{PartsFollow, IsChange, changed_so, held, high_small, low_small, same_fact}
+use Rattle.abs_laws.proofs.Parts.{PartsFollow, changed_so, held, high_small, low_small, same_fact}
 
 -- ---- a byte register
 

@@ -1,9 +1,7 @@
 -- What logic, shifts and rotations make of bytes lies in what is known of it.
-use Rattle.std.proofs.Common.{◌≡◌, ℕ, ◌+◌, ◌-◌, ◌*◌, ◌/◌, ◌%◌, ◌^◌, ◌<◌, ◌≤◌, Bool, true, false, cond, not, eqb, ltb, refl, arith, rules, sym, ◌∙◌, ap, subst, bit_and, bit_or, bit_xor}
-use Rattle.std.proofs.lemmas.Bool.Decides.{nat_tests}
+use Rattle.std.proofs.Common.{◌≡◌, ℕ, ◌+◌, ◌*◌, ◌/◌, ◌%◌, ◌<◌, ◌≤◌, Bool, true, eqb, refl, arith}
 use Rattle.std.proofs.lemmas.Bool.{agree_below, agree_below_at, eqb-true}
 use Rattle.z80_alu.specs.Bits.{bit_set, bit_reset}
-use Rattle.z80_alu.specs.Flags.{has_bit}
 use Rattle.z80_alu.specs.Shift.{shifted}
 use Rattle.z80_alu.proofs.RangeLemmas.{shifted-lt, bit_set-lt, bit_reset-lt}
 use Rattle.z80_decode.specs.Kinds.{bit}
@@ -23,7 +21,7 @@ use Rattle.abs_draft.specs.Results.{shift_range, rotate_range}
 pub in_full : (n : ℕ) → n < 256 → Within (full 256) n
 in_full n h = omega arith
 
-at_most_byte : (n : ℕ) → n < 256 → n ≤ 255
+pub at_most_byte : (n : ℕ) → n < 256 → n ≤ 255
 at_most_byte n h = omega arith
 
 -- ---- shifts and rotations

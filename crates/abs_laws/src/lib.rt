@@ -3,3 +3,6 @@
 // with an empty body.
 #![tactic(auto)]
 
+mod moves;
+
+pub use moves::{calm_moves_fit, constants_are_in_range};
