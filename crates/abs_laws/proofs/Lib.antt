@@ -7,3 +7,6 @@ pub mod Writes
 pub mod EachMove
 pub mod CalmMoves
 pub mod Ranges
+pub mod Tests
+pub mod Lists
+pub mod Settled

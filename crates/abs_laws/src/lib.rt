@@ -4,5 +4,7 @@
 #![tactic(auto)]
 
 mod moves;
+mod outcomes;
 
 pub use moves::{calm_moves_fit, constants_are_in_range};
+pub use outcomes::{lists_fit, lists_go_by_their_test, settled_effects_follow, tests_fit};
