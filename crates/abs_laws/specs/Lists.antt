@@ -1,0 +1,20 @@
+-- The moves of a list before its test and behind it.
+use Rattle.std.specs.Prelude.{◌≡◌, ◌+◌, List, None}
+use Rattle.z80_draft.specs.Draft.{Draft, test_holds}
+use Rattle.z80_draft.specs.Room.{accesses_in, writes_in}
+use Rattle.z80_moves.specs.declared.moves.Move.{Move}
+use Rattle.z80_moves.specs.declared.moves.Test.{Test}
+use Rattle.abs_draft.specs.Outcomes.{before_test, behind_test, test_of}
+use Rattle.abs_laws.specs.Fits.{AreInRange}
+
+-- a draft that tells how the test came out on it
+abbrev pub marked : Test → Draft → Draft
+marked test d = record d { taken = test_holds test d }
+
+-- what stands before the test and behind it has the constants, the data writes and the stack accesses of the list between
+-- them, and no test stands before the test
+pub record IsParted (moves : List Move) : Type 0 where
+  pub before_has_none : test_of (before_test moves) ≡ None
+  pub in_range : AreInRange moves → AreInRange (before_test moves) × AreInRange (behind_test moves)
+  pub writes : writes_in (before_test moves) + writes_in (behind_test moves) ≡ writes_in moves
+  pub accesses : accesses_in (before_test moves) + accesses_in (behind_test moves) ≡ accesses_in moves

@@ -1,0 +1,10 @@
+// What is known while an instruction goes through its moves stays true of what the machine does (docs/CHECKER.md, "The
+// abstract step"): for each kind of move, the abstract one contains the machine's. Each law is the contract of a function
+// with an empty body.
+#![tactic(auto)]
+
+mod moves;
+mod outcomes;
+
+pub use moves::{calm_moves_fit, constants_are_in_range};
+pub use outcomes::{lists_fit, lists_go_by_their_test, settled_effects_follow, tests_fit};
