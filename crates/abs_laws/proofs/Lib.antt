@@ -10,3 +10,5 @@ pub mod Ranges
 pub mod Tests
 pub mod Lists
 pub mod Settled
+pub mod FirstKnown
+pub mod StackMoves
