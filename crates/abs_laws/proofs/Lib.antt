@@ -12,3 +12,4 @@ pub mod Lists
 pub mod Settled
 pub mod FirstKnown
 pub mod StackMoves
+pub mod Reading
