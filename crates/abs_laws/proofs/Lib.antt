@@ -10,3 +10,6 @@ pub mod Ranges
 pub mod Tests
 pub mod Lists
 pub mod Settled
+pub mod FirstKnown
+pub mod StackMoves
+pub mod Reading

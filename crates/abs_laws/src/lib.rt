@@ -5,6 +5,10 @@
 
 mod moves;
 mod outcomes;
+mod rows;
+mod stack;
 
 pub use moves::{calm_moves_fit, constants_are_in_range};
 pub use outcomes::{lists_fit, lists_go_by_their_test, settled_effects_follow, tests_fit};
+pub use rows::{first_known_fits, reads_fit};
+pub use stack::{exchanges_fit, pops_fit, pushes_fit};
