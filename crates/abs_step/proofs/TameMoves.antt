@@ -1,11 +1,12 @@
 -- Tame moves: they make no access of the stack, and neither tell an outcome, halt nor write I; and the program counter, where
 -- one address is known of it, goes to one.
 use Rattle.std.proofs.Common.{◌≡◌, ◌∙◌, ℕ, Bool, true, false, not, ◌&&◌, ◌||◌, List, [], ◌∷◌, Option, Some, None, refl, sym, ap, subst, arith}
-use Rattle.std.specs.Prelude.{◌==◌, ◌+◌}
+use Rattle.std.specs.Prelude.{◌==◌, ◌+◌, ◌/◌}
+use Rattle.std.proofs.lemmas.Grind.{common_steps}
 use Rattle.std.proofs.Math.Bool.{cond}
 use Rattle.std.proofs.lemmas.Bool.{and_parts, eqb-true}
 use Rattle.intervals.specs.Range.{Interval}
-use Rattle.intervals.specs.Sums.{displacement}
+use Rattle.intervals.specs.Sums.{displacement, window}
 use Rattle.intervals.specs.declared.pair.Pair.{Pair}
 use Rattle.loop_bounds.specs.declared.effect.Change.{Change}
 use Rattle.z80_decode.specs.declared.kinds.ArithmeticKind.{ArithmeticKind}
@@ -24,18 +25,17 @@ use Rattle.abs_draft.specs.Ground.{Ground}
 use Rattle.abs_draft.specs.Known.{put_byte, put_pair}
 use Rattle.abs_draft.specs.Outcomes.{after_moves, before_test, behind_test, test_in, test_of}
 use Rattle.abs_draft.specs.declared.known.Known.{Known}
-use Rattle.abs_draft.specs.declared.known.Parts.{Parts}
 
-pub is_i : ByteRegister → Bool
+abbrev pub is_i : ByteRegister → Bool
 is_i bytes.I = true
 is_i _ = false
 
-pub is_pc : WordRegister → Bool
+abbrev pub is_pc : WordRegister → Bool
 is_pc words.Pc = true
 is_pc _ = false
 
 -- whether a move is not tame
-pub is_wild : Move → Bool
+abbrev pub is_wild : Move → Bool
 is_wild (SetByte r n) = is_i r
 is_wild (CopyByte to from) = is_i to
 is_wild (ReadByte r at) = is_i r
@@ -121,11 +121,11 @@ byte_pc bytes.I range change k = refl
 byte_pc bytes.Operand range change k = refl
 byte_pc _ range change k = refl
 
-pair_pc : (w : WordRegister) (pair : Pair) (parts : Parts) (k : Known) → is_pc w ≡ false → (put_pair w pair parts k).pc ≡ k.pc
-pair_pc words.Pc pair parts k h = absurd (cc)
-pair_pc words.Sp pair parts k h = refl
-pair_pc words.Pointer pair parts k h = refl
-pair_pc _ pair parts k h = refl
+pair_pc : (w : WordRegister) (pair : Pair) (word high low : Change) (k : Known) → is_pc w ≡ false → (put_pair w pair (record { word = word; high = high; low = low }) k).pc ≡ k.pc
+pair_pc words.Pc pair word high low k h = absurd (cc)
+pair_pc words.Sp pair word high low k h = refl
+pair_pc words.Pointer pair word high low k h = refl
+pair_pc _ pair word high low k h = refl
 
 operated_pc : (kind : ArithmeticKind) (r : ByteRegister) (k : Known) → (operated kind r k).pc ≡ k.pc
 operated_pc operations.Compare r k = refl
@@ -134,14 +134,17 @@ operated_pc _ r k = refl
 still : (new old : Interval) → new ≡ old → IsOne old → IsOne new
 still new old e h = subst IsOne (sym e) h
 
-displaced_one : (range : Interval) (d : ℕ) → IsOne range → IsOne (displacement range d)
-displaced_one range d h = rw h refl
+window_one : (n : ℕ) → IsOne (window 65536 n n)
+window_one n = let e : (n / 65536 == n / 65536) ≡ true = grind (arith, common_steps) in rw e refl
 
-set_one : (w : WordRegister) (pair : Pair) (parts : Parts) (k : Known) → IsOne pair.word → IsOne k.pc → IsOne (put_pair w pair parts k).pc
-set_one words.Pc pair parts k one h = one
-set_one words.Sp pair parts k one h = h
-set_one words.Pointer pair parts k one h = h
-set_one _ pair parts k one h = h
+displaced_one : (range : Interval) (d : ℕ) → IsOne range → IsOne (displacement range d)
+displaced_one range d h = rw h (window_one _)
+
+set_one : (w : WordRegister) (pair : Pair) (word high low : Change) (k : Known) → IsOne pair.word → IsOne k.pc → IsOne (put_pair w pair (record { word = word; high = high; low = low }) k).pc
+set_one words.Pc pair word high low k one h = one
+set_one words.Sp pair word high low k one h = h
+set_one words.Pointer pair word high low k one h = h
+set_one _ pair word high low k one h = h
 
 displace_pc : (w : WordRegister) (g : Ground) (inline : Bool) (d : ℕ) (k : Known) → IsOne k.pc → IsOne (after_move g inline (Displace w d) k).pc
 unfolding after_move
@@ -153,12 +156,12 @@ displace_pc _ g inline d k h = h
 pub move_pc : (g : Ground) (inline : Bool) (m : Move) (k : Known) → is_wild m ≡ false → IsOne k.pc → IsOne (after_move g inline m k).pc
 unfolding after_move
 move_pc g inline (SetByte r n) k h one = still _ _ (byte_pc r _ _ k) one
-move_pc g inline (SetWord w nn) k h one = set_one w _ _ k refl one
+move_pc g inline (SetWord w nn) k h one = set_one w _ _ _ _ k refl one
 move_pc g inline (CopyByte to from) k h one = still _ _ (byte_pc to _ _ k) one
-move_pc g inline (CopyWord to from) k h one = still _ _ (pair_pc to _ _ k h) one
+move_pc g inline (CopyWord to from) k h one = still _ _ (pair_pc to _ _ _ _ k h) one
 move_pc g inline (Displace w d) k h one = displace_pc w g inline d k one
 move_pc g inline (ReadByte r at) k h one = still _ _ (byte_pc r _ _ k) one
-move_pc g inline (ReadWord w at) k h one = still _ _ (pair_pc w _ _ k h) one
+move_pc g inline (ReadWord w at) k h one = still _ _ (pair_pc w _ _ _ _ k h) one
 move_pc g inline (Push w) k h one = absurd (cc)
 move_pc g inline (Pop w) k h one = absurd (cc)
 move_pc g inline (ExchangeStack w) k h one = absurd (cc)
@@ -167,11 +170,11 @@ move_pc g inline (Increment r) k h one = still _ _ (byte_pc r _ _ k) one
 move_pc g inline (Decrement r) k h one = still _ _ (byte_pc r _ _ k) one
 move_pc g inline (CountDown r) k h one = still _ _ (byte_pc r _ _ k) one
 move_pc g inline (Shift kind r) k h one = still _ _ (byte_pc r _ _ k) one
-move_pc g inline (AddWord to w) k h one = still _ _ (pair_pc to _ _ k h) one
-move_pc g inline (AddCarryWord to w) k h one = still _ _ (pair_pc to _ _ k h) one
-move_pc g inline (SubtractCarryWord to w) k h one = still _ _ (pair_pc to _ _ k h) one
-move_pc g inline (IncrementWord w) k h one = still _ _ (pair_pc w _ _ k h) one
-move_pc g inline (DecrementWord w) k h one = still _ _ (pair_pc w _ _ k h) one
+move_pc g inline (AddWord to w) k h one = still _ _ (pair_pc to _ _ _ _ k h) one
+move_pc g inline (AddCarryWord to w) k h one = still _ _ (pair_pc to _ _ _ _ k h) one
+move_pc g inline (SubtractCarryWord to w) k h one = still _ _ (pair_pc to _ _ _ _ k h) one
+move_pc g inline (IncrementWord w) k h one = still _ _ (pair_pc w _ _ _ _ k h) one
+move_pc g inline (DecrementWord w) k h one = still _ _ (pair_pc w _ _ _ _ k h) one
 move_pc g inline (SetBit b r) k h one = still _ _ (byte_pc r _ _ k) one
 move_pc g inline (ResetBit b r) k h one = still _ _ (byte_pc r _ _ k) one
 move_pc g inline Halt k h one = absurd (cc)
