@@ -13,3 +13,5 @@ pub mod Settled
 pub mod FirstKnown
 pub mod StackMoves
 pub mod Reading
+pub mod Ways
+pub mod Short

@@ -20,15 +20,15 @@ use Rattle.abs_laws.proofs.CalmMoves.{calm_fits}
 
 -- ---- the test of a list
 
-first_none : (a b : Option Test) → test_or a b ≡ None → a ≡ None
+pub first_none : (a b : Option Test) → test_or a b ≡ None → a ≡ None
 first_none None b e = refl
 first_none (Some test) b e = absurd (cc)
 
-second_none : (a b : Option Test) → test_or a b ≡ None → b ≡ None
+pub second_none : (a b : Option Test) → test_or a b ≡ None → b ≡ None
 second_none None b e = e
 second_none (Some test) b e = absurd (cc)
 
-goes : (m : Move) (d : Draft) → test_in m ≡ None → goes_on m d ≡ true
+pub goes : (m : Move) (d : Draft) → test_in m ≡ None → goes_on m d ≡ true
 goes (OnlyIf test) d e = absurd (cc)
 goes _ d e = refl
 

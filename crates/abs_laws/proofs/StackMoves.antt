@@ -30,7 +30,7 @@ use Rattle.abs_state.specs.Variables.{part_of, value_in}
 use Rattle.abs_state.specs.declared.state.AbsState.{AbsState}
 use Rattle.abs_draft.specs.AfterMove.{after_move, take_slot}
 use Rattle.abs_draft.specs.Ground.{Ground}
-use Rattle.abs_draft.specs.Known.{known_pair, last_slot, parts_of, pop_pair, push_pair, put_last, put_pair, slot_parts}
+use Rattle.abs_draft.specs.Known.{without_last, known_pair, last_slot, parts_of, pop_pair, push_pair, put_last, put_pair, slot_parts}
 use Rattle.abs_draft.specs.declared.known.Known.{Known}
 use Rattle.abs_laws.specs.Fits.{Fits, Follows, IsThere, seen_by}
 use Rattle.abs_laws.proofs.Parts.{PartsFollow, pair_holds, parts_follow, rest_changed}
@@ -273,3 +273,40 @@ module _ (g : Ground) (start : AbsState) (o : Outside) (k : Known) (entry : Entr
       let kept = take_keeps w (last_slot k.state.shape).pair parts.word parts.high parts.low k in
       put_last_done g start (take_slot w k) entry before (read_word o w d.regs.sp e) rest word (known_pair w k) (parts_of w k.effect).word (parts_of w k.effect).high (parts_of w k.effect).low n
       (pair_holds g start k entry before d (rest ++ word ∷ []) f w) (parts_follow g start k entry before d (rest ++ word ∷ []) f w) (kept.1 ∙ none) (taken_done rest word w e small found written)
+
+-- ---- a return with no word of its own on the stack
+
+empty_popped : (slots : List Slot) (entry : Entry) → HoldsShape slots entry [] → HoldsShape (without_last slots) entry []
+empty_popped [] entry h = tt
+empty_popped (s ∷ ss) entry h = absurd h
+
+nothing_known : (slots : List Slot) (entry : Entry) (n : ℕ) → n < 65536 → HoldsShape slots entry [] → HoldsPair (last_slot slots).pair entry n
+nothing_known [] entry n small h = record { word = omega arith; high = omega arith; low = omega arith; origin = tt }
+nothing_known (s ∷ ss) entry n small h = absurd h
+
+pub return_fits : (g : Ground) (start : AbsState) (o : Outside) (inline : Bool) (k : Known) (entry : Entry) (before : Valuation) (d : Draft) → word_read o d.has_read d.regs.sp < 65536 → Fits g start k entry before d []
+    → Fits g start (after_move g inline (Pop words.Pc) k) entry before (moved o (Pop words.Pc) d) []
+unfolding after_move moved
+return_fits g start o inline k entry before d small f =
+    let n = word_read o d.has_read d.regs.sp in
+    let e = with_word words.Sp (above d.regs.sp 2) (stack_read (above d.regs.sp 1) (stack_read d.regs.sp d)) in
+    let moved_sp : Fits g start k entry before e [] = sp_moved (above d.regs.sp 2) e.stack (above_small d.regs.sp 2) f in
+    let came = pair_done g start k entry before e [] (last_slot k.state.shape).pair Unknown Unknown Unknown n small (nothing_known k.state.shape entry n small f.shape) (record { of_word = refl; of_high = refl; of_low = refl }) moved_sp words.Pc in
+    let new = with_word words.Pc n e in
+    let done = rest_changed came true new.taken new.halts new.stack in
+    record {
+      regs = done.regs;
+      operand_byte = done.operand_byte;
+      pointer_word = done.pointer_word;
+      pairs = done.pairs;
+      flag = done.flag;
+      shape = empty_popped k.state.shape entry f.shape;
+      operand = done.operand;
+      pointer = done.pointer;
+      pc = done.pc;
+      follows = done.follows;
+      writes = done.writes;
+      mode = done.mode;
+      armed = done.armed;
+      readable = done.readable;
+    }

@@ -126,7 +126,7 @@ test_fits g start test is k entry before d stack e f = known_fits g start k entr
 pub taken_fits : (g : Ground) (start : AbsState) (k : Known) (entry : Entry) (before : Valuation) (d : Draft) (stack : List ℕ) (taken : Bool) → Fits g start k entry before d stack → Fits g start k entry before (record d { taken = taken }) stack
 taken_fits g start k entry before d stack taken f = rest_changed f d.has_read taken d.halts d.stack
 
-each_some : {X : Type 0} (o : Option X) (P Q : X → Type 0) → ((x : X) → P x → Q x) → IsSomeAnd o P → IsSomeAnd o Q
+pub each_some : {X : Type 0} (o : Option X) (P Q : X → Type 0) → ((x : X) → P x → Q x) → IsSomeAnd o P → IsSomeAnd o Q
 each_some None P Q h k = k
 each_some (Some x) P Q h k = h x k
 

@@ -9,6 +9,9 @@ mod rows;
 mod stack;
 
 pub use moves::{calm_moves_fit, constants_are_in_range};
-pub use outcomes::{lists_fit, lists_go_by_their_test, settled_effects_follow, tests_fit};
+pub use outcomes::{
+    instructions_are_short, lists_fit, lists_go_by_their_test, settled_effects_follow, tests_fit,
+    ways_fit,
+};
 pub use rows::{first_known_fits, reads_fit};
 pub use stack::{exchanges_fit, pops_fit, pushes_fit};

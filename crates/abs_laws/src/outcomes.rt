@@ -1,12 +1,14 @@
 // Laws of the moves of a list and of its test, and of the effect that they leave.
 
-ghost use Rattle.std.specs.Prelude.{ℕ, ◌+◌, ◌≤◌, ◌≡◌, Bool, List, Some, None, IsSomeAnd, length, if◌then◌else◌};
+ghost use Rattle.std.specs.Prelude.{ℕ, ◌+◌, ◌≤◌, ◌≡◌, Bool, true, false, List, Some, None, IsSomeAnd, length, if◌then◌else◌};
 ghost use Rattle.intervals.specs.Domain.{Entry};
 ghost use Rattle.loop_bounds.specs.Effect.{Valuation, change_of};
 ghost use Rattle.loop_bounds.specs.declared.variable.Variable.{Variable};
 ghost use Rattle.z80_draft.specs.Draft.{Draft, drafted, test_holds};
 ghost use Rattle.z80_draft.specs.Outside.{Outside};
 ghost use Rattle.z80_draft.specs.Room.{accesses_in, writes_in};
+ghost use Rattle.z80_decode.specs.declared.instr.Instr.{Instr};
+ghost use Rattle.z80_moves.specs.Moves.{moves_of};
 ghost use Rattle.z80_moves.specs.declared.moves.Move.{Move};
 ghost use Rattle.z80_moves.specs.declared.moves.Test.{Test};
 ghost use Rattle.abs_state.specs.Variables.{value_in};
@@ -15,7 +17,7 @@ ghost use Rattle.abs_draft.specs.Ground.{Ground};
 ghost use Rattle.abs_draft.specs.Outcomes.{after_moves, before_test, behind_test, settled, test_of, tested};
 ghost use Rattle.abs_draft.specs.declared.known.Known.{Known};
 ghost use Rattle.abs_laws.specs.Fits.{AreInRange, Fits, Follows, IsThere, ReadsFit, seen_by};
-ghost use Rattle.abs_laws.specs.Lists.{IsParted, marked};
+ghost use Rattle.abs_laws.specs.Lists.{IsParted, IsShort, MayRun, marked};
 
 /// A law: where a test came out so, something is left, and it is true of the draft, also of one that tells another outcome;
 /// and whatever outcome a draft tells, what is known of it stays true.
@@ -37,6 +39,21 @@ pub fn lists_go_by_their_test()
     ensures without { (o : Outside) (moves : List Move) (draft : Draft) → test_of moves ≡ None → drafted o moves draft ≡ drafted o (before_test moves) draft }
     ensures with_test { (o : Outside) (moves : List Move) (test : Test) (draft : Draft) → test_of moves ≡ Some test → drafted o moves draft ≡ if test_holds test (drafted o (before_test moves) draft) then drafted o (behind_test moves) (marked test (drafted o (before_test moves) draft)) else marked test (drafted o (before_test moves) draft) }
     ensures parts { (moves : List Move) → IsParted moves }
+{}
+
+/// A law: the moves of an instruction make at most two data writes, before its test, which is the only one.
+pub fn instructions_are_short()
+    ensures { (instr : Instr) → IsShort (moves_of instr) }
+{}
+
+/// A law: both ways of a list. What is known where its test is met is true of the draft there, and with no test at the end;
+/// where the test did not hold the end is there; where it held the moves behind it go on from there.
+pub fn ways_fit()
+    ensures met { (g : Ground) (start : AbsState) (o : Outside) (inline : Bool) (moves : List Move) (k : Known) (entry : Entry) (before : Valuation) (draft : Draft) (words : List ℕ) → MayRun g o k draft moves → Fits g start k entry before draft words → accesses_in (before_test moves) ≡ 0 → Fits g start (after_moves g inline (before_test moves) k) entry before (drafted o (before_test moves) draft) words }
+    ensures straight { (g : Ground) (start : AbsState) (o : Outside) (inline : Bool) (moves : List Move) (k : Known) (entry : Entry) (before : Valuation) (draft : Draft) (words : List ℕ) → MayRun g o k draft moves → Fits g start k entry before draft words → accesses_in moves ≡ 0 → test_of moves ≡ None → Fits g start (after_moves g inline (before_test moves) k) entry before (drafted o moves draft) words }
+    ensures left { (g : Ground) (start : AbsState) (o : Outside) (inline : Bool) (moves : List Move) (k : Known) (entry : Entry) (before : Valuation) (draft : Draft) (words : List ℕ) → MayRun g o k draft moves → Fits g start k entry before draft words → (test : Test) → test_of moves ≡ Some test → accesses_in (before_test moves) ≡ 0 → (drafted o moves draft).taken ≡ false → IsSomeAnd (tested test false (after_moves g inline (before_test moves) k)) (λ n. Fits g start n entry before (drafted o moves draft) words) }
+    ensures held { (g : Ground) (start : AbsState) (o : Outside) (inline : Bool) (moves : List Move) (k : Known) (entry : Entry) (before : Valuation) (draft : Draft) (words : List ℕ) → MayRun g o k draft moves → Fits g start k entry before draft words → (test : Test) → test_of moves ≡ Some test → accesses_in (before_test moves) ≡ 0 → (drafted o moves draft).taken ≡ true → IsSomeAnd (tested test true (after_moves g inline (before_test moves) k)) (λ n. Fits g start n entry before (marked test (drafted o (before_test moves) draft)) words) × (drafted o moves draft ≡ drafted o (behind_test moves) (marked test (drafted o (before_test moves) draft))) }
+    ensures taken { (g : Ground) (start : AbsState) (o : Outside) (inline : Bool) (moves : List Move) (k : Known) (entry : Entry) (before : Valuation) (draft : Draft) (words : List ℕ) → MayRun g o k draft moves → Fits g start k entry before draft words → (test : Test) → test_of moves ≡ Some test → accesses_in moves ≡ 0 → (drafted o moves draft).taken ≡ true → IsSomeAnd (tested test true (after_moves g inline (before_test moves) k)) (λ n. Fits g start (after_moves g inline (behind_test moves) n) entry before (drafted o moves draft) words) }
 {}
 
 /// A law: the effect with its constants first tells what each variable is.

@@ -20,9 +20,11 @@ pub fn pushes_fit()
     ensures called { (g : Ground) (start : AbsState) (o : Outside) (k : Known) (entry : Entry) (before : Valuation) (draft : Draft) (words : List ℕ) → Fits g start k entry before draft words → Fits g start (after_move g false (Push Pc) k) entry before (moved o (Push Pc) draft) words }
 {}
 
-/// A law: of a pop of the word on top, where that is what the machine reads at SP.
+/// A law: of a pop of the word on top, where that is what the machine reads at SP; and of a return with no word of its own on
+/// the stack, which goes to where its caller called.
 pub fn pops_fit()
-    ensures { (g : Ground) (start : AbsState) (o : Outside) (inline : Bool) (register : WordRegister) (k : Known) (entry : Entry) (before : Valuation) (draft : Draft) (rest : List ℕ) (word : ℕ) → word < 65536 → word_read o draft.has_read draft.regs.sp ≡ word → Fits g start k entry before draft (rest ++ word ∷ []) → Fits g start (after_move g inline (Pop register) k) entry before (moved o (Pop register) draft) rest }
+    ensures popped { (g : Ground) (start : AbsState) (o : Outside) (inline : Bool) (register : WordRegister) (k : Known) (entry : Entry) (before : Valuation) (draft : Draft) (rest : List ℕ) (word : ℕ) → word < 65536 → word_read o draft.has_read draft.regs.sp ≡ word → Fits g start k entry before draft (rest ++ word ∷ []) → Fits g start (after_move g inline (Pop register) k) entry before (moved o (Pop register) draft) rest }
+    ensures returned { (g : Ground) (start : AbsState) (o : Outside) (inline : Bool) (k : Known) (entry : Entry) (before : Valuation) (draft : Draft) → word_read o draft.has_read draft.regs.sp < 65536 → Fits g start k entry before draft [] → Fits g start (after_move g inline (Pop Pc) k) entry before (moved o (Pop Pc) draft) [] }
 {}
 
 /// A law: of an exchange of a register with the word on top, where that is what the machine reads at SP.
