@@ -2,3 +2,4 @@
 pub mod Fits
 pub mod Lists
 pub mod Cells
+pub mod Writes

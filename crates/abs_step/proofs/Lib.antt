@@ -1,3 +1,5 @@
 pub mod Answered
+pub mod KnownWrites
+pub mod OneCost
 pub mod TameInstructions
 pub mod TameMoves
