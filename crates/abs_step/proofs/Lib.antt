@@ -1,4 +1,5 @@
 pub mod Answered
+pub mod Asides
 pub mod KnownWrites
 pub mod OneCost
 pub mod TameInstructions
