@@ -1,0 +1,104 @@
+-- An instruction at a row that holds of the board: what is known before its first move, and what a way on keeps.
+use Rattle.std.proofs.Common.{◌≡◌, ◌≢◌, ◌≤◌, ◌<◌, ◌+◌, ◌∙◌, ℕ, Bool, true, false, not, List, [], ◌∷◌, ◌++◌, length, Option, Some, None, Ok, refl, sym, ap, subst, arith, inl, inr}
+use Rattle.std.specs.Prelude.{◌%◌}
+use Rattle.std.specs.List.{All, AllZip}
+use Rattle.intervals.specs.Range.{Within}
+use Rattle.loop_bounds.specs.Effect.{change_of}
+use Rattle.loop_bounds.specs.declared.variable.Variable.{Variable}
+use Rattle.z80_decode.specs.Spelling.{spelling}
+use Rattle.z80_decode.specs.declared.instr.Instr.{Instr}
+use Rattle.z80_draft.specs.Draft.{draft_on, past}
+use Rattle.z80_moves.specs.Moves.{moves_of}
+use Rattle.address_map.specs.declared.region.Region.{Region}
+use Rattle.board_step.specs.Context.{Context, context_of}
+use Rattle.board_step.specs.Decoded.{StandsAt}
+use Rattle.board_step.specs.Hardware.{hardware_of}
+use Rattle.board_step.specs.Reads.{outside_of}
+use Rattle.board_step.specs.State.{State}
+use Rattle.board_step.specs.Step.{done, instr_draft, t_of}
+use Rattle.board_step.specs.declared.env.Env.{Env}
+use Rattle.stack_words.specs.Board.{HasWords}
+use Rattle.stack_words.specs.Words.{on_top}
+use Rattle.stack_words.proofs.Brought.{reaches}
+use Rattle.abs_state.specs.Cell.{HoldsCells}
+use Rattle.abs_state.specs.Fact.{HoldsFact}
+use Rattle.abs_state.specs.Holds.{Holds, HoldsMode}
+use Rattle.abs_state.specs.Pairs.{HoldsPairs}
+use Rattle.abs_state.specs.Seen.{Seen}
+use Rattle.abs_state.specs.Variables.{value_in}
+use Rattle.abs_state.specs.declared.mode.Mode.{Mode}
+use Rattle.abs_state.specs.declared.mode.Mode.TheVariants.{Unset, Nmi}
+use Rattle.abs_state.specs.declared.state.AbsState.{AbsState}
+use Rattle.abs_draft.specs.Ground.{Ground}
+use Rattle.abs_draft.specs.Outcomes.{known_before, settled}
+use Rattle.abs_draft.specs.declared.data_write.DataWrite.{DataWrite}
+use Rattle.abs_draft.specs.declared.known.Known.{Known}
+use Rattle.abs_laws.specs.Cells.{bytes_of_cells}
+use Rattle.abs_laws.specs.Fits.{Fits, Follows, IsThere, LiesIn, ReadsFit, seen_by, state_after_writes}
+use Rattle.abs_laws.specs.Lists.{MayRun}
+use Rattle.abs_laws.proofs.FirstKnown.{first_fits}
+use Rattle.abs_laws.proofs.Ranges.{instruction_in_range}
+use Rattle.abs_laws.proofs.Reading.{outside_fits}
+use Rattle.abs_laws.proofs.Settled.{settled_follows}
+use Rattle.abs_laws.proofs.Short.{short}
+use Rattle.abs_step.specs.Contained.{Before, Goes, Lies, Running, Through, Went, seen_of}
+use Rattle.abs_step.specs.Successors.{next_of}
+use Rattle.abs_step.specs.declared.next.Next.{Next}
+use Rattle.abs_step.specs.declared.next.NextKind.TheVariants as kinds
+use Rattle.abs_step.proofs.Asides.{End}
+use Rattle.abs_step.proofs.TameMoves.{IsOne}
+use Rattle.abs_step.proofs.Uses.{value_same}
+
+-- the board and the environment, on the hardware that a row speaks of
+abbrev pub here : Ground → State → Env → Context
+here g s env = context_of (hardware_of g.rom g.map) s env
+
+-- the state of a known way on, once the stack is set where it was, holds of the board where its mode and its cells do
+pub holds_after : (g : Ground) (s : State) (env : Env) (a : AbsState) (instr : Instr) (running : Running) (k : Known) (before : Variable → ℕ) (words : List ℕ)
+    → Fits g a k running.entry before (instr_draft (here g s env) instr) words
+    → HoldsMode (state_after_writes g k.writes.items a).mode (done (here g s env) instr).enable (done (here g s env) instr).line (done (here g s env) instr).latched
+    → HoldsCells (state_after_writes g k.writes.items a).armed g.cells (bytes_of_cells g.cells (done (here g s env) instr))
+    → Holds k.state g.cells running.entry (seen_of g.cells words (done (here g s env) instr))
+holds_after g s env a instr running k before words f mode cells =
+    let r = reaches g.map (instr_draft (here g s env) instr) s in
+    record {
+      mode = subst (λ (m : Mode). HoldsMode m (done (here g s env) instr).enable (done (here g s env) instr).line (done (here g s env) instr).latched) (sym f.mode) mode;
+      cells_hold = subst (λ (n : ℕ). HoldsCells n g.cells (bytes_of_cells g.cells (done (here g s env) instr))) (sym f.armed) cells;
+      pairs = subst (λ regs. HoldsPairs k.state.pairs running.entry regs) (sym r.regs) f.pairs;
+      flag = subst (λ regs. HoldsFact k.state.flag regs) (sym r.regs) f.flag;
+      shape = f.shape;
+    }
+
+-- its variables come from those before
+pub through_after : (g : Ground) (s : State) (env : Env) (a : AbsState) (instr : Instr) (running : Running) (k : Known) (words : List ℕ)
+    → Fits g a k running.entry (value_in (seen_of g.cells running.words s)) (instr_draft (here g s env) instr) words
+    → (v : Variable) → IsThere (length words) v → Follows (change_of (settled k.state k.effect) v) (value_in (seen_of g.cells running.words s)) (value_in (seen_of g.cells words (done (here g s env) instr)) v)
+through_after g s env a instr running k words f v there =
+    let r = reaches g.map (instr_draft (here g s env) instr) s in
+    let same : value_in (seen_by (instr_draft (here g s env) instr) words) v ≡ value_in (seen_of g.cells words (done (here g s env) instr)) v = value_same (seen_by (instr_draft (here g s env) instr) words) (seen_of g.cells words (done (here g s env) instr)) (sym r.regs) refl v in
+    subst (λ (n : ℕ). Follows (change_of (settled k.state k.effect) v) (value_in (seen_of g.cells running.words s)) n) same (settled_follows g a k running.entry _ _ words f v there)
+
+-- its address is where the program counter is
+pub address_after : (g : Ground) (s : State) (env : Env) (a : AbsState) (instr : Instr) (running : Running) (k : Known) (before : Variable → ℕ) (words : List ℕ)
+    → Fits g a k running.entry before (instr_draft (here g s env) instr) words → IsOne k.pc → (done (here g s env) instr).regs.pc ≡ k.pc.low
+address_after g s env a instr running k before words f one =
+    let r = reaches g.map (instr_draft (here g s env) instr) s in
+    let pc : (done (here g s env) instr).regs.pc ≡ (instr_draft (here g s env) instr).regs.pc = ap (λ regs. regs.pc) r.regs in
+    let within : Within k.pc (instr_draft (here g s env) instr).regs.pc = f.pc in
+    let same : k.pc.low ≡ k.pc.high = one in
+    omega arith
+
+-- what is known before the first move is true, and the list may run
+pub record IsBegun (g : Ground) (address : ℕ) (a : AbsState) (instr : Instr) (running : Running) (s : State) (env : Env) : Type 0 where
+  pub start : Fits g a (known_before address instr a) running.entry (value_in (seen_of g.cells running.words s)) (draft_on (past (length (spelling instr)) s.regs)) running.words
+  pub run : MayRun g (outside_of (here g s env)) (known_before address instr a) (draft_on (past (length (spelling instr)) s.regs)) (moves_of instr)
+
+pub begun : (g : Ground) (address : ℕ) (a : AbsState) (instr : Instr) (region : Region) (running : Running) (s : State) (env : Env)
+    → s.regs.pc ≡ address → StandsAt g.rom address (Ok instr) → Before g.cells region running a (here g s env) → IsBegun g address a instr running s env
+begun g address a instr region running s env at stands b =
+    let reads : ReadsFit g (outside_of (here g s env)) a.armed = outside_fits g (here g s env) a.armed refl refl b.is_region.is_map b.rom_len b.rom b.numbers b.env b.holds.cells_hold in
+    let few = short instr in
+    record {
+      start = first_fits g a address instr running.entry (seen_of g.cells running.words s) b.numbers.regs at b.holds.pairs b.holds.flag b.holds.shape;
+      run = record { in_range = instruction_in_range g.rom address instr b.rom stands; room = omega (arith, few.writes); once = few.once; reads = reads };
+    }
