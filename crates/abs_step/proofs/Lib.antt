@@ -1,5 +1,6 @@
 pub mod Answered
 pub mod Asides
+pub mod GoesAside
 pub mod Here
 pub mod KnownWrites
 pub mod OneCost

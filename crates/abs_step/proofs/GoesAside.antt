@@ -1,0 +1,95 @@
+-- An instruction that leaves SP and the stack alone goes on as its way on says.
+use Rattle.std.proofs.Common.{◌≡◌, ◌≢◌, ◌≤◌, ◌<◌, ◌+◌, ◌∙◌, ℕ, Bool, true, false, not, List, [], ◌∷◌, ◌++◌, length, Option, Some, None, Ok, refl, sym, ap, subst, arith}
+use Rattle.std.specs.List.{All, AllZip}
+use Rattle.intervals.specs.Domain.{Entry}
+use Rattle.stack_shape.specs.Shape.{HoldsShape}
+use Rattle.stack_shape.specs.declared.slot.Slot.{Slot}
+use Rattle.z80_decode.specs.declared.instr.Instr.{Instr}
+use Rattle.z80_draft.specs.declared.access.Write.{Write}
+use Rattle.address_map.specs.AddressMap.{AddressMap}
+use Rattle.address_map.specs.declared.region.Region.{Region}
+use Rattle.board_step.specs.State.{State}
+use Rattle.board_step.specs.Step.{done, instr_draft, t_of}
+use Rattle.board_step.specs.declared.env.Env.{Env}
+use Rattle.stack_words.specs.Board.{HasWords}
+use Rattle.stack_words.specs.Region.{Misses, used}
+use Rattle.stack_words.specs.Uses.{is_aside, sets_sp}
+use Rattle.stack_words.specs.Words.{on_top}
+use Rattle.stack_words.proofs.Bytes.{unused_missed, used_missed}
+use Rattle.stack_words.proofs.EachInstruction.{aside_done}
+use Rattle.stack_words.proofs.EachUse.{told_apart}
+use Rattle.stack_words.proofs.Laid.{placed}
+use Rattle.abs_state.specs.Cell.{HoldsCells}
+use Rattle.abs_state.specs.Holds.{Holds, HoldsMode}
+use Rattle.abs_state.specs.Variables.{value_in}
+use Rattle.abs_state.specs.declared.mode.Mode.{Mode}
+use Rattle.abs_state.specs.declared.mode.Mode.TheVariants.{Unset, Nmi}
+use Rattle.abs_state.specs.declared.state.AbsState.{AbsState}
+use Rattle.abs_draft.specs.Ground.{Ground}
+use Rattle.abs_draft.specs.declared.data_write.DataWrite.{DataWrite}
+use Rattle.abs_laws.specs.Cells.{bytes_of_cells}
+use Rattle.abs_laws.specs.Fits.{state_after_writes}
+use Rattle.abs_step.specs.Contained.{Goes, IsUnder, Lies, Running, Went, seen_of}
+use Rattle.abs_step.specs.Successors.{next_of, stack_set, uses_stack}
+use Rattle.abs_step.specs.declared.next.Next.{Next}
+use Rattle.abs_step.specs.declared.next.NextKind.TheVariants as kinds
+use Rattle.abs_step.proofs.Asides.{End}
+use Rattle.abs_step.proofs.Here.{address_after, here, holds_after, through_after}
+use Rattle.abs_step.proofs.Uses.{no_exchange, no_pop, no_push, stack_same}
+
+-- what the known data writes leave of the mode and of the cells holds of the board
+pub record KeepsBoard (g : Ground) (a : AbsState) (ws : List DataWrite) (new : State) : Type 0 where
+  pub mode : HoldsMode (state_after_writes g ws a).mode new.enable new.line new.latched
+  pub cells : HoldsCells (state_after_writes g ws a).armed g.cells (bytes_of_cells g.cells new)
+  pub unset : a.mode ≡ Unset → (state_after_writes g ws a).mode ≡ Unset
+  pub nmi : a.mode ≡ Nmi → (state_after_writes g ws a).mode ≡ Nmi
+
+-- ---- the part of the region that is in use
+
+in_region : (map : AddressMap) (region : Region) (s : State) (words : List ℕ) → HasWords map region s words → region.low ≤ s.regs.sp
+in_region map region s words h = (placed map region s s.regs.sp words h.is_region h.room h.laid).low
+
+pub misses_used : (map : AddressMap) (region : Region) (s : State) (ws : List Write) (main : Bool) (shape : List Slot) (entry : Entry) (words under : List ℕ) → HasWords map region s (on_top words under) → HoldsShape shape entry words → IsUnder main under
+    → ((main ≡ true → shape ≢ []) → Misses map region ws) → Misses map (used region s) ws
+unfolding on_top
+misses_used map region s ws false shape entry words under h holds low m = used_missed map region ws s (in_region map region s _ h) (m (λ e. absurd (cc)))
+misses_used map region s ws true (slot ∷ slots) entry words under h holds low m = used_missed map region ws s (in_region map region s _ h) (m (λ e same. absurd (cc)))
+misses_used map region s ws true [] entry [] [] h holds low m = unused_missed map region ws s h
+misses_used map region s ws true [] entry [] (word ∷ under) h holds low m = absurd low
+misses_used map region s ws true [] entry (word ∷ words) under h holds low m = absurd holds
+
+-- ---- how it goes
+
+module _ (g : Ground) (s : State) (env : Env) (a : AbsState) (instr : Instr) (main : Bool) (region : Region) (running : Running) (ws : List DataWrite) (nexts : List Next) (sets : sets_sp instr ≡ false) (k : KeepsBoard g a ws (done (here g s env) instr)) (laid : Lies g.map region running a running.words s) (keeps : HasWords g.map region s (on_top running.words running.under) → HasWords g.map region (done (here g s env) instr) (on_top running.words running.under)) where
+  pub goes_aside : End g (here g s env) a instr main kinds.Jump running.entry (value_in (seen_of g.cells running.words s)) running.words ws nexts → Goes g.cells region running a instr nexts (here g s env)
+  goes_aside e =
+      let f = e.fits in
+      let mode : HoldsMode (state_after_writes g e.known.writes.items a).mode (done (here g s env) instr).enable (done (here g s env) instr).line (done (here g s env) instr).latched =
+      subst (λ xs. HoldsMode (state_after_writes g xs a).mode (done (here g s env) instr).enable (done (here g s env) instr).line (done (here g s env) instr).latched) (sym e.writes) k.mode in
+      let cells : HoldsCells (state_after_writes g e.known.writes.items a).armed g.cells (bytes_of_cells g.cells (done (here g s env) instr)) =
+      subst (λ xs. HoldsCells (state_after_writes g xs a).armed g.cells (bytes_of_cells g.cells (done (here g s env) instr))) (sym e.writes) k.cells in
+      let same : stack_set main instr e.known.state ≡ e.known.state = stack_same main instr e.known.state sets in
+      let mode_is : (stack_set main instr e.known.state).mode ≡ (state_after_writes g ws a).mode = ap (λ (x : AbsState). x.mode) same ∙ (f.mode ∙ ap (λ xs. (state_after_writes g xs a).mode) e.writes) in
+      record {
+        next = next_of main instr e.taken kinds.Jump e.known;
+        listed = e.listed;
+        cost = e.cost;
+        stays = λ n. mode_is ∙ k.nmi n;
+        goes = record {
+          words = running.words;
+          pc = address_after g s env a instr running e.known _ running.words f e.one;
+          holds = subst (λ x. Holds x g.cells running.entry (seen_of g.cells running.words (done (here g s env) instr))) (sym same) (holds_after g s env a instr running e.known _ running.words f mode cells);
+          laid = λ set. keeps (laid (λ unset. set (mode_is ∙ k.unset unset)));
+          through = through_after g s env a instr running e.known running.words f;
+        };
+      }
+
+-- an instruction that leaves the stack alone keeps the words
+pub aside_keeps : (g : Ground) (s : State) (env : Env) (a : AbsState) (instr : Instr) (region : Region) (running : Running) → uses_stack instr ≡ false → sets_sp instr ≡ false
+    → HoldsShape a.shape running.entry running.words → IsUnder running.main running.under
+    → ((running.main ≡ true → a.shape ≢ []) → Misses g.map region (instr_draft (here g s env) instr).writes)
+    → HasWords g.map region s (on_top running.words running.under) → HasWords g.map region (done (here g s env) instr) (on_top running.words running.under)
+aside_keeps g s env a instr region running u sets holds under misses h =
+    let taken = (instr_draft (here g s env) instr).taken in
+    let aside : is_aside instr taken ≡ true = told_apart instr taken (no_push instr taken u) (no_pop instr taken u) (no_exchange instr u) sets in
+    (aside_done (here g s env) region instr (on_top running.words running.under) h (misses_used g.map region s _ running.main a.shape running.entry running.words running.under h holds under misses) aside).1
