@@ -18,6 +18,9 @@ use Rattle.board_step.specs.Context.{Context}
 use Rattle.board_step.specs.Env.{IsEnv}
 use Rattle.board_step.specs.Reads.{byte_of_class, byte_read, outside_of}
 use Rattle.board_step.specs.State.{AreBytes, IsState, State}
+use Rattle.z80_draft.proofs.RangeLemmas.{word_read_fits}
+use Rattle.z80_draft.specs.Draft.{word_read}
+use Rattle.z80_draft.specs.Outside.{Outside}
 use Rattle.intervals.specs.Logic.{is_single}
 use Rattle.intervals.specs.Range.{Interval, Within, full, hull, single}
 use Rattle.abs_state.specs.Cell.{HoldsCells}
@@ -128,3 +131,7 @@ outside_fits g c armed rom map is_map long bytes state env h =
       r = env.r;
       found = λ range is_later at small w. read_within c is_map long k g armed rom map h range is_later at w;
     }
+
+-- and so are the words that are read
+pub word_is_read : (g : Ground) (o : Outside) (armed : ℕ) (is_later : Bool) (at : ℕ) → ReadsFit g o armed → word_read o is_later at < 65536
+word_is_read g o armed is_later at reads = word_read_fits o is_later at (record { read = reads.bytes; noise = reads.noise; r = reads.r })

@@ -25,16 +25,17 @@ use Rattle.abs_draft.specs.Ground.{Ground}
 use Rattle.abs_draft.specs.Outcomes.{state_tested, tested}
 use Rattle.abs_draft.specs.declared.known.Known.{Known}
 use Rattle.abs_laws.specs.Fits.{Fits, seen_by}
+use Rattle.abs_laws.specs.Lists.{IsKept}
 use Rattle.abs_laws.proofs.Parts.{changed_so, held, rest_changed}
 
--- ---- a cut keeps the mode and the armed cells
+-- ---- a cut keeps the mode, the armed cells and the shape
 
 abbrev Keeps : AbsState → Option AbsState → Type 0
-Keeps s o = IfSome o (λ t. (t.mode ≡ s.mode) × (t.armed ≡ s.armed))
+Keeps s o = IfSome o (λ t. (t.mode ≡ s.mode) × (t.armed ≡ s.armed) × (t.shape ≡ s.shape))
 
 pair_keeps : (r : RegPair) (cut : Option Pair) (s : AbsState) → Keeps s (with_cut_pair r cut s)
 pair_keeps r None s = tt
-pair_keeps r (Some p) s = (refl, refl)
+pair_keeps r (Some p) s = (refl, refl, refl)
 
 byte_keeps : (r : Register8) (cut : Cut) (s : AbsState) → Keeps s (cut_byte r cut s)
 byte_keeps registers.A cut s = pair_keeps Af _ s
@@ -62,13 +63,13 @@ below_keeps true n s = none_or (eqb n 0) _ s (byte_keeps registers.A (to_range (
 below_keeps false n s = byte_keeps registers.A (to_range (record { low = n; high = 255 })) s
 
 zero_keeps : (is : Bool) (fact : Option FlagFact) (s : AbsState) → Keeps s (zero_is is fact s)
-zero_keeps is None s = (refl, refl)
+zero_keeps is None s = (refl, refl, refl)
 zero_keeps is (Some (Zero r)) s = byte_is_keeps is r 0 s
 zero_keeps is (Some (Compared n)) s = byte_is_keeps is registers.A n s
 
 carry_keeps : (is : Bool) (fact : Option FlagFact) (s : AbsState) → Keeps s (carry_is is fact s)
-carry_keeps is None s = (refl, refl)
-carry_keeps is (Some (Zero r)) s = (refl, refl)
+carry_keeps is None s = (refl, refl, refl)
+carry_keeps is (Some (Zero r)) s = (refl, refl, refl)
 carry_keeps is (Some (Compared n)) s = below_keeps is n s
 
 condition_keeps : (met : Bool) (cc : Condition) (s : AbsState) → Keeps s (condition_is met cc s)
@@ -76,17 +77,17 @@ condition_keeps met conditions.Zero s = zero_keeps met s.flag s
 condition_keeps met conditions.NotZero s = zero_keeps (not met) s.flag s
 condition_keeps met conditions.Carry s = carry_keeps met s.flag s
 condition_keeps met conditions.NotCarry s = carry_keeps (not met) s.flag s
-condition_keeps met conditions.ParityOdd s = (refl, refl)
-condition_keeps met conditions.ParityEven s = (refl, refl)
-condition_keeps met conditions.Plus s = (refl, refl)
-condition_keeps met conditions.Minus s = (refl, refl)
+condition_keeps met conditions.ParityOdd s = (refl, refl, refl)
+condition_keeps met conditions.ParityEven s = (refl, refl, refl)
+condition_keeps met conditions.Plus s = (refl, refl, refl)
+condition_keeps met conditions.Minus s = (refl, refl, refl)
 
 test_keeps : (test : Test) (is : Bool) (s : AbsState) → Keeps s (state_tested test is s)
 test_keeps (tests.Flag cc) is s = condition_keeps is cc s
 test_keeps tests.BNotZero is s = byte_is_keeps (not is) registers.B 0 s
 test_keeps tests.BcNotZero is s = word_is_keeps (not is) Bc 0 s
 test_keeps tests.SearchGoesOn true s = word_is_keeps false Bc 0 s
-test_keeps tests.SearchGoesOn false s = (refl, refl)
+test_keeps tests.SearchGoesOn false s = (refl, refl, refl)
 
 -- ---- a test tells of the state
 
@@ -135,3 +136,15 @@ pub test_fits_taken : (g : Ground) (start : AbsState) (test : Test) (is taken : 
 test_fits_taken g start test is taken k entry before d stack e f =
     each_some (tested test is k) (λ n. Fits g start n entry before d stack) (λ n. Fits g start n entry before (record d { taken = taken }) stack) (λ n h. taken_fits g start n entry before d stack taken h)
     (test_fits g start test is k entry before d stack e f)
+
+-- a test changes neither the effect nor the shape
+tells_the_same : (k : Known) (o : Option AbsState) → Keeps k.state o → IfSome (option_map (λ s. let n : Known = record k { state = s } in n) o) (IsKept k)
+tells_the_same k None h = tt
+tells_the_same k (Some t) h = (refl, h.2)
+
+pub test_tells_the_same : (test : Test) (is : Bool) (k : Known) → IfSome (tested test is k) (IsKept k)
+test_tells_the_same test is k = tells_the_same k (state_tested test is k.state) (test_keeps test is k.state)
+
+pub both_some : {X : Type 0} (o : Option X) (P Q : X → Type 0) → IsSomeAnd o P → IfSome o Q → IsSomeAnd o (λ x. P x × Q x)
+both_some None P Q h k = h
+both_some (Some x) P Q h k = (h, k)

@@ -18,9 +18,9 @@ use Rattle.abs_draft.specs.Ground.{Ground}
 use Rattle.abs_draft.specs.Outcomes.{after_moves, before_test, behind_test, test_in, test_of, tested}
 use Rattle.abs_draft.specs.declared.known.Known.{Known}
 use Rattle.abs_laws.specs.Fits.{Fits, ReadsFit}
-use Rattle.abs_laws.specs.Lists.{MayRun, marked}
+use Rattle.abs_laws.specs.Lists.{IsKept, MayRun, marked}
 use Rattle.abs_laws.proofs.Lists.{first_none, goes, list_fits, parts_of_list, second_none, with_test, without_test}
-use Rattle.abs_laws.proofs.Tests.{each_some, test_fits_taken}
+use Rattle.abs_laws.proofs.Tests.{both_some, each_some, test_fits_taken, test_tells_the_same}
 
 -- ---- a move that is no test keeps the outcome
 
@@ -121,9 +121,13 @@ module _ (g : Ground) (start : AbsState) (o : Outside) (inline : Bool) (ms : Lis
 
     -- where it held, before the moves behind it
     pub goes_held : accesses_in (before_test ms) ≡ 0 → (drafted o ms d).taken ≡ true
-        → IsSomeAnd (tested test true (after_moves g inline (before_test ms) k)) (λ n. Fits g start n entry before (marked test (drafted o (before_test ms) d)) stack)
+        → IsSomeAnd (tested test true (after_moves g inline (before_test ms) k)) (λ n. Fits g start n entry before (marked test (drafted o (before_test ms) d)) stack × IsKept (after_moves g inline (before_test ms) k) n)
         × (drafted o ms d ≡ drafted o (behind_test ms) (marked test (drafted o (before_test ms) d)))
-    goes_held calm h = (narrowed calm true h, ends_so true h)
+    goes_held calm h = (
+      both_some (tested test true (after_moves g inline (before_test ms) k)) (λ n. Fits g start n entry before (marked test (drafted o (before_test ms) d)) stack) (IsKept (after_moves g inline (before_test ms) k))
+          (narrowed calm true h) (test_tells_the_same test true (after_moves g inline (before_test ms) k)),
+      ends_so true h,
+    )
 
     -- and behind them
     pub goes_taken : accesses_in ms ≡ 0 → (drafted o ms d).taken ≡ true → IsSomeAnd (tested test true (after_moves g inline (before_test ms) k)) (λ n. Fits g start (after_moves g inline (behind_test ms) n) entry before (drafted o ms d) stack)

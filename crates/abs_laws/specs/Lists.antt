@@ -14,6 +14,10 @@ use Rattle.abs_laws.specs.Fits.{AreInRange, ReadsFit}
 abbrev pub marked : Test → Draft → Draft
 marked test d = record d { taken = test_holds test d }
 
+-- what is known has the effect and the shape that it had
+abbrev pub IsKept : Known → Known → Type 0
+IsKept old new = (new.effect ≡ old.effect) × (new.state.shape ≡ old.state.shape)
+
 -- what stands before the test and behind it has the constants, the data writes and the stack accesses of the list between
 -- them, and no test stands before the test
 pub record IsParted (moves : List Move) : Type 0 where

@@ -1,6 +1,6 @@
 // Laws of the moves of a list and of its test, and of the effect that they leave.
 
-ghost use Rattle.std.specs.Prelude.{ℕ, ◌+◌, ◌≤◌, ◌≡◌, Bool, true, false, List, Some, None, IsSomeAnd, length, if◌then◌else◌};
+ghost use Rattle.std.specs.Prelude.{ℕ, ◌+◌, ◌≤◌, ◌≡◌, Bool, true, false, List, Some, None, IfSome, IsSomeAnd, length, if◌then◌else◌};
 ghost use Rattle.intervals.specs.Domain.{Entry};
 ghost use Rattle.loop_bounds.specs.Effect.{Valuation, change_of};
 ghost use Rattle.loop_bounds.specs.declared.variable.Variable.{Variable};
@@ -17,14 +17,15 @@ ghost use Rattle.abs_draft.specs.Ground.{Ground};
 ghost use Rattle.abs_draft.specs.Outcomes.{after_moves, before_test, behind_test, settled, test_of, tested};
 ghost use Rattle.abs_draft.specs.declared.known.Known.{Known};
 ghost use Rattle.abs_laws.specs.Fits.{AreInRange, Fits, Follows, IsThere, ReadsFit, seen_by};
-ghost use Rattle.abs_laws.specs.Lists.{IsParted, IsShort, MayRun, marked};
+ghost use Rattle.abs_laws.specs.Lists.{IsKept, IsParted, IsShort, MayRun, marked};
 
 /// A law: where a test came out so, something is left, and it is true of the draft, also of one that tells another outcome;
-/// and whatever outcome a draft tells, what is known of it stays true.
+/// whatever outcome a draft tells, what is known of it stays true; and a test changes neither the effect nor the shape.
 pub fn tests_fit()
     ensures left { (g : Ground) (start : AbsState) (test : Test) (held : Bool) (k : Known) (entry : Entry) (before : Valuation) (draft : Draft) (words : List ℕ) → test_holds test draft ≡ held → Fits g start k entry before draft words → IsSomeAnd (tested test held k) (λ n. Fits g start n entry before draft words) }
     ensures marked { (g : Ground) (start : AbsState) (test : Test) (held taken : Bool) (k : Known) (entry : Entry) (before : Valuation) (draft : Draft) (words : List ℕ) → test_holds test draft ≡ held → Fits g start k entry before draft words → IsSomeAnd (tested test held k) (λ n. Fits g start n entry before (record draft { taken = taken }) words) }
     ensures taken { (g : Ground) (start : AbsState) (k : Known) (entry : Entry) (before : Valuation) (draft : Draft) (words : List ℕ) (taken : Bool) → Fits g start k entry before draft words → Fits g start k entry before (record draft { taken = taken }) words }
+    ensures kept { (test : Test) (held : Bool) (k : Known) → IfSome (tested test held k) (IsKept k) }
 {}
 
 /// A law: of moves one after another that make no access of the stack, with no test among them.
@@ -52,7 +53,7 @@ pub fn ways_fit()
     ensures met { (g : Ground) (start : AbsState) (o : Outside) (inline : Bool) (moves : List Move) (k : Known) (entry : Entry) (before : Valuation) (draft : Draft) (words : List ℕ) → MayRun g o k draft moves → Fits g start k entry before draft words → accesses_in (before_test moves) ≡ 0 → Fits g start (after_moves g inline (before_test moves) k) entry before (drafted o (before_test moves) draft) words }
     ensures straight { (g : Ground) (start : AbsState) (o : Outside) (inline : Bool) (moves : List Move) (k : Known) (entry : Entry) (before : Valuation) (draft : Draft) (words : List ℕ) → MayRun g o k draft moves → Fits g start k entry before draft words → accesses_in moves ≡ 0 → test_of moves ≡ None → Fits g start (after_moves g inline (before_test moves) k) entry before (drafted o moves draft) words }
     ensures left { (g : Ground) (start : AbsState) (o : Outside) (inline : Bool) (moves : List Move) (k : Known) (entry : Entry) (before : Valuation) (draft : Draft) (words : List ℕ) → MayRun g o k draft moves → Fits g start k entry before draft words → (test : Test) → test_of moves ≡ Some test → accesses_in (before_test moves) ≡ 0 → (drafted o moves draft).taken ≡ false → IsSomeAnd (tested test false (after_moves g inline (before_test moves) k)) (λ n. Fits g start n entry before (drafted o moves draft) words) }
-    ensures held { (g : Ground) (start : AbsState) (o : Outside) (inline : Bool) (moves : List Move) (k : Known) (entry : Entry) (before : Valuation) (draft : Draft) (words : List ℕ) → MayRun g o k draft moves → Fits g start k entry before draft words → (test : Test) → test_of moves ≡ Some test → accesses_in (before_test moves) ≡ 0 → (drafted o moves draft).taken ≡ true → IsSomeAnd (tested test true (after_moves g inline (before_test moves) k)) (λ n. Fits g start n entry before (marked test (drafted o (before_test moves) draft)) words) × (drafted o moves draft ≡ drafted o (behind_test moves) (marked test (drafted o (before_test moves) draft))) }
+    ensures held { (g : Ground) (start : AbsState) (o : Outside) (inline : Bool) (moves : List Move) (k : Known) (entry : Entry) (before : Valuation) (draft : Draft) (words : List ℕ) → MayRun g o k draft moves → Fits g start k entry before draft words → (test : Test) → test_of moves ≡ Some test → accesses_in (before_test moves) ≡ 0 → (drafted o moves draft).taken ≡ true → IsSomeAnd (tested test true (after_moves g inline (before_test moves) k)) (λ n. Fits g start n entry before (marked test (drafted o (before_test moves) draft)) words × IsKept (after_moves g inline (before_test moves) k) n) × (drafted o moves draft ≡ drafted o (behind_test moves) (marked test (drafted o (before_test moves) draft))) }
     ensures taken { (g : Ground) (start : AbsState) (o : Outside) (inline : Bool) (moves : List Move) (k : Known) (entry : Entry) (before : Valuation) (draft : Draft) (words : List ℕ) → MayRun g o k draft moves → Fits g start k entry before draft words → (test : Test) → test_of moves ≡ Some test → accesses_in moves ≡ 0 → (drafted o moves draft).taken ≡ true → IsSomeAnd (tested test true (after_moves g inline (before_test moves) k)) (λ n. Fits g start (after_moves g inline (behind_test moves) n) entry before (drafted o moves draft) words) }
 {}
 

@@ -1,0 +1,1 @@
+-- How instructions go on that use the stack.
