@@ -60,9 +60,9 @@ misses_used map region s ws true [] entry (word ∷ words) under h holds low m =
 
 -- ---- how it goes
 
-module _ (g : Ground) (s : State) (env : Env) (a : AbsState) (instr : Instr) (main : Bool) (region : Region) (running : Running) (ws : List DataWrite) (nexts : List Next) (sets : sets_sp instr ≡ false) (k : KeepsBoard g a ws (done (here g s env) instr)) (laid : Lies g.map region running a running.words s) (keeps : HasWords g.map region s (on_top running.words running.under) → HasWords g.map region (done (here g s env) instr) (on_top running.words running.under)) where
-  pub goes_aside : End g (here g s env) a instr main kinds.Jump running.entry (value_in (seen_of g.cells running.words s)) running.words ws nexts → Goes g.cells region running a instr nexts (here g s env)
-  goes_aside e =
+module _ (g : Ground) (s : State) (env : Env) (a : AbsState) (instr : Instr) (main : Bool) (region : Region) (running : Running) (ws : List DataWrite) (nexts : List Next) (words : List ℕ) (sets : sets_sp instr ≡ false) (k : KeepsBoard g a ws (done (here g s env) instr)) (keeps : (a.mode ≢ Unset) → HasWords g.map region (done (here g s env) instr) (on_top words running.under)) where
+  pub goes_on : End g (here g s env) a instr main kinds.Jump running.entry (value_in (seen_of g.cells running.words s)) words ws nexts → Goes g.cells region running a instr nexts (here g s env)
+  goes_on e =
       let f = e.fits in
       let mode : HoldsMode (state_after_writes g e.known.writes.items a).mode (done (here g s env) instr).enable (done (here g s env) instr).line (done (here g s env) instr).latched =
       subst (λ xs. HoldsMode (state_after_writes g xs a).mode (done (here g s env) instr).enable (done (here g s env) instr).line (done (here g s env) instr).latched) (sym e.writes) k.mode in
@@ -76,11 +76,11 @@ module _ (g : Ground) (s : State) (env : Env) (a : AbsState) (instr : Instr) (ma
         cost = e.cost;
         stays = λ n. mode_is ∙ k.nmi n;
         goes = record {
-          words = running.words;
-          pc = address_after g s env a instr running e.known _ running.words f e.one;
-          holds = subst (λ x. Holds x g.cells running.entry (seen_of g.cells running.words (done (here g s env) instr))) (sym same) (holds_after g s env a instr running e.known _ running.words f mode cells);
-          laid = λ set. keeps (laid (λ unset. set (mode_is ∙ k.unset unset)));
-          through = through_after g s env a instr running e.known running.words f;
+          words = words;
+          pc = address_after g s env a instr running e.known _ words f e.one;
+          holds = subst (λ x. Holds x g.cells running.entry (seen_of g.cells words (done (here g s env) instr))) (sym same) (holds_after g s env a instr running e.known _ words f mode cells);
+          laid = λ set. keeps (λ unset. set (mode_is ∙ k.unset unset));
+          through = through_after g s env a instr running e.known words f;
         };
       }
 

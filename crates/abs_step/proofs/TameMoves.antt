@@ -1,7 +1,7 @@
 -- Tame moves: they make no access of the stack, and neither tell an outcome, halt nor write I; and the program counter, where
 -- one address is known of it, goes to one.
 use Rattle.std.proofs.Common.{◌≡◌, ◌∙◌, ℕ, Bool, true, false, not, ◌&&◌, ◌||◌, List, [], ◌∷◌, Option, Some, None, refl, sym, ap, subst, arith}
-use Rattle.std.specs.Prelude.{◌==◌, ◌+◌, ◌/◌}
+use Rattle.std.specs.Prelude.{◌==◌, ◌+◌, ◌/◌, nat_lt, length}
 use Rattle.std.proofs.lemmas.Grind.{common_steps}
 use Rattle.std.proofs.Math.Bool.{cond}
 use Rattle.std.proofs.lemmas.Bool.{and_parts, eqb-true}
@@ -22,7 +22,7 @@ use Rattle.z80_moves.specs.declared.moves.Move.{Move}
 use Rattle.z80_moves.specs.declared.moves.Move.TheVariants.{SetByte, SetWord, CopyByte, CopyWord, Displace, ReadByte, WriteByte, ReadWord, WriteWord, Push, Pop, ExchangeStack, Arithmetic, Increment, Decrement, CountDown, Shift, RotateA, DecimalAdjust, Complement, Negate, AddWord, AddCarryWord, SubtractCarryWord, IncrementWord, DecrementWord, SetBit, ResetBit, RotateDigitsLeft, RotateDigitsRight, LoadASpecial, Halt, OnlyIf}
 use Rattle.abs_draft.specs.AfterMove.{after_move, operated}
 use Rattle.abs_draft.specs.Ground.{Ground}
-use Rattle.abs_draft.specs.Known.{put_byte, put_pair}
+use Rattle.abs_draft.specs.Known.{push_pair, put_byte, put_pair}
 use Rattle.abs_draft.specs.Outcomes.{after_moves, before_test, behind_test, test_in, test_of}
 use Rattle.abs_draft.specs.declared.known.Known.{Known}
 
@@ -180,6 +180,30 @@ move_pc g inline (ResetBit b r) k h one = still _ _ (byte_pc r _ _ k) one
 move_pc g inline Halt k h one = absurd (cc)
 move_pc g inline (OnlyIf test) k h one = absurd (cc)
 move_pc g inline _ k h one = one
+
+-- a push leaves it
+either_pc : (b : Bool) (x y k : Known) → x.pc ≡ k.pc → y.pc ≡ k.pc → (cond b x y).pc ≡ k.pc
+either_pc true x y k p q = p
+either_pc false x y k p q = q
+
+pushed_pc : (pair : Pair) (word high low : Change) (k : Known) → (push_pair pair (record { word = word; high = high; low = low }) k).pc ≡ k.pc
+pushed_pc pair word high low k = either_pc (nat_lt (length k.state.shape) 64) _ _ k refl refl
+
+pub push_pc : (g : Ground) (inline : Bool) (w : WordRegister) (k : Known) → (after_move g inline (Push w) k).pc ≡ k.pc
+unfolding after_move
+push_pc g inline words.Pc k = either_pc inline _ k k (pushed_pc _ _ _ _ k) refl
+push_pc g inline words.Sp k = pushed_pc _ _ _ _ k
+push_pc g inline words.Pointer k = pushed_pc _ _ _ _ k
+push_pc g inline _ k = pushed_pc _ _ _ _ k
+
+-- a pop into another register and an exchange leave it
+pub pop_pc : (g : Ground) (inline : Bool) (w : WordRegister) (k : Known) → is_pc w ≡ false → (after_move g inline (Pop w) k).pc ≡ k.pc
+unfolding after_move
+pop_pc g inline w k h = pair_pc w _ _ _ _ k h
+
+pub exchange_pc : (g : Ground) (inline : Bool) (w : WordRegister) (k : Known) → is_pc w ≡ false → (after_move g inline (ExchangeStack w) k).pc ≡ k.pc
+unfolding after_move
+exchange_pc g inline w k h = pair_pc w _ _ _ _ k h
 
 -- ---- lists of tame moves
 
