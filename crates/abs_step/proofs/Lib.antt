@@ -1,6 +1,7 @@
 pub mod Answered
 pub mod Asides
 pub mod GoesAside
+pub mod GoesStack
 pub mod Here
 pub mod KnownWrites
 pub mod OneCost
