@@ -15,3 +15,4 @@ pub mod StackMoves
 pub mod Reading
 pub mod Ways
 pub mod Short
+pub mod KnownWrites
