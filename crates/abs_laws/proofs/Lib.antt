@@ -16,3 +16,5 @@ pub mod Reading
 pub mod Ways
 pub mod Short
 pub mod KnownWrites
+pub mod Enables
+pub mod CellsAfter
