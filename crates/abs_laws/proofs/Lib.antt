@@ -15,3 +15,6 @@ pub mod StackMoves
 pub mod Reading
 pub mod Ways
 pub mod Short
+pub mod KnownWrites
+pub mod Enables
+pub mod CellsAfter

@@ -62,7 +62,7 @@ found_cell map at (suc n) (x ∷ xs) s cell h e = elim (cases_Bool (is_work_cell
   | inr f ↦ found_cell map at n xs s cell h.1 (rw f at e)
 ]
 
-is_work : (class : WriteClass) (at n : ℕ) → is_work_cell (cell_of_class class at) n ≡ true → (class ≡ writes.Ram Work) × (at % 0x400 ≡ n % 0x400)
+pub is_work : (class : WriteClass) (at n : ℕ) → is_work_cell (cell_of_class class at) n ≡ true → (class ≡ writes.Ram Work) × (at % 0x400 ≡ n % 0x400)
 is_work (writes.Ram Work) at n e = (refl, eqb-true _ _ e)
 is_work (writes.Ram Video) at n e = absurd (cc)
 is_work (writes.Ram Object) at n e = absurd (cc)
