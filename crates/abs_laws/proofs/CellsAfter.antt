@@ -34,7 +34,7 @@ use Rattle.abs_draft.specs.Known.{written_state}
 use Rattle.abs_draft.specs.declared.data_write.DataWrite.{DataWrite}
 use Rattle.abs_laws.specs.Cells.{bytes_of_cells}
 use Rattle.abs_laws.specs.Fits.{LiesIn, state_after_writes}
-use Rattle.abs_laws.specs.Writes.{AllKeep, IsKept, KeepsCells}
+use Rattle.abs_laws.specs.Writes.{AllKeep, IsPlaced, KeepsCells}
 use Rattle.abs_laws.proofs.Reading.{is_work}
 
 -- ---- a byte that is stored
@@ -163,7 +163,7 @@ abbrev first_cells : AddressMap → Region
 first_cells map = record { low = work_start map; top = work_start map + 0x400 }
 
 module _ (map : AddressMap) (region : Region) (r : IsStackRegion map region) where
-  access_misses : (at : ℕ) (byte : Option ℕ) (s : State) (cell : KeptCell) → region.low ≤ at → at < region.top → IsKept map region cell
+  access_misses : (at : ℕ) (byte : Option ℕ) (s : State) (cell : KeptCell) → region.low ≤ at → at < region.top → IsPlaced map region cell
       → byte_at (stacked_one map at byte s) cell.at ≡ byte_at s cell.at
   access_misses at None s cell from to kept = refl
   access_misses at (Some byte) s cell from to kept =
@@ -175,7 +175,7 @@ module _ (map : AddressMap) (region : Region) (r : IsStackRegion map region) whe
       byte_elsewhere map at byte cell.at s
       (λ e. region_apart map r.is_map (first_cells map) (omega arith) (omega arith) cell.at at start end (omega arith) (omega arith) other)
 
-  accesses_miss : (accesses : List StackAccess) (s : State) (cell : KeptCell) → some_outside region accesses ≡ false → IsKept map region cell
+  accesses_miss : (accesses : List StackAccess) (s : State) (cell : KeptCell) → some_outside region accesses ≡ false → IsPlaced map region cell
       → byte_at (stacked_all map accesses s) cell.at ≡ byte_at s cell.at
   unfolding stacked_all
   accesses_miss [] s cell inside kept = refl
@@ -186,16 +186,16 @@ module _ (map : AddressMap) (region : Region) (r : IsStackRegion map region) whe
       ∙ access_misses a.at a.written s cell (ltb-false a.at region.low q.0) (leb-false region.top a.at q.1) kept
 
   -- the kept cells of the board are as the data writes leave them
-  kept_bytes : (draft : Draft) (s : State) (cells : List KeptCell) → some_outside region draft.stack ≡ false → All (IsKept map region) cells
+  kept_bytes : (draft : Draft) (s : State) (cells : List KeptCell) → some_outside region draft.stack ≡ false → All (IsPlaced map region) cells
       → bytes_of_cells cells (stored_all map draft.writes s) ≡ bytes_of_cells cells (committed map draft s)
   kept_bytes draft s [] inside kept = refl
   kept_bytes draft s (cell ∷ cells) inside kept =
       ap₂ (λ (b : ℕ) (bs : List ℕ). b ∷ bs)
-      (sym (byte_committed map draft s cell.at ∙ accesses_miss draft.stack (stored_all map draft.writes s) cell inside (All-head (IsKept map region) cell cells kept)))
-      (kept_bytes draft s cells inside (All-tail (IsKept map region) cell cells kept))
+      (sym (byte_committed map draft s cell.at ∙ accesses_miss draft.stack (stored_all map draft.writes s) cell inside (All-head (IsPlaced map region) cell cells kept)))
+      (kept_bytes draft s cells inside (All-tail (IsPlaced map region) cell cells kept))
 
 pub cells_hold : (g : Ground) (region : Region) (draft : Draft) (s : State) (a : AbsState) (ws : List DataWrite) → IsStackRegion g.map region → length s.work ≡ 0x400
-    → All (IsKept g.map region) g.cells → AllZip LiesIn ws draft.writes → some_outside region draft.stack ≡ false → AllKeep g a.armed ws
+    → All (IsPlaced g.map region) g.cells → AllZip LiesIn ws draft.writes → some_outside region draft.stack ≡ false → AllKeep g a.armed ws
     → HoldsCells a.armed g.cells (bytes_of_cells g.cells s) → HoldsCells (state_after_writes g ws a).armed g.cells (bytes_of_cells g.cells (committed g.map draft s))
 cells_hold g region draft s a ws r size kept zip inside keep h =
     subst (HoldsCells (state_after_writes g ws a).armed g.cells) (kept_bytes g.map region r draft s g.cells inside kept)

@@ -13,7 +13,7 @@ use Rattle.abs_draft.specs.Ground.{Ground, may_enable, armed_after}
 use Rattle.abs_draft.specs.declared.data_write.DataWrite.{DataWrite}
 
 -- a kept cell lies in the first 400h addresses of work RAM, outside the stack's region
-pub record IsKept (map : AddressMap) (region : Region) (cell : KeptCell) : Type 0 where
+pub record IsPlaced (map : AddressMap) (region : Region) (cell : KeptCell) : Type 0 where
   pub start : work_start map ≤ cell.at
   pub end : cell.at < work_start map + 0x400
   pub outside : region.low ≤ cell.at → cell.at < region.top → ⊥

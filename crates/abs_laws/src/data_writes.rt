@@ -20,7 +20,7 @@ ghost use Rattle.abs_draft.specs.Ground.{Ground};
 ghost use Rattle.abs_draft.specs.declared.data_write.DataWrite.{DataWrite};
 ghost use Rattle.abs_laws.specs.Cells.{bytes_of_cells};
 ghost use Rattle.abs_laws.specs.Fits.{LiesIn, state_after_writes};
-ghost use Rattle.abs_laws.specs.Writes.{AllKeep, IsKept, MissesRegion, NeverEnables, TakesData};
+ghost use Rattle.abs_laws.specs.Writes.{AllKeep, IsPlaced, MissesRegion, NeverEnables, TakesData};
 
 /// A law: where no address that is known of some data writes folds to a cell of the stack's region, none of them goes to one;
 /// and where each such address takes data, each of them goes to one that does.
@@ -48,5 +48,5 @@ pub fn modes_hold_after_writes()
 /// A law: the cells that are armed after a row's data writes hold bytes of their ranges on the board that the writes leave,
 /// where each write to an armed cell is of such a byte and the kept cells lie outside the stack's region.
 pub fn cells_hold_after_writes()
-    ensures { (g : Ground) (region : Region) (draft : Draft) (s : State) (a : AbsState) (ws : List DataWrite) → IsStackRegion g.map region → length s.work ≡ size_of Work → All (IsKept g.map region) g.cells → AllZip LiesIn ws draft.writes → some_outside region draft.stack ≡ false → AllKeep g a.armed ws → HoldsCells a.armed g.cells (bytes_of_cells g.cells s) → HoldsCells (state_after_writes g ws a).armed g.cells (bytes_of_cells g.cells (committed g.map draft s)) }
+    ensures { (g : Ground) (region : Region) (draft : Draft) (s : State) (a : AbsState) (ws : List DataWrite) → IsStackRegion g.map region → length s.work ≡ size_of Work → All (IsPlaced g.map region) g.cells → AllZip LiesIn ws draft.writes → some_outside region draft.stack ≡ false → AllKeep g a.armed ws → HoldsCells a.armed g.cells (bytes_of_cells g.cells s) → HoldsCells (state_after_writes g ws a).armed g.cells (bytes_of_cells g.cells (committed g.map draft s)) }
 {}

@@ -1,6 +1,6 @@
 -- How an instruction goes on that does not use the stack: what is known at its end is true of its draft, and is that of one of
 -- its ways on.
-use Rattle.std.proofs.Common.{inl, inr, ◌≡◌, ◌≤◌, ◌<◌, ◌+◌, ◌∙◌, ℕ, Bool, true, false, not, cond, List, [], ◌∷◌, ◌++◌, length, Option, Some, None, Ok, IsSomeAnd, refl, sym, ap, subst, arith}
+use Rattle.std.proofs.Common.{inl, inr, ◌≡◌, ◌≢◌, ◌≤◌, ◌<◌, ◌+◌, ◌∙◌, ℕ, Bool, true, false, not, cond, List, [], ◌∷◌, ◌++◌, length, Option, Some, None, Ok, IsSomeAnd, refl, sym, ap, subst, arith}
 use Rattle.std.specs.Prelude.{◌||◌, ◌&&◌, option_map, if◌then◌else◌}
 use Rattle.std.specs.List.{Contains}
 use Rattle.std.proofs.lemmas.Bool.{cases_Bool}
@@ -45,7 +45,8 @@ pub record End (g : Ground) (c : Context) (a : AbsState) (instr : Instr) (main :
   pub taken : Bool
   pub listed : Contains nexts (next_of main instr taken kind known)
   pub cost : t_of c instr ≡ cost_of instr taken
-  pub one : IsOne known.pc
+  -- an exit has no address
+  pub one : (kind ≢ kinds.Exit) → IsOne known.pc
   pub writes : known.writes.items ≡ ws
 
 -- ---- small facts
@@ -116,7 +117,7 @@ module _ (g : Ground) (c : Context) (a : AbsState) (instr : Instr) (main inline 
     taken = true;
     listed = subst (λ (o : Option Test). Contains (ways_on g main inline instr kind o at_test) (next_of main instr true kind at_test)) (sym none) (0, omega arith, refl);
     cost = sym (one_cost instr _ none io);
-    one = one;
+    one = λ on. one;
     writes = writes_at alike;
   }
 
@@ -139,7 +140,7 @@ module _ (g : Ground) (c : Context) (a : AbsState) (instr : Instr) (main inline 
         taken = false;
         listed = with_test kind test _ is (subst (λ (o : Option Known). Contains (way_on (tested test true at_test) held_way ++ way_on o left_way) (next_of main instr false kinds.Jump n.known)) (sym n.is) (last_way n.known (tested test true at_test) held_way left_way));
         cost = ap (cost_of instr) out;
-        one = subst IsOne (sym rest.pc) one;
+        one = λ on. subst IsOne (sym rest.pc) one;
         writes = ap (λ w. w.items) rest.writes ∙ writes_at alike;
       }
 
@@ -157,7 +158,7 @@ module _ (g : Ground) (c : Context) (a : AbsState) (instr : Instr) (main inline 
         taken = true;
         listed = with_test kind test _ is (subst (λ (o : Option Known). Contains (way_on o held_way ++ way_on (tested test false at_test) left_way) (next_of main instr true kind (after_moves g inline (behind_test (moves_of instr)) n.known))) (sym n.is) (first_way n.known (tested test false at_test) held_way left_way));
         cost = ap (cost_of instr) out;
-        one = moves_pc g inline (behind_test (moves_of instr)) n.known behind (subst IsOne (sym rest.pc) one);
+        one = λ on. moves_pc g inline (behind_test (moves_of instr)) n.known behind (subst IsOne (sym rest.pc) one);
         writes = ap (λ w. w.items) (moves_writes g inline (behind_test (moves_of instr)) n.known (short instr).writes_first ∙ rest.writes) ∙ writes_at alike;
       }
 

@@ -77,7 +77,7 @@ module _ (g : Ground) (s : State) (env : Env) (a : AbsState) (instr : Instr) (ma
         stays = λ n. mode_is ∙ k.nmi n;
         goes = record {
           words = words;
-          pc = address_after g s env a instr running e.known _ words f e.one;
+          pc = address_after g s env a instr running e.known _ words f (e.one (λ same. absurd (cc)));
           holds = subst (λ x. Holds x g.cells running.entry (seen_of g.cells words (done (here g s env) instr))) (sym same) (holds_after g s env a instr running e.known _ words f mode cells);
           laid = λ set. keeps (λ unset. set (mode_is ∙ k.unset unset));
           through = through_after g s env a instr running e.known words f;

@@ -1,6 +1,18 @@
 -- How PUSH, POP and EX (SP) go on, and what calls and returns leave of what is known.
 use Rattle.std.proofs.Common.{◌≡◌, ◌≢◌, ◌≤◌, ◌<◌, ◌+◌, ◌∙◌, ℕ, suc, Bool, true, false, not, List, [], ◌∷◌, ◌++◌, length, Option, Some, None, Ok, refl, sym, ap, subst, arith}
 use Rattle.std.specs.List.{AllZip, Contains}
+use Rattle.std.specs.Prelude.{◌*◌, IsSomeAnd}
+use Rattle.std.proofs.lemmas.Bool.{eqb-true}
+use Rattle.intervals.specs.Logic.{is_single}
+use Rattle.z80_decode.specs.Kinds.{restart}
+use Rattle.z80_decode.specs.declared.kinds.Condition.{Condition}
+use Rattle.z80_decode.specs.declared.kinds.RestartAddress.{RestartAddress}
+use Rattle.abs_draft.specs.Known.{last_slot}
+use Rattle.abs_laws.specs.Lists.{IsKept, MayRun, marked}
+use Rattle.abs_laws.proofs.Ways.{goes_held, goes_left}
+use Rattle.abs_step.specs.declared.next.NextKind.{NextKind}
+use Rattle.z80_moves.specs.declared.moves.Test.{Test}
+use Rattle.z80_moves.specs.declared.moves.Test.TheVariants as tests
 use Rattle.intervals.specs.Domain.{Entry}
 use Rattle.loop_bounds.specs.Effect.{Valuation}
 use Rattle.stack_shape.specs.Shape.{HoldsShape}
@@ -30,12 +42,13 @@ use Rattle.abs_draft.specs.AfterMove.{after_move}
 use Rattle.abs_draft.specs.Outcomes.{after_moves, before_test, behind_test, known_before, test_of}
 use Rattle.abs_draft.specs.declared.known.Known.{Known}
 use Rattle.abs_laws.specs.Fits.{Fits, ReadsFit}
+use Rattle.abs_laws.proofs.CalmMoves.{calm_fits}
 use Rattle.abs_laws.proofs.StackMoves.{call_fits, exchange_fits, pop_fits, push_fits, return_fits}
 use Rattle.abs_step.specs.Successors.{is_empty, kind_of, next_of, ways_on, writes_of}
 use Rattle.abs_step.specs.declared.next.Next.{Next}
 use Rattle.abs_step.specs.declared.next.NextKind.TheVariants as kinds
-use Rattle.abs_step.proofs.Asides.{End}
-use Rattle.abs_step.proofs.KnownWrites.{move_writes}
+use Rattle.abs_step.proofs.Asides.{End, Some_of, first_way, some_of, tested_leaves}
+use Rattle.abs_step.proofs.KnownWrites.{move_writes, push_writes}
 use Rattle.abs_step.proofs.TameMoves.{IsOne, exchange_pc, is_pc, pop_pc, push_pc}
 
 -- ---- words
@@ -104,7 +117,7 @@ module _ (g : Ground) (c : Context) (a : AbsState) (main inline : Bool) (entry :
         taken = true;
         listed = (0, omega arith, refl);
         cost = refl;
-        one = subst IsOne (sym (push_pc g inline w k)) refl;
+        one = λ on. subst IsOne (sym (push_pc g inline w k)) refl;
         writes = ap (λ ws. ws.items) (move_writes g inline (moves.Push w) k refl ∙ sym (move_writes g true (moves.Push w) k refl));
       }
 
@@ -119,7 +132,7 @@ module _ (g : Ground) (c : Context) (a : AbsState) (main inline : Bool) (entry :
         taken = true;
         listed = (0, omega arith, refl);
         cost = refl;
-        one = subst IsOne (sym (pop_pc g inline w k (not_pc qq))) refl;
+        one = λ on. subst IsOne (sym (pop_pc g inline w k (not_pc qq))) refl;
         writes = ap (λ ws. ws.items) (move_writes g inline (moves.Pop w) k refl ∙ sym (move_writes g true (moves.Pop w) k refl));
       }
 
@@ -135,6 +148,66 @@ module _ (g : Ground) (c : Context) (a : AbsState) (main inline : Bool) (entry :
         taken = true;
         listed = (0, omega arith, refl);
         cost = refl;
-        one = subst IsOne (sym (exchange_pc g inline w k (pointer_not_pc p))) refl;
+        one = λ on. subst IsOne (sym (exchange_pc g inline w k (pointer_not_pc p))) refl;
         writes = ap (λ ws. ws.items) (move_writes g inline (moves.ExchangeStack w) k refl ∙ sym (move_writes g true (moves.ExchangeStack w) k refl));
       }
+
+-- ---- calls
+
+-- a call's two moves: the word behind it is pushed, and the program counter is the callee's
+abbrev pub call_moves : ℕ → List Move
+call_moves nn = moves.Push registers.Pc ∷ moves.SetWord registers.Pc nn ∷ []
+
+still_few : (o : Outside) (d : Draft) → length d.writes ≤ 2 → length (moved o (moves.Push registers.Pc) d).writes + 0 ≤ 2
+unfolding moved
+still_few o d h = omega (arith, h)
+
+module _ (g : Ground) (a : AbsState) (o : Outside) (k : Known) (entry : Entry) (before : Valuation) (d : Draft) (stack : List ℕ) (nn : ℕ) (small : nn < 65536) (room : length d.writes ≤ 2) (reads : ReadsFit g o k.readable) (f : Fits g a k entry before d stack) where
+  -- not inline: the words stay
+  pub called_fits : Fits g a (after_moves g false (call_moves nn) k) entry before (drafted o (call_moves nn) d) stack
+  unfolding after_moves after_move drafted moved
+  called_fits = calm_fits g a o false (after_move g false (moves.Push registers.Pc) k) entry before (moved o (moves.Push registers.Pc) d) stack reads (call_fits g a o k entry before d stack f) (moves.SetWord registers.Pc nn) refl small (omega (arith, room))
+
+  -- inline: the word behind the call is the activation's
+  pub inlined_fits : k.effect.slot ≡ None → length k.state.shape < 64 → Fits g a (after_moves g true (call_moves nn) k) entry before (drafted o (call_moves nn) d) (stack ++ d.regs.pc ∷ [])
+  unfolding after_moves drafted
+  inlined_fits none fits =
+      let pushed = push_fits g a o k entry before d true stack registers.Pc (λ e. refl) none fits f in
+      let same : k.readable ≡ (after_move g true (moves.Push registers.Pc) k).readable = f.readable ∙ sym pushed.readable in
+      calm_fits g a o true (after_move g true (moves.Push registers.Pc) k) entry before (moved o (moves.Push registers.Pc) d) (stack ++ d.regs.pc ∷ []) (subst (ReadsFit g o) same reads) pushed (moves.SetWord registers.Pc nn) refl small (still_few o d room)
+
+-- where the outcome of a test has left something
+both : (o : Option Known) (P Q : Known → Type 0) → IsSomeAnd o (λ n. P n × Q n) → Some_of o (λ n. P n × Q n)
+both o P Q h = some_of o _ h
+
+-- the word of the last slot is one
+slot_one : (shape other : List Slot) → other ≡ shape → is_single (last_slot shape).pair.word ≡ true → IsOne (last_slot other).pair.word
+slot_one shape other e h = subst (λ (x : List Slot). IsOne (last_slot x).pair.word) (sym e) (eqb-true _ _ h)
+
+module _ (g : Ground) (c : Context) (a : AbsState) (main inline : Bool) (entry : Entry) (before : Valuation) (words : List ℕ) (address : ℕ) where
+  abbrev first : Instr → Draft
+  first instr = draft_on (past (length (spelling instr)) c.state.regs)
+
+  abbrev Known_of : Instr → Known
+  Known_of instr = known_before address instr a
+
+  abbrev Out : Instr → NextKind → List ℕ → Type 0
+  Out instr kind after = End g c a instr main kind entry before after (writes_of g address a (Ok instr)) (ways_on g main inline instr kind (test_of (moves_of instr)) (after_moves g inline (before_test (moves_of instr)) (known_before address instr a)))
+
+  abbrev Begun : Instr → Type 0
+  Begun instr = Fits g a (known_before address instr a) entry before (first instr) words
+
+  abbrev Runs : Instr → Type 0
+  Runs instr = MayRun g (outside_of c) (known_before address instr a) (first instr) (moves_of instr)
+
+  -- ---- CALL and RST
+
+  pub call_end : (nn : ℕ) (kind : NextKind) (after : List ℕ) → Fits g a (after_moves g inline (call_moves nn) (Known_of (instrs.Call nn))) entry before (drafted (outside_of c) (call_moves nn) (first (instrs.Call nn))) after → Out (instrs.Call nn) kind after
+  unfolding test_of before_test after_moves after_move
+  call_end nn kind after f =
+      record { known = after_moves g inline (call_moves nn) (Known_of (instrs.Call nn)); fits = f; taken = true; listed = (0, omega arith, refl); cost = refl; one = λ on. refl; writes = ap (λ ws. ws.items) (push_writes g inline registers.Pc (Known_of (instrs.Call nn)) ∙ sym (push_writes g true registers.Pc (Known_of (instrs.Call nn)))) }
+
+  pub restart_end : (p : RestartAddress) (kind : NextKind) (after : List ℕ) → Fits g a (after_moves g inline (call_moves (8 * restart p)) (Known_of (instrs.Restart p))) entry before (drafted (outside_of c) (call_moves (8 * restart p)) (first (instrs.Restart p))) after → Out (instrs.Restart p) kind after
+  unfolding test_of before_test after_moves after_move
+  restart_end p kind after f =
+      record { known = after_moves g inline (call_moves (8 * restart p)) (Known_of (instrs.Restart p)); fits = f; taken = true; listed = (0, omega arith, refl); cost = refl; one = λ on. refl; writes = ap (λ ws. ws.items) (push_writes g inline registers.Pc (Known_of (instrs.Restart p)) ∙ sym (push_writes g true registers.Pc (Known_of (instrs.Restart p)))) }

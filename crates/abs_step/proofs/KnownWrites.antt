@@ -46,7 +46,7 @@ either_writes false x y k p q = q
 pushed_writes : (pair : Pair) (word high low : Change) (k : Known) → (push_pair pair (record { word = word; high = high; low = low }) k).writes ≡ k.writes
 pushed_writes pair word high low k = either_writes (nat_lt (length k.state.shape) 64) _ _ k refl refl
 
-push_writes : (g : Ground) (inline : Bool) (w : WordRegister) (k : Known) → (after_move g inline (Push w) k).writes ≡ k.writes
+pub push_writes : (g : Ground) (inline : Bool) (w : WordRegister) (k : Known) → (after_move g inline (Push w) k).writes ≡ k.writes
 unfolding after_move
 push_writes g inline words.Pc k = either_writes inline _ k k (pushed_writes _ _ _ _ k) refl
 push_writes g inline words.Sp k = pushed_writes _ _ _ _ k

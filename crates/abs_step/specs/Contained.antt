@@ -34,7 +34,7 @@ use Rattle.abs_draft.specs.Ground.{Ground}
 use Rattle.abs_draft.specs.declared.data_write.DataWrite.{DataWrite}
 use Rattle.abs_laws.specs.Cells.{bytes_of_cells}
 use Rattle.abs_laws.specs.Fits.{Follows, IsThere}
-use Rattle.abs_laws.specs.Writes.{AllKeep, IsKept, MissesRegion, NeverEnables, TakesData}
+use Rattle.abs_laws.specs.Writes.{AllKeep, IsPlaced, MissesRegion, NeverEnables, TakesData}
 use Rattle.abs_step.specs.Successors.{writes_of}
 use Rattle.abs_step.specs.declared.next.Next.{Next}
 use Rattle.abs_step.specs.declared.next.NextKind.{NextKind}
@@ -98,7 +98,7 @@ pub record Before (cells : List KeptCell) (region : Region) (running : Running) 
   pub rom : AreBytes c.hardware.rom
   pub rom_len : c.hardware.map.rom_len ≡ length c.hardware.rom
   pub is_region : IsStackRegion c.hardware.map region
-  pub kept : All (IsKept c.hardware.map region) cells
+  pub kept : All (IsPlaced c.hardware.map region) cells
   pub under : IsUnder running.main running.under
   pub holds : Holds a cells running.entry (seen_of cells running.words c.state)
   pub laid : Lies c.hardware.map region running a running.words c.state
