@@ -39,16 +39,16 @@ use Rattle.board_step.specs.Step.{instr_draft, t_of}
 use Rattle.abs_state.specs.declared.state.AbsState.{AbsState}
 use Rattle.abs_draft.specs.Ground.{Ground}
 use Rattle.abs_draft.specs.AfterMove.{after_move}
-use Rattle.abs_draft.specs.Outcomes.{after_moves, before_test, behind_test, known_before, test_of}
+use Rattle.abs_draft.specs.Outcomes.{after_moves, before_test, behind_test, known_before, test_of, tested}
 use Rattle.abs_draft.specs.declared.known.Known.{Known}
 use Rattle.abs_laws.specs.Fits.{Fits, ReadsFit}
 use Rattle.abs_laws.proofs.CalmMoves.{calm_fits}
 use Rattle.abs_laws.proofs.StackMoves.{call_fits, exchange_fits, pop_fits, push_fits, return_fits}
-use Rattle.abs_step.specs.Successors.{is_empty, kind_of, next_of, ways_on, writes_of}
+use Rattle.abs_step.specs.Successors.{is_empty, kind_of, next_of, way_on, ways_on, writes_of}
 use Rattle.abs_step.specs.declared.next.Next.{Next}
 use Rattle.abs_step.specs.declared.next.NextKind.TheVariants as kinds
 use Rattle.abs_step.proofs.Asides.{End, Some_of, first_way, some_of, tested_leaves}
-use Rattle.abs_step.proofs.KnownWrites.{move_writes, push_writes}
+use Rattle.abs_step.proofs.KnownWrites.{move_writes, moves_writes, push_writes}
 use Rattle.abs_step.proofs.TameMoves.{IsOne, exchange_pc, is_pc, pop_pc, push_pc}
 
 -- ---- words
@@ -211,3 +211,67 @@ module _ (g : Ground) (c : Context) (a : AbsState) (main inline : Bool) (entry :
   unfolding test_of before_test after_moves after_move
   restart_end p kind after f =
       record { known = after_moves g inline (call_moves (8 * restart p)) (Known_of (instrs.Restart p)); fits = f; taken = true; listed = (0, omega arith, refl); cost = refl; one = λ on. refl; writes = ap (λ ws. ws.items) (push_writes g inline registers.Pc (Known_of (instrs.Restart p)) ∙ sym (push_writes g true registers.Pc (Known_of (instrs.Restart p)))) }
+
+  -- CALL cc that is taken
+  pub call_if_end : (condition : Condition) (nn : ℕ) (kind : NextKind) (after : List ℕ) → Runs (instrs.CallIf condition nn) → Begun (instrs.CallIf condition nn) → (instr_draft c (instrs.CallIf condition nn)).taken ≡ true
+      → ((n : Known) → n.readable ≡ a.armed → IsKept (Known_of (instrs.CallIf condition nn)) n → Fits g a n entry before (marked (tests.Flag condition) (first (instrs.CallIf condition nn))) words
+          → Fits g a (after_moves g inline (call_moves nn) n) entry before (drafted (outside_of c) (call_moves nn) (marked (tests.Flag condition) (first (instrs.CallIf condition nn)))) after)
+      → Out (instrs.CallIf condition nn) kind after
+  unfolding test_of before_test behind_test after_moves after_move drafted
+  call_if_end condition nn kind after run start out go =
+      let instr = instrs.CallIf condition nn in
+      let h = goes_held g a (outside_of c) inline (moves_of instr) (Known_of instr) entry before (first instr) words run start (tests.Flag condition) refl refl out in
+      let n = some_of _ _ h.0 in
+      let rest = tested_leaves (tests.Flag condition) true (Known_of instr) n.known n.is in
+      let held_way : Known → Next = λ taken. next_of main instr true kind (after_moves g inline (call_moves nn) taken) in
+      let left_way : Known → Next = λ left. next_of main instr false kinds.Jump left in
+      record {
+        known = after_moves g inline (call_moves nn) n.known;
+        fits = subst (λ (x : Draft). Fits g a (after_moves g inline (call_moves nn) n.known) entry before x after) (sym h.1) (go n.known n.holds.0.readable n.holds.1 n.holds.0);
+        taken = true;
+        listed = subst (λ (o : Option Known). Contains (way_on o held_way ++ way_on (tested (tests.Flag condition) false (Known_of instr)) left_way) (next_of main instr true kind (after_moves g inline (call_moves nn) n.known))) (sym n.is) (first_way n.known (tested (tests.Flag condition) false (Known_of instr)) held_way left_way);
+        cost = ap (cost_of instr) out;
+        one = λ on. refl;
+        writes = ap (λ ws. ws.items) (moves_writes g inline (call_moves nn) n.known refl ∙ rest.writes);
+      }
+
+  -- ---- returns
+
+  pub return_end : (kind : NextKind) (after : List ℕ) → Fits g a (after_move g inline (moves.Pop registers.Pc) (Known_of instrs.Return)) entry before (instr_draft c instrs.Return) after → ((kind ≢ kinds.Exit) → IsOne (last_slot a.shape).pair.word) → Out instrs.Return kind after
+  unfolding test_of before_test after_moves after_move
+  return_end kind after f one =
+      record { known = after_move g inline (moves.Pop registers.Pc) (Known_of instrs.Return); fits = f; taken = true; listed = (0, omega arith, refl); cost = refl; one = one; writes = refl }
+
+  pub from_interrupt_end : (kind : NextKind) (after : List ℕ) → Fits g a (after_move g inline (moves.Pop registers.Pc) (Known_of instrs.ReturnFromInterrupt)) entry before (instr_draft c instrs.ReturnFromInterrupt) after → ((kind ≢ kinds.Exit) → IsOne (last_slot a.shape).pair.word) → Out instrs.ReturnFromInterrupt kind after
+  unfolding test_of before_test after_moves after_move
+  from_interrupt_end kind after f one =
+      record { known = after_move g inline (moves.Pop registers.Pc) (Known_of instrs.ReturnFromInterrupt); fits = f; taken = true; listed = (0, omega arith, refl); cost = refl; one = one; writes = refl }
+
+  pub from_non_maskable_end : (kind : NextKind) (after : List ℕ) → Fits g a (after_move g inline (moves.Pop registers.Pc) (Known_of instrs.ReturnFromNonMaskable)) entry before (instr_draft c instrs.ReturnFromNonMaskable) after → ((kind ≢ kinds.Exit) → IsOne (last_slot a.shape).pair.word) → Out instrs.ReturnFromNonMaskable kind after
+  unfolding test_of before_test after_moves after_move
+  from_non_maskable_end kind after f one =
+      record { known = after_move g inline (moves.Pop registers.Pc) (Known_of instrs.ReturnFromNonMaskable); fits = f; taken = true; listed = (0, omega arith, refl); cost = refl; one = one; writes = refl }
+
+  -- RET cc that is taken
+  pub return_if_end : (condition : Condition) (kind : NextKind) (after : List ℕ) → Runs (instrs.ReturnIf condition) → Begun (instrs.ReturnIf condition) → (instr_draft c (instrs.ReturnIf condition)).taken ≡ true
+      → ((n : Known) → Fits g a n entry before (marked (tests.Flag condition) (first (instrs.ReturnIf condition))) words
+          → Fits g a (after_move g inline (moves.Pop registers.Pc) n) entry before (drafted (outside_of c) (moves.Pop registers.Pc ∷ []) (marked (tests.Flag condition) (first (instrs.ReturnIf condition)))) after)
+      → ((kind ≢ kinds.Exit) → is_single (last_slot a.shape).pair.word ≡ true)
+      → Out (instrs.ReturnIf condition) kind after
+  unfolding test_of before_test behind_test after_moves after_move drafted
+  return_if_end condition kind after run start out go single =
+      let instr = instrs.ReturnIf condition in
+      let h = goes_held g a (outside_of c) inline (moves_of instr) (Known_of instr) entry before (first instr) words run start (tests.Flag condition) refl refl out in
+      let n = some_of _ _ h.0 in
+      let rest = tested_leaves (tests.Flag condition) true (Known_of instr) n.known n.is in
+      let held_way : Known → Next = λ taken. next_of main instr true kind (after_move g inline (moves.Pop registers.Pc) taken) in
+      let left_way : Known → Next = λ left. next_of main instr false kinds.Jump left in
+      record {
+        known = after_move g inline (moves.Pop registers.Pc) n.known;
+        fits = subst (λ (x : Draft). Fits g a (after_move g inline (moves.Pop registers.Pc) n.known) entry before x after) (sym h.1) (go n.known n.holds.0);
+        taken = true;
+        listed = subst (λ (o : Option Known). Contains (way_on o held_way ++ way_on (tested (tests.Flag condition) false (Known_of instr)) left_way) (next_of main instr true kind (after_move g inline (moves.Pop registers.Pc) n.known))) (sym n.is) (first_way n.known (tested (tests.Flag condition) false (Known_of instr)) held_way left_way);
+        cost = ap (cost_of instr) out;
+        one = λ on. slot_one a.shape n.known.state.shape n.holds.1.1 (single on);
+        writes = ap (λ ws. ws.items) (move_writes g inline (moves.Pop registers.Pc) n.known refl ∙ rest.writes);
+      }
