@@ -3,8 +3,10 @@ pub mod Asides
 pub mod GoesAside
 pub mod GoesStack
 pub mod Here
+pub mod KeepsAside
 pub mod KnownWrites
 pub mod OneCost
+pub mod Scenes
 pub mod TameInstructions
 pub mod TameMoves
 pub mod Uses
