@@ -3,6 +3,7 @@ use Rattle.std.proofs.Common.{◌≡◌, ◌≢◌, ◌≤◌, ◌<◌, ◌+◌,
 use Rattle.std.specs.Prelude.{◌&&◌, ◌||◌, ◌==◌}
 use Rattle.std.specs.List.{All, AllZip, Contains}
 use Rattle.std.proofs.lemmas.Bool.{cases_Bool, eqb-true}
+use Rattle.std.proofs.lemmas.Grind.{common_steps}
 use Rattle.loop_bounds.specs.Effect.{Valuation, change_of}
 use Rattle.loop_bounds.specs.declared.effect.Effect.{Effect}
 use Rattle.loop_bounds.specs.declared.variable.Variable.{Variable}
@@ -43,7 +44,7 @@ use Rattle.abs_state.specs.declared.mode.Mode.{Mode}
 use Rattle.abs_state.specs.declared.mode.Mode.TheVariants.{Unset, Set, Nmi}
 use Rattle.abs_state.specs.declared.state.AbsState.{AbsState}
 use Rattle.abs_draft.specs.Ground.{Ground}
-use Rattle.abs_draft.specs.Outcomes.{settled}
+use Rattle.abs_draft.specs.Outcomes.{known_before, settled}
 use Rattle.abs_draft.specs.declared.data_write.DataWrite.{DataWrite}
 use Rattle.abs_draft.specs.declared.known.Known.{Known}
 use Rattle.abs_laws.specs.Cells.{bytes_of_cells}
@@ -122,3 +123,117 @@ module _ (g : Ground) (address : ℕ) (main inline : Bool) (a : AbsState) (regio
           through = by_registers (settled e.known.state e.known.effect) (value_in (seen_of g.cells running.words s)) (seen_of g.cells running.words new) (seen_of g.cells [] new) (length running.words) refl (through_after g s env a instr running e.known running.words f);
         };
       }
+
+-- ---- PUSH, POP and EX (SP)
+
+or_false : (x y : Bool) → (x || y) ≡ false → (x ≡ false) × (y ≡ false)
+or_false true y e = absurd (cc)
+or_false false y e = (refl, e)
+
+-- an instruction that uses the stack is at a row where SP is set
+pub is_set : (a : AbsState) (u : Bool) → u ≡ true → (u && is_unset a.mode) ≡ false → a.mode ≢ Unset
+is_set a true e h unset = let t : is_unset a.mode ≡ true = ap is_unset unset in absurd (cc)
+is_set a false e h unset = absurd (cc)
+
+and_true : (b : Bool) → (b && true) ≡ false → b ≡ false
+and_true true e = e
+and_true false e = refl
+
+-- a shape of at most 64 slots that has not 64 has room
+pub has_room : (n : ℕ) → n ≤ 64 → (n == 64) ≡ false → n < 64
+has_room n le ne = grind (arith, common_steps)
+
+-- words on top of others, the last one apart
+pub top_word : (region : Region) (g : Ground) (s : State) (words rest under : List ℕ) (word : ℕ) → words ≡ rest ++ word ∷ [] → HasWords g.map region s (on_top words under) → HasWords g.map region s (word ∷ on_top rest under)
+top_word region g s words rest under word e h = subst (λ ws. HasWords g.map region s ws) (ap (λ ws. on_top ws under) e ∙ on_top-push rest word under) h
+
+-- the word of a stack pair does not hang on the program counter
+pair_word : (qq : StackPair) (n : ℕ) (regs : Regs) → word_in (stack_register qq) (draft_on (past n regs)) ≡ word_in (stack_register qq) (draft_on regs)
+pair_word stack_pairs.Bc n regs = refl
+pair_word stack_pairs.De n regs = refl
+pair_word stack_pairs.Hl n regs = refl
+pair_word stack_pairs.Af n regs = refl
+pair_word stack_pairs.Ix n regs = refl
+pair_word stack_pairs.Iy n regs = refl
+
+pointer_word : (p : Pointer) (n : ℕ) (regs : Regs) → word_in (pointer_register p) (draft_on (past n regs)) ≡ word_in (pointer_register p) (draft_on regs)
+pointer_word pointers.Hl n regs = refl
+pointer_word pointers.Ix n regs = refl
+pointer_word pointers.Iy n regs = refl
+
+module _ (g : Ground) (address : ℕ) (main inline : Bool) (a : AbsState) (region : Region) (running : Running) (s : State) (env : Env) where
+  abbrev Ends : Instr → NextKind → List ℕ → Type 0
+  Ends instr kind words = End g (here g s env) a instr main kind running.entry (value_in (seen_of g.cells running.words s)) words (writes_of g address a (Ok instr)) (nexts_of g address main inline instr a)
+
+  -- what is known before the first move is true, with these words on the stack
+  abbrev StartsWith : Instr → List ℕ → Type 0
+  StartsWith instr words = Fits g a (known_before address instr a) running.entry (value_in (seen_of g.cells running.words s)) (draft_on (past (length (spelling instr)) s.regs)) words
+
+  abbrev Has : List ℕ → State → Type 0
+  Has words new = HasWords g.map region new words
+
+  -- a jump has room for its words
+  pub jump_room : (instr : Instr) (words : List ℕ) → sets_sp instr ≡ false → Scene g address main inline a instr region running s env → Ends instr kinds.Jump words → HasRoom region (length words + length running.under)
+  jump_room instr words sets x e =
+      let n = next_of main instr e.taken kinds.Jump e.known in
+      let room : HasRoom region (length n.state.shape + length running.under) = all_at (λ n. n.kind ≡ kinds.Jump → HasRoom region (length n.state.shape + length running.under)) _ n x.order.jumps e.listed refl in
+      let same : length n.state.shape ≡ length e.known.state.shape = ap (λ (y : AbsState). length y.shape) (stack_same main instr e.known.state sets) in
+      let many : length words ≡ length e.known.state.shape = as_many _ _ _ e.fits.shape in
+      subst (λ (k : ℕ). HasRoom region (k + length running.under)) (same ∙ sym many) room
+
+  -- a jump that leaves these words goes on with them
+  pub stack_goes : (instr : Instr) (words : List ℕ) → sets_sp instr ≡ false → Scene g address main inline a instr region running s env → (e : Ends instr kinds.Jump words) → IsDoneWith (here g s env) region instr (on_top words running.under) → Goes g.cells region running a instr (nexts_of g address main inline instr a) (here g s env)
+  stack_goes instr words sets x e d =
+      let zip = known_zip g address main inline a region running s env instr kinds.Jump words e in
+      let inside = trap_inside region (here g s env) instr x.io d.trap in
+      goes_on g s env a instr main region running (writes_of g address a (Ok instr)) (nexts_of g address main inline instr a) words sets (keeps_board g address main inline a instr region running s env x zip inside) (λ set. d.has) e
+
+  pub push_goes : (qq : StackPair) → Scene g address main inline a (instrs.Push qq) region running s env → Goes g.cells region running a (instrs.Push qq) (nexts_of g address main inline (instrs.Push qq) a) (here g s env)
+  push_goes qq x =
+      let instr = instrs.Push qq in
+      let b = begun g address a instr region running s env x.at x.stands x.before in
+      let full : ((length a.shape == 64) && true) ≡ false = (or_false _ _ x.shape).0 in
+      let word = word_in (stack_register qq) (draft_on (past (length (spelling instr)) s.regs)) in
+      let few : length a.shape < 64 = has_room (length a.shape) x.fits (and_true _ full) in
+      let e : Ends instr kinds.Jump (running.words ++ word ∷ []) = push_end g (here g s env) a main inline running.entry _ running.words address qq few b.start in
+      let h = x.before.laid (is_set a true refl x.set) in
+      let room : HasRoom region (length (running.words ++ word ∷ []) + length running.under) = jump_room instr _ refl x e in
+      let long = length-append running.words (word ∷ []) in
+      let count = on_top-length running.words running.under in
+      let done_with = push_done (here g s env) region instr (on_top running.words running.under) h (omega (arith, room, long, count)) refl in
+      let same : pushed_word s.regs instr ∷ on_top running.words running.under ≡ on_top (running.words ++ word ∷ []) running.under = ap (λ w. w ∷ on_top running.words running.under) (sym (pair_word qq _ s.regs)) ∙ sym (on_top-push running.words word running.under) in
+      stack_goes instr (running.words ++ word ∷ []) refl x e (subst (IsDoneWith (here g s env) region instr) same done_with)
+
+  -- the word on top, as it is read
+  pub record Tops (instr : Instr) : Type 0 where
+    pub ends : EndsIn running.words
+    pub has : Has (ends.word ∷ on_top ends.rest running.under) s
+    pub found : word_read (outside_of (here g s env)) false s.regs.sp ≡ ends.word
+    pub small : ends.word < 65536
+
+  pub tops : (instr : Instr) → uses_stack instr ≡ true → is_empty a.shape ≡ false → Scene g address main inline a instr region running s env → IsBegun g address a instr running s env → Tops instr
+  tops instr u some x b =
+      let e = ends_in a.shape running.entry running.words some x.before.holds.shape in
+      let h : Has (e.word ∷ on_top e.rest running.under) s = top_word region g s running.words e.rest running.under e.word e.is (x.before.laid (is_set a (uses_stack instr) u x.set)) in
+      let found : word_read (outside_of (here g s env)) false s.regs.sp ≡ e.word = word_found (here g s env) region false s.regs.sp e.word (on_top e.rest running.under) h.is_region (omega (arith, h.room)) h.laid in
+      record { ends = e; has = h; found = found; small = subst (λ (n : ℕ). n < 65536) found (word_is_read g (outside_of (here g s env)) a.armed false s.regs.sp b.run.reads) }
+
+  pub pop_goes : (qq : StackPair) → Scene g address main inline a (instrs.Pop qq) region running s env → Goes g.cells region running a (instrs.Pop qq) (nexts_of g address main inline (instrs.Pop qq) a) (here g s env)
+  pop_goes qq x =
+      let instr = instrs.Pop qq in
+      let b = begun g address a instr region running s env x.at x.stands x.before in
+      let some : is_empty a.shape ≡ false = (or_false _ _ (or_false _ _ x.shape).1).0 in
+      let t = tops instr refl some x b in
+      let e : Ends instr kinds.Jump t.ends.rest = pop_end g (here g s env) a main inline running.entry _ running.words address qq t.ends.rest t.ends.word t.small t.found (subst (StartsWith instr) t.ends.is b.start) in
+      stack_goes instr t.ends.rest refl x e (pop_done (here g s env) region instr t.ends.word (on_top t.ends.rest running.under) t.has refl).0
+
+  pub exchange_goes : (p : Pointer) → Scene g address main inline a (instrs.ExchangeStack p) region running s env → Goes g.cells region running a (instrs.ExchangeStack p) (nexts_of g address main inline (instrs.ExchangeStack p) a) (here g s env)
+  exchange_goes p x =
+      let instr = instrs.ExchangeStack p in
+      let b = begun g address a instr region running s env x.at x.stands x.before in
+      let some : is_empty a.shape ≡ false = (or_false _ _ (or_false _ _ x.shape).1).0 in
+      let t = tops instr refl some x b in
+      let word = word_in (pointer_register p) (draft_on (past (length (spelling instr)) s.regs)) in
+      let e : Ends instr kinds.Jump (t.ends.rest ++ word ∷ []) = exchange_end g (here g s env) a main inline running.entry _ running.words address p t.ends.rest t.ends.word t.small t.found (subst (StartsWith instr) t.ends.is b.start) in
+      let same : word_in (pointer_register p) (draft_on s.regs) ∷ on_top t.ends.rest running.under ≡ on_top (t.ends.rest ++ word ∷ []) running.under = ap (λ w. w ∷ on_top t.ends.rest running.under) (sym (pointer_word p _ s.regs)) ∙ sym (on_top-push t.ends.rest word running.under) in
+      stack_goes instr (t.ends.rest ++ word ∷ []) refl x e (subst (IsDoneWith (here g s env) region instr) same (exchange_done (here g s env) region p t.ends.word (on_top t.ends.rest running.under) t.has).0)

@@ -4,6 +4,7 @@ pub mod GoesAside
 pub mod GoesStack
 pub mod Here
 pub mod KeepsAside
+pub mod KeepsCalls
 pub mod KeepsStack
 pub mod KnownWrites
 pub mod OneCost

@@ -1,0 +1,130 @@
+-- What calls and returns keep.
+use Rattle.std.proofs.Common.{◌≡◌, ◌≢◌, ◌≤◌, ◌<◌, ◌+◌, ◌∙◌, ℕ, suc, Bool, true, false, not, cond, List, [], ◌∷◌, ◌++◌, length, length-append, Option, Some, None, Ok, refl, sym, ap, subst, arith, inl, inr}
+use Rattle.std.specs.Prelude.{◌&&◌, ◌||◌, ◌==◌, ◌%◌, ◌*◌}
+use Rattle.std.specs.List.{All, AllZip, Contains}
+use Rattle.std.proofs.lemmas.Bool.{cases_Bool, eqb-true}
+use Rattle.intervals.specs.Logic.{is_single}
+use Rattle.stack_shape.specs.declared.slot.Slot.{Slot}
+use Rattle.z80_alu.specs.declared.regs.Regs.{Regs}
+use Rattle.z80_decode.specs.Kinds.{restart}
+use Rattle.z80_decode.specs.Spelling.{spelling}
+use Rattle.z80_decode.specs.declared.instr.Instr.{Instr}
+use Rattle.z80_decode.specs.declared.instr.Instr.TheVariants as instrs
+use Rattle.z80_decode.specs.declared.kinds.Condition.{Condition}
+use Rattle.z80_decode.specs.declared.kinds.RestartAddress.{RestartAddress}
+use Rattle.z80_draft.specs.Draft.{Draft, draft_on, drafted, moved, past, test_holds, word_in, word_read}
+use Rattle.z80_draft.specs.Outside.{Outside}
+use Rattle.z80_moves.specs.Moves.{moves_of}
+use Rattle.z80_moves.specs.declared.moves.Move.{Move}
+use Rattle.z80_moves.specs.declared.moves.Move.TheVariants as moves
+use Rattle.z80_moves.specs.declared.moves.Test.{Test}
+use Rattle.z80_moves.specs.declared.moves.Test.TheVariants as tests
+use Rattle.z80_moves.specs.declared.registers.WordRegister.TheVariants as registers
+use Rattle.address_map.specs.declared.region.Region.{Region}
+use Rattle.board_step.specs.Context.{Context}
+use Rattle.board_step.specs.Reads.{outside_of}
+use Rattle.board_step.specs.Run.{is_return}
+use Rattle.board_step.specs.State.{State}
+use Rattle.board_step.specs.Step.{done, instr_draft}
+use Rattle.board_step.specs.Trap.{some_outside}
+use Rattle.board_step.specs.declared.env.Env.{Env}
+use Rattle.stack_words.specs.Board.{HasWords, IsDoneWith}
+use Rattle.stack_words.specs.Region.{HasRoom}
+use Rattle.stack_words.specs.Uses.{is_push, pushed_word, sets_sp}
+use Rattle.stack_words.specs.Words.{on_top}
+use Rattle.stack_words.proofs.Brought.{reaches}
+use Rattle.stack_words.proofs.EachInstruction.{aside_done, pop_done, push_done}
+use Rattle.stack_words.proofs.WordLaws.{on_top-length, on_top-push}
+use Rattle.abs_state.specs.Cell.{HoldsCells}
+use Rattle.abs_state.specs.Holds.{Holds, HoldsMode}
+use Rattle.abs_state.specs.Variables.{value_in}
+use Rattle.abs_state.specs.declared.mode.Mode.TheVariants.{Unset, Nmi}
+use Rattle.abs_state.specs.declared.state.AbsState.{AbsState}
+use Rattle.abs_draft.specs.Ground.{Ground}
+use Rattle.abs_draft.specs.Outcomes.{after_moves, before_test, behind_test, known_before, test_of}
+use Rattle.abs_draft.specs.declared.known.Known.{Known}
+use Rattle.abs_laws.specs.Cells.{bytes_of_cells}
+use Rattle.abs_laws.specs.Fits.{Fits, LiesIn, state_after_writes}
+use Rattle.abs_laws.proofs.Enables.{enable_stays, set_stays}
+use Rattle.abs_step.specs.Contained.{Called, Ended, Goes, Running, SameRegs, seen_of}
+use Rattle.abs_step.specs.Successors.{is_empty, kind_of, next_of, nexts_of, returns_nowhere, stack_set, uses_stack, writes_of}
+use Rattle.abs_step.specs.declared.next.NextKind.{NextKind}
+use Rattle.abs_step.specs.declared.next.NextKind.TheVariants as kinds
+use Rattle.abs_step.proofs.Asides.{End}
+use Rattle.abs_step.proofs.GoesAside.{KeepsBoard}
+use Rattle.abs_step.proofs.GoesStack.{as_many}
+use Rattle.abs_step.proofs.Here.{address_after, begun, here, holds_after}
+use Rattle.abs_step.proofs.KeepsAside.{known_zip}
+use Rattle.abs_step.proofs.KeepsStack.{is_set}
+use Rattle.abs_step.proofs.Scenes.{Scene, all_at, keeps_board, trap_inside}
+use Rattle.abs_step.proofs.Uses.{stack_same}
+
+-- what a call or a return leaves of the registers, and no data write
+pub record Spared (c : Context) (d : Draft) : Type 0 where
+  pub same : SameRegs c.state.regs d.regs
+  pub writes : d.writes ≡ []
+
+module _ (g : Ground) (address : ℕ) (main inline : Bool) (a : AbsState) (region : Region) (running : Running) (s : State) (env : Env) where
+  abbrev Ends : Instr → NextKind → List ℕ → Type 0
+  Ends instr kind words = End g (here g s env) a instr main kind running.entry (value_in (seen_of g.cells running.words s)) words (writes_of g address a (Ok instr)) (nexts_of g address main inline instr a)
+
+  -- the mode and the state of a way on that neither sets SP nor writes
+  pub record Kept (instr : Instr) (kind : NextKind) (words : List ℕ) (e : Ends instr kind words) : Type 0 where
+    pub state : stack_set main instr e.known.state ≡ e.known.state
+    pub holds : Holds (stack_set main instr e.known.state) g.cells running.entry (seen_of g.cells words (done (here g s env) instr))
+    pub set : a.mode ≢ Unset → (stack_set main instr e.known.state).mode ≢ Unset
+    pub nmi : a.mode ≡ Nmi → (stack_set main instr e.known.state).mode ≡ Nmi
+    pub same : SameRegs s.regs (done (here g s env) instr).regs
+    pub enable : (done (here g s env) instr).enable ≡ s.enable
+
+  pub kept : (instr : Instr) (kind : NextKind) (words : List ℕ) → sets_sp instr ≡ false → Scene g address main inline a instr region running s env → (e : Ends instr kind words)
+      → some_outside region (instr_draft (here g s env) instr).stack ≡ false → Spared (here g s env) (instr_draft (here g s env) instr) → Kept instr kind words e
+  kept instr kind words sets x e inside spared =
+      let new = done (here g s env) instr in
+      let d = instr_draft (here g s env) instr in
+      let f = e.fits in
+      let zip = known_zip g address main inline a region running s env instr kind words e in
+      let k = keeps_board g address main inline a instr region running s env x zip inside in
+      let r = reaches g.map d s in
+      let mode : HoldsMode (state_after_writes g e.known.writes.items a).mode new.enable new.line new.latched = subst (λ ws. HoldsMode (state_after_writes g ws a).mode new.enable new.line new.latched) (sym e.writes) k.mode in
+      let cells : HoldsCells (state_after_writes g e.known.writes.items a).armed g.cells (bytes_of_cells g.cells new) = subst (λ ws. HoldsCells (state_after_writes g ws a).armed g.cells (bytes_of_cells g.cells new)) (sym e.writes) k.cells in
+      let same : stack_set main instr e.known.state ≡ e.known.state = stack_same main instr e.known.state sets in
+      let mode_is : (stack_set main instr e.known.state).mode ≡ (state_after_writes g (writes_of g address a (Ok instr)) a).mode = ap (λ (y : AbsState). y.mode) same ∙ (f.mode ∙ ap (λ ws. (state_after_writes g ws a).mode) e.writes) in
+      let regs : SameRegs s.regs d.regs = spared.same in
+      record {
+        state = same;
+        holds = subst (λ y. Holds y g.cells running.entry (seen_of g.cells words new)) (sym same) (holds_after g s env a instr running e.known _ words f mode cells);
+        set = λ set unset. set_stays g (writes_of g address a (Ok instr)) a set (sym mode_is ∙ unset);
+        nmi = λ n. mode_is ∙ k.nmi n;
+        same = subst (λ y. SameRegs s.regs y) (sym r.regs) regs;
+        enable = enable_stays g.map region d s x.before.is_region spared.writes inside;
+      }
+
+  -- a call that is not inline
+  pub called_goes : (instr : Instr) → sets_sp instr ≡ false → (uses_stack instr ≡ true) → Scene g address main inline a instr region running s env → (e : Ends instr kinds.Call running.words)
+      → is_push instr (instr_draft (here g s env) instr).taken ≡ true → pushed_word s.regs instr ≡ (s.regs.pc + length (spelling instr)) % 65536
+      → Spared (here g s env) (instr_draft (here g s env) instr) → Goes g.cells region running a instr (nexts_of g address main inline instr a) (here g s env)
+  called_goes instr sets u x e pushes word spared =
+      let n = next_of main instr e.taken kinds.Call e.known in
+      let set = is_set a (uses_stack instr) u x.set in
+      let h = x.before.laid set in
+      let room : HasRoom region (1 + (length n.state.shape + length running.under)) = all_at (λ n. n.kind ≡ kinds.Call → HasRoom region (1 + (length n.state.shape + length running.under))) _ n x.order.calls e.listed refl in
+      let shape : length n.state.shape ≡ length e.known.state.shape = ap (λ (y : AbsState). length y.shape) (stack_same main instr e.known.state sets) in
+      let many : length running.words ≡ length e.known.state.shape = as_many _ _ _ e.fits.shape in
+      let count = on_top-length running.words running.under in
+      let d = push_done (here g s env) region instr (on_top running.words running.under) h (omega (arith, room, shape, many, count)) pushes in
+      let k = kept instr kinds.Call running.words sets x e (trap_inside region (here g s env) instr x.io d.trap) spared in
+      record {
+        next = n;
+        listed = e.listed;
+        cost = e.cost;
+        stays = k.nmi;
+        goes = record {
+          set = k.set set;
+          pc = address_after g s env a instr running e.known _ running.words e.fits (e.one (λ same. absurd (cc)));
+          same = k.same;
+          enable = k.enable;
+          holds = k.holds;
+          laid = subst (λ w. HasWords g.map region (done (here g s env) instr) (w ∷ on_top running.words running.under)) word d.has;
+        };
+      }
