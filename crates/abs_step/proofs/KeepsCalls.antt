@@ -30,7 +30,7 @@ use Rattle.board_step.specs.Trap.{some_outside}
 use Rattle.board_step.specs.declared.env.Env.{Env}
 use Rattle.stack_words.specs.Board.{HasWords, IsDoneWith}
 use Rattle.stack_words.specs.Region.{HasRoom}
-use Rattle.stack_words.specs.Uses.{is_push, pushed_word, sets_sp}
+use Rattle.stack_words.specs.Uses.{is_pop, is_push, popped_into, pushed_word, sets_sp}
 use Rattle.stack_words.specs.Words.{on_top}
 use Rattle.stack_words.proofs.Brought.{reaches}
 use Rattle.stack_words.proofs.EachInstruction.{aside_done, pop_done, push_done}
@@ -46,7 +46,7 @@ use Rattle.abs_draft.specs.declared.known.Known.{Known}
 use Rattle.abs_laws.specs.Cells.{bytes_of_cells}
 use Rattle.abs_laws.specs.Fits.{Fits, LiesIn, state_after_writes}
 use Rattle.abs_laws.proofs.Enables.{enable_stays, set_stays}
-use Rattle.abs_step.specs.Contained.{Called, Ended, Goes, Running, SameRegs, seen_of}
+use Rattle.abs_step.specs.Contained.{Called, Ended, Goes, IsUnder, Running, SameRegs, seen_of}
 use Rattle.abs_step.specs.Successors.{is_empty, kind_of, next_of, nexts_of, returns_nowhere, stack_set, uses_stack, writes_of}
 use Rattle.abs_step.specs.declared.next.NextKind.{NextKind}
 use Rattle.abs_step.specs.declared.next.NextKind.TheVariants as kinds
@@ -63,6 +63,17 @@ use Rattle.abs_step.proofs.Uses.{stack_same}
 pub record Spared (c : Context) (d : Draft) : Type 0 where
   pub same : SameRegs c.state.regs d.regs
   pub writes : d.writes ≡ []
+
+-- what lies under an activation that is not main code's
+pub record UnderIs (under : List ℕ) : Type 0 where
+  pub word : ℕ
+  pub rest : List ℕ
+  pub is : under ≡ word ∷ rest
+
+under_is : (main : Bool) (under : List ℕ) → main ≡ false → IsUnder main under → UnderIs under
+under_is false (word ∷ rest) e h = record { word = word; rest = rest; is = refl }
+under_is false [] e h = absurd h
+under_is true under e h = absurd (cc)
 
 module _ (g : Ground) (address : ℕ) (main inline : Bool) (a : AbsState) (region : Region) (running : Running) (s : State) (env : Env) where
   abbrev Ends : Instr → NextKind → List ℕ → Type 0
@@ -126,5 +137,39 @@ module _ (g : Ground) (address : ℕ) (main inline : Bool) (a : AbsState) (regio
           enable = k.enable;
           holds = k.holds;
           laid = subst (λ w. HasWords g.map region (done (here g s env) instr) (w ∷ on_top running.words running.under)) word d.has;
+        };
+      }
+
+  -- a return on an empty shape
+  pub ended_goes : (instr : Instr) → sets_sp instr ≡ false → (uses_stack instr ≡ true) → Scene g address main inline a instr region running s env → (e : Ends instr kinds.Exit [])
+      → popped_into instr ≡ registers.Pc → is_pop instr (instr_draft (here g s env) instr).taken ≡ true → is_return instr (instr_draft (here g s env) instr).taken ≡ true
+      → main ≡ false → running.words ≡ [] → Spared (here g s env) (instr_draft (here g s env) instr) → Goes g.cells region running a instr (nexts_of g address main inline instr a) (here g s env)
+  unfolding on_top
+  ended_goes instr sets u x e into pops returns not_main none spared =
+      let set = is_set a (uses_stack instr) u x.set in
+      let low = under_is running.main running.under (x.is_main ∙ not_main) x.before.under in
+      let lies : HasWords g.map region s (low.word ∷ low.rest) = subst (λ ws. HasWords g.map region s ws) (ap (λ ws. on_top ws running.under) none ∙ low.is) (x.before.laid set) in
+      let p = pop_done (here g s env) region instr low.word low.rest lies pops in
+      let d = instr_draft (here g s env) instr in
+      let k = kept instr kinds.Exit [] sets x e (trap_inside region (here g s env) instr x.io p.0.trap) spared in
+      let r = reaches g.map d s in
+      let popped : d.regs.pc ≡ low.word = ap (λ w. word_in w d) (sym into) ∙ p.1 in
+      let pc : (done (here g s env) instr).regs.pc ≡ low.word = ap (λ y. y.pc) r.regs ∙ popped in
+      record {
+        next = next_of main instr e.taken kinds.Exit e.known;
+        listed = e.listed;
+        cost = e.cost;
+        stays = k.nmi;
+        goes = record {
+          set = k.set set;
+          main = x.is_main ∙ not_main;
+          none = none;
+          rest = low.rest;
+          under = low.is ∙ ap (λ w. w ∷ low.rest) (sym pc);
+          same = k.same;
+          enable = k.enable;
+          returns = returns;
+          holds = k.holds;
+          laid = p.0.has;
         };
       }

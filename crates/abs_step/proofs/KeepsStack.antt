@@ -126,7 +126,7 @@ module _ (g : Ground) (address : ℕ) (main inline : Bool) (a : AbsState) (regio
 
 -- ---- PUSH, POP and EX (SP)
 
-or_false : (x y : Bool) → (x || y) ≡ false → (x ≡ false) × (y ≡ false)
+pub or_false : (x y : Bool) → (x || y) ≡ false → (x ≡ false) × (y ≡ false)
 or_false true y e = absurd (cc)
 or_false false y e = (refl, e)
 
@@ -135,7 +135,7 @@ pub is_set : (a : AbsState) (u : Bool) → u ≡ true → (u && is_unset a.mode)
 is_set a true e h unset = let t : is_unset a.mode ≡ true = ap is_unset unset in absurd (cc)
 is_set a false e h unset = absurd (cc)
 
-and_true : (b : Bool) → (b && true) ≡ false → b ≡ false
+pub and_true : (b : Bool) → (b && true) ≡ false → b ≡ false
 and_true true e = e
 and_true false e = refl
 

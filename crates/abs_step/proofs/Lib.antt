@@ -5,6 +5,7 @@ pub mod GoesStack
 pub mod Here
 pub mod KeepsAside
 pub mod KeepsCalls
+pub mod KeepsEach
 pub mod KeepsStack
 pub mod KnownWrites
 pub mod OneCost
