@@ -83,3 +83,79 @@ module _ (g : Ground) (address : ℕ) (main : Bool) (a : AbsState) (region : Reg
       let fits = called_fits g a (outside_of (here g s env)) (known_before address instr a) running.entry (value_in (seen_of g.cells running.words s)) (draft_on (past (length (spelling instr)) s.regs)) running.words (8 * restart p) b.run.in_range.1.0 (omega arith) b.run.reads b.start in
       called_goes g address main false a region running s env instr refl refl x (restart_end g (here g s env) a main false running.entry _ running.words address p kinds.Call running.words fits) refl refl
       (record { same = record { main = refl; alternate = refl; ix = refl; iy = refl; i = refl }; writes = refl })
+
+  -- one that is inline pushes a word of the activation's own
+  inline_goes : (instr : Instr) (word : ℕ) → sets_sp instr ≡ false → uses_stack instr ≡ true → (x : Scene_of true instr)
+      → (e : End g (here g s env) a instr main kinds.Jump running.entry (value_in (seen_of g.cells running.words s)) (running.words ++ word ∷ []) (writes_of g address a (Ok instr)) (nexts_of g address main true instr a))
+      → is_push instr (instr_draft (here g s env) instr).taken ≡ true → pushed_word s.regs instr ≡ word → GoesAt true instr
+  inline_goes instr word sets u x e pushes is =
+      let h = x.before.laid (is_set a (uses_stack instr) u x.set) in
+      let room : HasRoom region (length (running.words ++ word ∷ []) + length running.under) = jump_room g address main true a region running s env instr _ sets x e in
+      let long = length-append running.words (word ∷ []) in
+      let count = on_top-length running.words running.under in
+      let d = push_done (here g s env) region instr (on_top running.words running.under) h (omega (arith, room, long, count)) pushes in
+      let same : pushed_word s.regs instr ∷ on_top running.words running.under ≡ on_top (running.words ++ word ∷ []) running.under = ap (λ w. w ∷ on_top running.words running.under) is ∙ sym (on_top-push running.words word running.under) in
+      stack_goes g address main true a region running s env instr (running.words ++ word ∷ []) sets x e (subst (IsDoneWith (here g s env) region instr) same d)
+
+  pub inline_call_goes : (nn : ℕ) → Scene_of true (instrs.Call nn) → GoesAt true (instrs.Call nn)
+  unfolding AreInRange drafted
+  inline_call_goes nn x =
+      let instr = instrs.Call nn in
+      let b = begun g address a instr region running s env x.at x.stands x.before in
+      let few : length a.shape < 64 = has_room (length a.shape) x.fits (and_true _ (or_false _ _ x.shape).0) in
+      let fits = inlined_fits g a (outside_of (here g s env)) (known_before address instr a) running.entry (value_in (seen_of g.cells running.words s)) (draft_on (past (length (spelling instr)) s.regs)) running.words nn b.run.in_range.1.0 (omega arith) b.run.reads b.start refl few in
+      inline_goes instr ((s.regs.pc + length (spelling instr)) % 65536) refl refl x (call_end g (here g s env) a main true running.entry _ running.words address nn kinds.Jump _ fits) refl refl
+
+  pub inline_restart_goes : (p : RestartAddress) → Scene_of true (instrs.Restart p) → GoesAt true (instrs.Restart p)
+  unfolding AreInRange drafted
+  inline_restart_goes p x =
+      let instr = instrs.Restart p in
+      let b = begun g address a instr region running s env x.at x.stands x.before in
+      let few : length a.shape < 64 = has_room (length a.shape) x.fits (and_true _ (or_false _ _ x.shape).0) in
+      let fits = inlined_fits g a (outside_of (here g s env)) (known_before address instr a) running.entry (value_in (seen_of g.cells running.words s)) (draft_on (past (length (spelling instr)) s.regs)) running.words (8 * restart p) b.run.in_range.1.0 (omega arith) b.run.reads b.start refl few in
+      inline_goes instr ((s.regs.pc + length (spelling instr)) % 65536) refl refl x (restart_end g (here g s env) a main true running.entry _ running.words address p kinds.Jump _ fits) refl refl
+
+  -- ---- CALL cc
+
+  spared_either : (P : Draft → Type 0) (b : Bool) (x y : Draft) → P x → P y → P (cond b x y)
+  spared_either P true x y p q = p
+  spared_either P false x y p q = q
+
+  call_if_spares : (condition : Condition) (nn : ℕ) → Spared (here g s env) (instr_draft (here g s env) (instrs.CallIf condition nn))
+  unfolding drafted moved
+  call_if_spares condition nn = spared_either (Spared (here g s env)) (test_holds (tests.Flag condition) (draft_on (past (length (spelling (instrs.CallIf condition nn))) s.regs))) _ _
+      (record { same = record { main = refl; alternate = refl; ix = refl; iy = refl; i = refl }; writes = refl })
+      (record { same = record { main = refl; alternate = refl; ix = refl; iy = refl; i = refl }; writes = refl })
+
+  pub call_if_goes : (condition : Condition) (nn : ℕ) → Scene_of false (instrs.CallIf condition nn) → (instr_draft (here g s env) (instrs.CallIf condition nn)).taken ≡ true → GoesAt false (instrs.CallIf condition nn)
+  unfolding AreInRange
+  call_if_goes condition nn x out =
+      let instr = instrs.CallIf condition nn in
+      let b = begun g address a instr region running s env x.at x.stands x.before in
+      let e : End g (here g s env) a instr main kinds.Call running.entry (value_in (seen_of g.cells running.words s)) running.words (writes_of g address a (Ok instr)) (nexts_of g address main false instr a) =
+      call_if_end g (here g s env) a main false running.entry (value_in (seen_of g.cells running.words s)) running.words address condition nn kinds.Call running.words b.run b.start out
+          (λ n readable kept f. called_fits g a (outside_of (here g s env)) n running.entry (value_in (seen_of g.cells running.words s)) _ running.words nn b.run.in_range.1.1.0 (omega arith) (subst (ReadsFit g (outside_of (here g s env))) (sym readable) b.run.reads) f) in
+      called_goes g address main false a region running s env instr refl refl x e out refl (call_if_spares condition nn)
+
+  pub inline_call_if_goes : (condition : Condition) (nn : ℕ) → Scene_of true (instrs.CallIf condition nn) → (instr_draft (here g s env) (instrs.CallIf condition nn)).taken ≡ true → GoesAt true (instrs.CallIf condition nn)
+  unfolding AreInRange
+  inline_call_if_goes condition nn x out =
+      let instr = instrs.CallIf condition nn in
+      let b = begun g address a instr region running s env x.at x.stands x.before in
+      let few : length a.shape < 64 = has_room (length a.shape) x.fits (and_true _ (or_false _ _ x.shape).0) in
+      let word = (s.regs.pc + length (spelling instr)) % 65536 in
+      let e : End g (here g s env) a instr main kinds.Jump running.entry (value_in (seen_of g.cells running.words s)) (running.words ++ word ∷ []) (writes_of g address a (Ok instr)) (nexts_of g address main true instr a) =
+      call_if_end g (here g s env) a main true running.entry (value_in (seen_of g.cells running.words s)) running.words address condition nn kinds.Jump (running.words ++ word ∷ []) b.run b.start out
+          (λ n readable kept f. inlined_fits g a (outside_of (here g s env)) n running.entry (value_in (seen_of g.cells running.words s)) _ running.words nn b.run.in_range.1.1.0 (omega arith) (subst (ReadsFit g (outside_of (here g s env))) (sym readable) b.run.reads) f (ap (λ y. y.slot) kept.0) (subst (λ slots. length slots < 64) (sym kept.1) few)) in
+      inline_goes instr word refl refl x e out refl
+
+  -- CALL cc and RET cc that are not taken: the words stay
+  pub not_taken_goes : (inline : Bool) (instr : Instr) → sets_sp instr ≡ false → uses_stack instr ≡ true → is_aside instr (instr_draft (here g s env) instr).taken ≡ true → (x : Scene_of inline instr)
+      → End g (here g s env) a instr main kinds.Jump running.entry (value_in (seen_of g.cells running.words s)) running.words (writes_of g address a (Ok instr)) (nexts_of g address main inline instr a) → GoesAt inline instr
+  not_taken_goes inline instr sets u aside x e =
+      let zip = known_zip g address main inline a region running s env instr kinds.Jump running.words e in
+      let h = x.before.laid (is_set a (uses_stack instr) u x.set) in
+      let misses = misses_used g.map region s (instr_draft (here g s env) instr).writes running.main a.shape running.entry running.words running.under h x.before.holds.shape x.before.under (λ not. known_miss g.map region _ _ (x.order.overwrites not) zip) in
+      let d = aside_done (here g s env) region instr (on_top running.words running.under) h misses aside in
+      let inside : some_outside region (instr_draft (here g s env) instr).stack ≡ false = ap (some_outside region) d.0 in
+      goes_on g s env a instr main region running (writes_of g address a (Ok instr)) (nexts_of g address main inline instr a) running.words sets (keeps_board g address main inline a instr region running s env x zip inside) (λ set. d.1) e
