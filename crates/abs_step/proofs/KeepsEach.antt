@@ -26,7 +26,7 @@ use Rattle.board_step.specs.Trap.{some_outside}
 use Rattle.board_step.specs.declared.env.Env.{Env}
 use Rattle.stack_words.specs.Board.{HasWords, IsDoneWith}
 use Rattle.stack_words.specs.Region.{HasRoom}
-use Rattle.stack_words.specs.Uses.{is_aside, is_push, pushed_word, sets_sp}
+use Rattle.stack_words.specs.Uses.{is_aside, is_pop, is_push, popped_into, pushed_word, sets_sp}
 use Rattle.stack_words.specs.Words.{on_top}
 use Rattle.stack_words.proofs.EachInstruction.{aside_done, pop_done, push_done}
 use Rattle.stack_words.proofs.WordLaws.{on_top-length, on_top-push}
@@ -159,3 +159,61 @@ module _ (g : Ground) (address : ℕ) (main : Bool) (a : AbsState) (region : Reg
       let d = aside_done (here g s env) region instr (on_top running.words running.under) h misses aside in
       let inside : some_outside region (instr_draft (here g s env) instr).stack ≡ false = ap (some_outside region) d.0 in
       goes_on g s env a instr main region running (writes_of g address a (Ok instr)) (nexts_of g address main inline instr a) running.words sets (keeps_board g address main inline a instr region running s env x zip inside) (λ set. d.1) e
+
+  pub call_if_not_taken : (inline : Bool) (condition : Condition) (nn : ℕ) → Scene_of inline (instrs.CallIf condition nn) → (instr_draft (here g s env) (instrs.CallIf condition nn)).taken ≡ false → GoesAt inline (instrs.CallIf condition nn)
+  unfolding before_test test_of after_moves
+  call_if_not_taken inline condition nn x out =
+      let instr = instrs.CallIf condition nn in
+      let b = begun g address a instr region running s env x.at x.stands x.before in
+      not_taken_goes inline instr refl refl (ap not out) x (left_end g (here g s env) a instr main inline running.entry (value_in (seen_of g.cells running.words s)) running.words address x.io b.start b.run (kind_of inline instr a.shape) (tests.Flag condition) refl refl refl refl out)
+
+  pub return_if_not_taken : (inline : Bool) (condition : Condition) → Scene_of inline (instrs.ReturnIf condition) → (instr_draft (here g s env) (instrs.ReturnIf condition)).taken ≡ false → GoesAt inline (instrs.ReturnIf condition)
+  unfolding before_test test_of after_moves
+  return_if_not_taken inline condition x out =
+      let instr = instrs.ReturnIf condition in
+      let b = begun g address a instr region running s env x.at x.stands x.before in
+      not_taken_goes inline instr refl refl (ap not out) x (left_end g (here g s env) a instr main inline running.entry (value_in (seen_of g.cells running.words s)) running.words address x.io b.start b.run (kind_of inline instr a.shape) (tests.Flag condition) refl refl refl refl out)
+
+  -- ---- returns
+
+  -- the end of a return, as it stands among the ways on
+  abbrev Ending : Bool → Instr → NextKind → NextKind → List ℕ → Type 0
+  Ending inline instr among kind words = End g (here g s env) a instr main kind running.entry (value_in (seen_of g.cells running.words s)) words (writes_of g address a (Ok instr)) (ways_on g main inline instr among (test_of (moves_of instr)) (after_moves g inline (before_test (moves_of instr)) (known_before address instr a)))
+
+  -- what a return needs: how its kind goes by the shape, and the two ends
+  pub record Returns (inline : Bool) (instr : Instr) : Type 0 where
+    pub sets : sets_sp instr ≡ false
+    pub uses : uses_stack instr ≡ true
+    pub kind : (b : Bool) → is_empty a.shape ≡ b → kind_of inline instr a.shape ≡ cond b kinds.Exit kinds.Jump
+    pub nowhere : returns_nowhere main a.shape ≡ false
+    pub into : popped_into instr ≡ registers.Pc
+    pub pops : is_pop instr (instr_draft (here g s env) instr).taken ≡ true
+    pub returns : is_return instr (instr_draft (here g s env) instr).taken ≡ true
+    pub spared : Spared (here g s env) (instr_draft (here g s env) instr)
+    pub slot : (rest : List ℕ) (word : ℕ) → running.words ≡ rest ++ word ∷ [] → word < 65536 → word_read (outside_of (here g s env)) false s.regs.sp ≡ word → is_single (last_slot a.shape).pair.word ≡ true → Ending inline instr kinds.Jump kinds.Jump rest
+    pub out : running.words ≡ [] → Ending inline instr kinds.Exit kinds.Exit []
+
+  single_slot : (b : Bool) (x : Bool) → b ≡ false → (cond b main (not x)) ≡ false → x ≡ true
+  single_slot true x e h = absurd (cc)
+  single_slot false true e h = refl
+  single_slot false false e h = absurd (cc)
+
+  main_not : (b : Bool) (x : Bool) → b ≡ true → (cond b main x) ≡ false → main ≡ false
+  main_not true x e h = h
+  main_not false x e h = absurd (cc)
+
+  pub returns_goes : (inline : Bool) (instr : Instr) → Scene_of inline instr → Returns inline instr → GoesAt inline instr
+  returns_goes inline instr x r =
+      let b = begun g address a instr region running s env x.at x.stands x.before in
+      elim (cases_Bool (is_empty a.shape)) [
+        | inl empty ↦
+            let none = no_words a.shape running.entry running.words empty x.before.holds.shape in
+            let not_main : main ≡ false = main_not (is_empty a.shape) _ empty r.nowhere in
+            let e : Ending inline instr (kind_of inline instr a.shape) kinds.Exit [] = subst (λ k. Ending inline instr k kinds.Exit []) (sym (r.kind true empty)) (r.out none) in
+            ended_goes g address main inline a region running s env instr r.sets r.uses x e r.into r.pops r.returns not_main none r.spared
+        | inr some ↦
+            let t = tops g address main inline a region running s env instr r.uses some x b in
+            let single : is_single (last_slot a.shape).pair.word ≡ true = single_slot (is_empty a.shape) _ some r.nowhere in
+            let e : Ending inline instr (kind_of inline instr a.shape) kinds.Jump t.ends.rest = subst (λ k. Ending inline instr k kinds.Jump t.ends.rest) (sym (r.kind false some)) (r.slot t.ends.rest t.ends.word t.ends.is t.small t.found single) in
+            stack_goes g address main inline a region running s env instr t.ends.rest r.sets x e (pop_done (here g s env) region instr t.ends.word (on_top t.ends.rest running.under) t.has r.pops).0
+      ]
