@@ -57,6 +57,9 @@ use Rattle.abs_step.proofs.KeepsStack.{Tops, and_true, has_room, is_set, jump_ro
 use Rattle.abs_step.proofs.Scenes.{Scene, keeps_board}
 use Rattle.abs_step.proofs.TameMoves.{IsOne}
 
+last_or : (p q r : Bool) → (p || (q || r)) ≡ false → r ≡ false
+last_or p q r e = (or_false q r (or_false p (q || r) e).1).1
+
 module _ (g : Ground) (address : ℕ) (main : Bool) (a : AbsState) (region : Region) (running : Running) (s : State) (env : Env) where
   abbrev Scene_of : Bool → Instr → Type 0
   Scene_of inline instr = Scene g address main inline a instr region running s env
@@ -217,3 +220,85 @@ module _ (g : Ground) (address : ℕ) (main : Bool) (a : AbsState) (region : Reg
             let e : Ending inline instr (kind_of inline instr a.shape) kinds.Jump t.ends.rest = subst (λ k. Ending inline instr k kinds.Jump t.ends.rest) (sym (r.kind false some)) (r.slot t.ends.rest t.ends.word t.ends.is t.small t.found single) in
             stack_goes g address main inline a region running s env instr t.ends.rest r.sets x e (pop_done (here g s env) region instr t.ends.word (on_top t.ends.rest running.under) t.has r.pops).0
       ]
+
+  abbrev StartsWith : Instr → List ℕ → Type 0
+  StartsWith instr words = Fits g a (known_before address instr a) running.entry (value_in (seen_of g.cells running.words s)) (draft_on (past (length (spelling instr)) s.regs)) words
+
+  pub return_is : (inline : Bool) → Scene_of inline instrs.Return → Returns inline instrs.Return
+  unfolding drafted moved
+  return_is inline x =
+      let instr = instrs.Return in
+      let o = outside_of (here g s env) in
+      let b = begun g address a instr region running s env x.at x.stands x.before in
+      let k = known_before address instr a in
+      let d = draft_on (past (length (spelling instr)) s.regs) in
+      record {
+        sets = refl; uses = refl; kind = λ empty e. ap (λ (y : Bool). cond y kinds.Exit kinds.Jump) e;
+        nowhere = last_or (length a.shape == 64 && false) false (returns_nowhere main a.shape) x.shape; into = refl; pops = refl; returns = refl;
+        spared = record { same = record { main = refl; alternate = refl; ix = refl; iy = refl; i = refl }; writes = refl };
+        slot = λ rest word is small found single. return_end g (here g s env) a main inline running.entry (value_in (seen_of g.cells running.words s)) running.words address kinds.Jump rest (pop_fits g a o k running.entry (value_in (seen_of g.cells running.words s)) d inline rest word registers.Pc small found (subst (StartsWith instr) is b.start)) (λ on. eqb-true _ _ single);
+        out = λ none. return_end g (here g s env) a main inline running.entry (value_in (seen_of g.cells running.words s)) running.words address kinds.Exit [] (return_fits g a o inline k running.entry (value_in (seen_of g.cells running.words s)) d (word_is_read g o a.armed false s.regs.sp b.run.reads) (subst (StartsWith instr) none b.start)) (λ on. absurd (on refl));
+      }
+
+  pub from_interrupt_is : (inline : Bool) → Scene_of inline instrs.ReturnFromInterrupt → Returns inline instrs.ReturnFromInterrupt
+  unfolding drafted moved
+  from_interrupt_is inline x =
+      let instr = instrs.ReturnFromInterrupt in
+      let o = outside_of (here g s env) in
+      let b = begun g address a instr region running s env x.at x.stands x.before in
+      let k = known_before address instr a in
+      let d = draft_on (past (length (spelling instr)) s.regs) in
+      record {
+        sets = refl; uses = refl; kind = λ empty e. ap (λ (y : Bool). cond y kinds.Exit kinds.Jump) e;
+        nowhere = last_or (length a.shape == 64 && false) false (returns_nowhere main a.shape) x.shape; into = refl; pops = refl; returns = refl;
+        spared = record { same = record { main = refl; alternate = refl; ix = refl; iy = refl; i = refl }; writes = refl };
+        slot = λ rest word is small found single. from_interrupt_end g (here g s env) a main inline running.entry (value_in (seen_of g.cells running.words s)) running.words address kinds.Jump rest (pop_fits g a o k running.entry (value_in (seen_of g.cells running.words s)) d inline rest word registers.Pc small found (subst (StartsWith instr) is b.start)) (λ on. eqb-true _ _ single);
+        out = λ none. from_interrupt_end g (here g s env) a main inline running.entry (value_in (seen_of g.cells running.words s)) running.words address kinds.Exit [] (return_fits g a o inline k running.entry (value_in (seen_of g.cells running.words s)) d (word_is_read g o a.armed false s.regs.sp b.run.reads) (subst (StartsWith instr) none b.start)) (λ on. absurd (on refl));
+      }
+
+  -- RETN copies IFF2 besides
+  restored : (inline : Bool) (k : Known) (d : Draft) (after : List ℕ) → d.writes ≡ [] → ReadsFit g (outside_of (here g s env)) k.readable → Fits g a (after_move g inline (moves.Pop registers.Pc) k) running.entry (value_in (seen_of g.cells running.words s)) (moved (outside_of (here g s env)) (moves.Pop registers.Pc) d) after
+      → Fits g a (after_move g inline (moves.Pop registers.Pc) k) running.entry (value_in (seen_of g.cells running.words s)) (moved (outside_of (here g s env)) moves.RestoreIff1 (moved (outside_of (here g s env)) (moves.Pop registers.Pc) d)) after
+  unfolding after_move moved
+  restored inline k d after none reads f =
+      let few : length d.writes ≡ 0 = ap length none in
+      calm_fits g a (outside_of (here g s env)) inline (after_move g inline (moves.Pop registers.Pc) k) running.entry (value_in (seen_of g.cells running.words s)) (moved (outside_of (here g s env)) (moves.Pop registers.Pc) d) after reads f moves.RestoreIff1 refl tt (omega (arith, few))
+
+  pub from_non_maskable_is : (inline : Bool) → Scene_of inline instrs.ReturnFromNonMaskable → Returns inline instrs.ReturnFromNonMaskable
+  unfolding drafted moved
+  from_non_maskable_is inline x =
+      let instr = instrs.ReturnFromNonMaskable in
+      let o = outside_of (here g s env) in
+      let b = begun g address a instr region running s env x.at x.stands x.before in
+      let k = known_before address instr a in
+      let d = draft_on (past (length (spelling instr)) s.regs) in
+      record {
+        sets = refl; uses = refl; kind = λ empty e. ap (λ (y : Bool). cond y kinds.Exit kinds.Jump) e;
+        nowhere = last_or (length a.shape == 64 && false) false (returns_nowhere main a.shape) x.shape; into = refl; pops = refl; returns = refl;
+        spared = record { same = record { main = refl; alternate = refl; ix = refl; iy = refl; i = refl }; writes = refl };
+        slot = λ rest word is small found single. from_non_maskable_end g (here g s env) a main inline running.entry (value_in (seen_of g.cells running.words s)) running.words address kinds.Jump rest (restored inline k d rest refl b.run.reads (pop_fits g a o k running.entry (value_in (seen_of g.cells running.words s)) d inline rest word registers.Pc small found (subst (StartsWith instr) is b.start))) (λ on. eqb-true _ _ single);
+        out = λ none. from_non_maskable_end g (here g s env) a main inline running.entry (value_in (seen_of g.cells running.words s)) running.words address kinds.Exit [] (restored inline k d [] refl b.run.reads (return_fits g a o inline k running.entry (value_in (seen_of g.cells running.words s)) d (word_is_read g o a.armed false s.regs.sp b.run.reads) (subst (StartsWith instr) none b.start))) (λ on. absurd (on refl));
+      }
+
+  return_if_spares : (condition : Condition) → Spared (here g s env) (instr_draft (here g s env) (instrs.ReturnIf condition))
+  unfolding drafted moved
+  return_if_spares condition = spared_either (Spared (here g s env)) (test_holds (tests.Flag condition) (draft_on (past (length (spelling (instrs.ReturnIf condition))) s.regs))) _ _
+      (record { same = record { main = refl; alternate = refl; ix = refl; iy = refl; i = refl }; writes = refl })
+      (record { same = record { main = refl; alternate = refl; ix = refl; iy = refl; i = refl }; writes = refl })
+
+  pub return_if_is : (inline : Bool) (condition : Condition) → Scene_of inline (instrs.ReturnIf condition) → (instr_draft (here g s env) (instrs.ReturnIf condition)).taken ≡ true → Returns inline (instrs.ReturnIf condition)
+  unfolding drafted
+  return_if_is inline condition x taken =
+      let instr = instrs.ReturnIf condition in
+      let o = outside_of (here g s env) in
+      let b = begun g address a instr region running s env x.at x.stands x.before in
+      let d = marked (tests.Flag condition) (draft_on (past (length (spelling instr)) s.regs)) in
+      record {
+        sets = refl; uses = refl; kind = λ empty e. ap (λ (y : Bool). cond y kinds.Exit kinds.Jump) e;
+        nowhere = last_or (length a.shape == 64 && false) false (returns_nowhere main a.shape) x.shape; into = refl; pops = taken; returns = taken;
+        spared = return_if_spares condition;
+        slot = λ rest word is small found single. return_if_end g (here g s env) a main inline running.entry (value_in (seen_of g.cells running.words s)) running.words address condition kinds.Jump rest b.run b.start taken
+            (λ n f. pop_fits g a o n running.entry (value_in (seen_of g.cells running.words s)) d inline rest word registers.Pc small found (subst (λ ws. Fits g a n running.entry (value_in (seen_of g.cells running.words s)) d ws) is f)) (λ on. single);
+        out = λ none. return_if_end g (here g s env) a main inline running.entry (value_in (seen_of g.cells running.words s)) running.words address condition kinds.Exit [] b.run b.start taken
+            (λ n f. return_fits g a o inline n running.entry (value_in (seen_of g.cells running.words s)) d (word_is_read g o a.armed false s.regs.sp b.run.reads) (subst (λ ws. Fits g a n running.entry (value_in (seen_of g.cells running.words s)) d ws) none f)) (λ on. absurd (on refl));
+      }
