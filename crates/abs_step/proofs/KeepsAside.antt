@@ -47,7 +47,7 @@ use Rattle.abs_step.specs.declared.next.NextKind.TheVariants as kinds
 use Rattle.abs_step.proofs.Asides.{End, jump_kind, straight_end, tame_end}
 use Rattle.abs_step.proofs.GoesAside.{KeepsBoard, aside_keeps, goes_on}
 use Rattle.abs_step.proofs.Here.{address_after, begun, here, holds_after, through_after}
-use Rattle.abs_step.proofs.Scenes.{Scene, StillRuns, aside_inside, keeps_board, tame_rest}
+use Rattle.abs_step.proofs.Scenes.{Done, Scene, StillRuns, aside_inside, keeps_board, tame_rest}
 use Rattle.abs_step.proofs.TameInstructions.{IsTame, is_apart, tame_instr}
 use Rattle.abs_step.proofs.TameMoves.{IsOne}
 
@@ -101,10 +101,13 @@ module _ (g : Ground) (address : ℕ) (main inline : Bool) (a : AbsState) (regio
   known_zip instr kind words e = subst (λ ws. AllZip LiesIn ws (instr_draft (here g s env) instr).writes) e.writes e.fits.writes
 
   -- an instruction that leaves SP and the stack alone
-  pub aside_goes : (instr : Instr) → uses_stack instr ≡ false → sets_sp instr ≡ false → Scene g address main inline a instr region running s env → Goes g.cells region running a instr (nexts_of g address main inline instr a) (here g s env)
+  pub aside_goes : (instr : Instr) → uses_stack instr ≡ false → sets_sp instr ≡ false → Scene g address main inline a instr region running s env → Done g address main inline a instr region running s env
   aside_goes instr u sets x =
       let e = aside_end instr u x in
       let zip = known_zip instr kinds.Jump running.words e in
       let inside = aside_inside region (here g s env) instr u in
-      goes_on g s env a instr main region running (writes_of g address a (Ok instr)) (nexts_of g address main inline instr a) running.words sets (keeps_board g address main inline a instr region running s env x zip inside)
-      (λ set. aside_keeps g s env a instr region running u sets x.before.holds.shape x.before.under (λ not. known_miss g.map region _ _ (x.order.overwrites not) zip) (x.before.laid set)) e
+      (
+        goes_on g s env a instr main region running (writes_of g address a (Ok instr)) (nexts_of g address main inline instr a) running.words sets (keeps_board g address main inline a instr region running s env x zip inside)
+        (λ set. aside_keeps g s env a instr region running u sets x.before.holds.shape x.before.under (λ not. known_miss g.map region _ _ (x.order.overwrites not) zip) (x.before.laid set)) e,
+        record { zip = zip; inside = inside },
+      )

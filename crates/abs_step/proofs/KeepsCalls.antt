@@ -56,7 +56,7 @@ use Rattle.abs_step.proofs.GoesStack.{as_many}
 use Rattle.abs_step.proofs.Here.{address_after, begun, here, holds_after}
 use Rattle.abs_step.proofs.KeepsAside.{known_zip}
 use Rattle.abs_step.proofs.KeepsStack.{is_set}
-use Rattle.abs_step.proofs.Scenes.{Scene, all_at, keeps_board, trap_inside}
+use Rattle.abs_step.proofs.Scenes.{Done, Scene, all_at, keeps_board, trap_inside}
 use Rattle.abs_step.proofs.Uses.{stack_same}
 
 -- what a call or a return leaves of the registers, and no data write
@@ -114,7 +114,7 @@ module _ (g : Ground) (address : ℕ) (main inline : Bool) (a : AbsState) (regio
   -- a call that is not inline
   pub called_goes : (instr : Instr) → sets_sp instr ≡ false → (uses_stack instr ≡ true) → Scene g address main inline a instr region running s env → (e : Ends instr kinds.Call running.words)
       → is_push instr (instr_draft (here g s env) instr).taken ≡ true → pushed_word s.regs instr ≡ (s.regs.pc + length (spelling instr)) % 65536
-      → Spared (here g s env) (instr_draft (here g s env) instr) → Goes g.cells region running a instr (nexts_of g address main inline instr a) (here g s env)
+      → Spared (here g s env) (instr_draft (here g s env) instr) → Done g address main inline a instr region running s env
   called_goes instr sets u x e pushes word spared =
       let n = next_of main instr e.taken kinds.Call e.known in
       let set = is_set a (uses_stack instr) u x.set in
@@ -125,6 +125,7 @@ module _ (g : Ground) (address : ℕ) (main inline : Bool) (a : AbsState) (regio
       let count = on_top-length running.words running.under in
       let d = push_done (here g s env) region instr (on_top running.words running.under) h (omega (arith, room, shape, many, count)) pushes in
       let k = kept instr kinds.Call running.words sets x e (trap_inside region (here g s env) instr x.io d.trap) spared in
+      (
       record {
         next = n;
         listed = e.listed;
@@ -138,12 +139,14 @@ module _ (g : Ground) (address : ℕ) (main inline : Bool) (a : AbsState) (regio
           holds = k.holds;
           laid = subst (λ w. HasWords g.map region (done (here g s env) instr) (w ∷ on_top running.words running.under)) word d.has;
         };
-      }
+      },
+      record { zip = known_zip g address main inline a region running s env instr _ _ e; inside = trap_inside region (here g s env) instr x.io d.trap },
+      )
 
   -- a return on an empty shape
   pub ended_goes : (instr : Instr) → sets_sp instr ≡ false → (uses_stack instr ≡ true) → Scene g address main inline a instr region running s env → (e : Ends instr kinds.Exit [])
       → popped_into instr ≡ registers.Pc → is_pop instr (instr_draft (here g s env) instr).taken ≡ true → is_return instr (instr_draft (here g s env) instr).taken ≡ true
-      → main ≡ false → running.words ≡ [] → Spared (here g s env) (instr_draft (here g s env) instr) → Goes g.cells region running a instr (nexts_of g address main inline instr a) (here g s env)
+      → main ≡ false → running.words ≡ [] → Spared (here g s env) (instr_draft (here g s env) instr) → Done g address main inline a instr region running s env
   unfolding on_top
   ended_goes instr sets u x e into pops returns not_main none spared =
       let set = is_set a (uses_stack instr) u x.set in
@@ -155,6 +158,7 @@ module _ (g : Ground) (address : ℕ) (main inline : Bool) (a : AbsState) (regio
       let r = reaches g.map d s in
       let popped : d.regs.pc ≡ low.word = ap (λ w. word_in w d) (sym into) ∙ p.1 in
       let pc : (done (here g s env) instr).regs.pc ≡ low.word = ap (λ y. y.pc) r.regs ∙ popped in
+      (
       record {
         next = next_of main instr e.taken kinds.Exit e.known;
         listed = e.listed;
@@ -172,4 +176,6 @@ module _ (g : Ground) (address : ℕ) (main inline : Bool) (a : AbsState) (regio
           holds = k.holds;
           laid = p.0.has;
         };
-      }
+      },
+      record { zip = known_zip g address main inline a region running s env instr _ _ e; inside = trap_inside region (here g s env) instr x.io p.0.trap },
+      )

@@ -54,7 +54,7 @@ use Rattle.abs_step.proofs.Here.{IsBegun, begun, here}
 use Rattle.abs_step.proofs.KeepsAside.{known_zip}
 use Rattle.abs_step.proofs.KeepsCalls.{Spared, called_goes, ended_goes}
 use Rattle.abs_step.proofs.KeepsStack.{Tops, and_true, has_room, is_set, jump_room, or_false, stack_goes, tops}
-use Rattle.abs_step.proofs.Scenes.{Scene, keeps_board}
+use Rattle.abs_step.proofs.Scenes.{Done, Scene, keeps_board}
 use Rattle.abs_step.proofs.TameMoves.{IsOne}
 
 last_or : (p q r : Bool) → (p || (q || r)) ≡ false → r ≡ false
@@ -65,7 +65,7 @@ module _ (g : Ground) (address : ℕ) (main : Bool) (a : AbsState) (region : Reg
   Scene_of inline instr = Scene g address main inline a instr region running s env
 
   abbrev GoesAt : Bool → Instr → Type 0
-  GoesAt inline instr = Goes g.cells region running a instr (nexts_of g address main inline instr a) (here g s env)
+  GoesAt inline instr = Done g address main inline a instr region running s env
 
   -- ---- CALL and RST
 
@@ -161,7 +161,7 @@ module _ (g : Ground) (address : ℕ) (main : Bool) (a : AbsState) (region : Reg
       let misses = misses_used g.map region s (instr_draft (here g s env) instr).writes running.main a.shape running.entry running.words running.under h x.before.holds.shape x.before.under (λ not. known_miss g.map region _ _ (x.order.overwrites not) zip) in
       let d = aside_done (here g s env) region instr (on_top running.words running.under) h misses aside in
       let inside : some_outside region (instr_draft (here g s env) instr).stack ≡ false = ap (some_outside region) d.0 in
-      goes_on g s env a instr main region running (writes_of g address a (Ok instr)) (nexts_of g address main inline instr a) running.words sets (keeps_board g address main inline a instr region running s env x zip inside) (λ set. d.1) e
+      (goes_on g s env a instr main region running (writes_of g address a (Ok instr)) (nexts_of g address main inline instr a) running.words sets (keeps_board g address main inline a instr region running s env x zip inside) (λ set. d.1) e, record { zip = zip; inside = inside })
 
   pub call_if_not_taken : (inline : Bool) (condition : Condition) (nn : ℕ) → Scene_of inline (instrs.CallIf condition nn) → (instr_draft (here g s env) (instrs.CallIf condition nn)).taken ≡ false → GoesAt inline (instrs.CallIf condition nn)
   unfolding before_test test_of after_moves

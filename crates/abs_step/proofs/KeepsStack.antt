@@ -59,7 +59,7 @@ use Rattle.abs_step.proofs.GoesAside.{KeepsBoard, goes_on}
 use Rattle.abs_step.proofs.GoesStack.{EndsIn, as_many, ends_in, exchange_end, pop_end, push_end}
 use Rattle.abs_step.proofs.Here.{IsBegun, address_after, begun, here, holds_after, through_after}
 use Rattle.abs_step.proofs.KeepsAside.{aside_end, known_zip}
-use Rattle.abs_step.proofs.Scenes.{Scene, all_at, aside_inside, keeps_board, trap_inside}
+use Rattle.abs_step.proofs.Scenes.{Done, Scene, all_at, aside_inside, keeps_board, trap_inside}
 use Rattle.abs_step.proofs.Uses.{stack_same}
 
 -- ---- LD SP
@@ -94,7 +94,7 @@ by_registers effect before m n count e h variables.Iy there = rw e (h variables.
 by_registers effect before m n count e h (variables.Slot number part) there = absurd (omega arith)
 
 module _ (g : Ground) (address : ℕ) (main inline : Bool) (a : AbsState) (region : Region) (running : Running) (s : State) (env : Env) where
-  pub load_sp_goes : main ≡ true → Scene g address main inline a (instrs.LoadPair Sp region.top) region running s env → Goes g.cells region running a (instrs.LoadPair Sp region.top) (nexts_of g address main inline (instrs.LoadPair Sp region.top) a) (here g s env)
+  pub load_sp_goes : main ≡ true → Scene g address main inline a (instrs.LoadPair Sp region.top) region running s env → Done g address main inline a (instrs.LoadPair Sp region.top) region running s env
   unfolding on_top
   load_sp_goes is_main x =
       let instr = instrs.LoadPair Sp region.top in
@@ -110,6 +110,7 @@ module _ (g : Ground) (address : ℕ) (main inline : Bool) (a : AbsState) (regio
       let under : running.under ≡ [] = none_under running.main running.under (x.is_main ∙ is_main) x.before.under in
       let held : Holds (record e.known.state { mode = mode_set e.known.state.mode; shape = [] }) g.cells running.entry (seen_of g.cells [] new) =
       record { mode = set_holds e.known.state.mode new.enable new.line new.latched h.mode; cells_hold = h.cells_hold; pairs = h.pairs; flag = h.flag; shape = tt } in
+      (
       record {
         next = next_of main instr e.taken kinds.Jump e.known;
         listed = e.listed;
@@ -122,7 +123,9 @@ module _ (g : Ground) (address : ℕ) (main inline : Bool) (a : AbsState) (regio
           laid = λ is_set. subst (λ ws. HasWords g.map region new ws) (sym under) (load_sp_done (here g s env) region x.before.is_region x.before.numbers.work.size);
           through = by_registers (settled e.known.state e.known.effect) (value_in (seen_of g.cells running.words s)) (seen_of g.cells running.words new) (seen_of g.cells [] new) (length running.words) refl (through_after g s env a instr running e.known running.words f);
         };
-      }
+      },
+      record { zip = zip; inside = aside_inside region (here g s env) instr refl },
+      )
 
 -- ---- PUSH, POP and EX (SP)
 
@@ -182,13 +185,13 @@ module _ (g : Ground) (address : ℕ) (main inline : Bool) (a : AbsState) (regio
       subst (λ (k : ℕ). HasRoom region (k + length running.under)) (same ∙ sym many) room
 
   -- a jump that leaves these words goes on with them
-  pub stack_goes : (instr : Instr) (words : List ℕ) → sets_sp instr ≡ false → Scene g address main inline a instr region running s env → (e : Ends instr kinds.Jump words) → IsDoneWith (here g s env) region instr (on_top words running.under) → Goes g.cells region running a instr (nexts_of g address main inline instr a) (here g s env)
+  pub stack_goes : (instr : Instr) (words : List ℕ) → sets_sp instr ≡ false → Scene g address main inline a instr region running s env → (e : Ends instr kinds.Jump words) → IsDoneWith (here g s env) region instr (on_top words running.under) → Done g address main inline a instr region running s env
   stack_goes instr words sets x e d =
       let zip = known_zip g address main inline a region running s env instr kinds.Jump words e in
       let inside = trap_inside region (here g s env) instr x.io d.trap in
-      goes_on g s env a instr main region running (writes_of g address a (Ok instr)) (nexts_of g address main inline instr a) words sets (keeps_board g address main inline a instr region running s env x zip inside) (λ set. d.has) e
+      (goes_on g s env a instr main region running (writes_of g address a (Ok instr)) (nexts_of g address main inline instr a) words sets (keeps_board g address main inline a instr region running s env x zip inside) (λ set. d.has) e, record { zip = zip; inside = inside })
 
-  pub push_goes : (qq : StackPair) → Scene g address main inline a (instrs.Push qq) region running s env → Goes g.cells region running a (instrs.Push qq) (nexts_of g address main inline (instrs.Push qq) a) (here g s env)
+  pub push_goes : (qq : StackPair) → Scene g address main inline a (instrs.Push qq) region running s env → Done g address main inline a (instrs.Push qq) region running s env
   push_goes qq x =
       let instr = instrs.Push qq in
       let b = begun g address a instr region running s env x.at x.stands x.before in
@@ -218,7 +221,7 @@ module _ (g : Ground) (address : ℕ) (main inline : Bool) (a : AbsState) (regio
       let found : word_read (outside_of (here g s env)) false s.regs.sp ≡ e.word = word_found (here g s env) region false s.regs.sp e.word (on_top e.rest running.under) h.is_region (omega (arith, h.room)) h.laid in
       record { ends = e; has = h; found = found; small = subst (λ (n : ℕ). n < 65536) found (word_is_read g (outside_of (here g s env)) a.armed false s.regs.sp b.run.reads) }
 
-  pub pop_goes : (qq : StackPair) → Scene g address main inline a (instrs.Pop qq) region running s env → Goes g.cells region running a (instrs.Pop qq) (nexts_of g address main inline (instrs.Pop qq) a) (here g s env)
+  pub pop_goes : (qq : StackPair) → Scene g address main inline a (instrs.Pop qq) region running s env → Done g address main inline a (instrs.Pop qq) region running s env
   pop_goes qq x =
       let instr = instrs.Pop qq in
       let b = begun g address a instr region running s env x.at x.stands x.before in
@@ -227,7 +230,7 @@ module _ (g : Ground) (address : ℕ) (main inline : Bool) (a : AbsState) (regio
       let e : Ends instr kinds.Jump t.ends.rest = pop_end g (here g s env) a main inline running.entry _ running.words address qq t.ends.rest t.ends.word t.small t.found (subst (StartsWith instr) t.ends.is b.start) in
       stack_goes instr t.ends.rest refl x e (pop_done (here g s env) region instr t.ends.word (on_top t.ends.rest running.under) t.has refl).0
 
-  pub exchange_goes : (p : Pointer) → Scene g address main inline a (instrs.ExchangeStack p) region running s env → Goes g.cells region running a (instrs.ExchangeStack p) (nexts_of g address main inline (instrs.ExchangeStack p) a) (here g s env)
+  pub exchange_goes : (p : Pointer) → Scene g address main inline a (instrs.ExchangeStack p) region running s env → Done g address main inline a (instrs.ExchangeStack p) region running s env
   exchange_goes p x =
       let instr = instrs.ExchangeStack p in
       let b = begun g address a instr region running s env x.at x.stands x.before in

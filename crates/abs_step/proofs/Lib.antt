@@ -3,6 +3,7 @@ pub mod Asides
 pub mod GoesAside
 pub mod GoesStack
 pub mod Here
+pub mod Keeps
 pub mod KeepsAside
 pub mod KeepsCalls
 pub mod KeepsEach

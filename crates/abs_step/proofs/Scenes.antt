@@ -40,7 +40,7 @@ use Rattle.abs_laws.proofs.CellsAfter.{cells_hold}
 use Rattle.abs_laws.proofs.Enables.{enable_stays_clear, mode_holds, nmi_stays, unset_stays}
 use Rattle.abs_laws.proofs.KnownWrites.{known_taken}
 use Rattle.abs_laws.proofs.Lists.{parts_of_list, with_test, without_test}
-use Rattle.abs_step.specs.Contained.{Before, IsInOrder, Running, seen_of}
+use Rattle.abs_step.specs.Contained.{Before, Goes, IsInOrder, Running, seen_of}
 use Rattle.abs_step.specs.Successors.{has_no_shape, jumps_anywhere, nexts_of, uses_stack, writes_of}
 use Rattle.abs_step.specs.declared.next.Next.{Next}
 use Rattle.abs_step.specs.declared.next.NextKind.{NextKind}
@@ -62,6 +62,16 @@ pub record Scene (g : Ground) (address : ℕ) (main inline : Bool) (a : AbsState
   pub set : (uses_stack instr && is_unset a.mode) ≡ false
   pub shape : has_no_shape main inline instr a.shape ≡ false
   pub jumps : jumps_anywhere instr a ≡ false
+
+-- the data writes are as they are known, and the accesses of the stack lie in its region
+pub record Reaches (g : Ground) (address : ℕ) (a : AbsState) (instr : Instr) (region : Region) (s : State) (env : Env) : Type 0 where
+  pub zip : AllZip LiesIn (writes_of g address a (Ok instr)) (instr_draft (here g s env) instr).writes
+  pub inside : some_outside region (instr_draft (here g s env) instr).stack ≡ false
+
+-- it goes as one of its ways on says, and reaches the board so
+abbrev pub Done : Ground → ℕ → Bool → Bool → AbsState → Instr → Region → Running → State → Env → Type 0
+Done g address main inline a instr region running s env =
+    Goes g.cells region running a instr (nexts_of g address main inline instr a) (here g s env) × Reaches g address a instr region s env
 
 -- what holds of each of some ways on holds of one that is listed
 pub all_at : {X : Type 0} (P : X → Type 0) (xs : List X) (x : X) → All P xs → Contains xs x → P x
