@@ -1,26 +1,32 @@
 -- The instruction at a row keeps what the row says.
 use Rattle.std.proofs.Common.{◌≡◌, ◌≢◌, ◌≤◌, ◌<◌, ◌∙◌, ℕ, Bool, true, false, not, cond, List, [], ◌∷◌, length, Option, Some, None, Ok, refl, sym, ap, subst, arith, inl, inr}
-use Rattle.std.specs.Prelude.{◌&&◌}
+use Rattle.std.specs.Prelude.{◌&&◌, Result}
 use Rattle.std.proofs.lemmas.Bool.{cases_Bool}
 use Rattle.z80_decode.specs.Spelling.{spelling}
 use Rattle.z80_decode.specs.declared.instr.Instr.{Instr}
 use Rattle.z80_decode.specs.declared.instr.Instr.TheVariants as instrs
-use Rattle.z80_decode.specs.declared.operands.Register16.TheVariants.{Sp}
+use Rattle.z80_decode.specs.declared.operands.Pointer.TheVariants as pointers
+use Rattle.z80_decode.specs.declared.operands.StackPair.TheVariants as stack_pairs
 use Rattle.z80_decode.specs.declared.operands.Special.TheVariants as specials
 use Rattle.z80_draft.specs.Draft.{Draft, draft_on, drafted, moved, past, test_holds}
 use Rattle.z80_moves.specs.declared.moves.Test.TheVariants as tests
 use Rattle.address_map.specs.declared.region.Region.{Region}
 use Rattle.board_step.specs.Context.{Context, context_of}
+use Rattle.board_step.specs.Decoded.{StandsAt}
 use Rattle.board_step.specs.Hardware.{Hardware, hardware_of}
 use Rattle.board_step.specs.State.{State}
 use Rattle.board_step.specs.Step.{done, instr_draft}
 use Rattle.board_step.specs.declared.env.Env.{Env}
 use Rattle.stack_words.specs.Uses.{sets_sp}
 use Rattle.stack_words.proofs.Brought.{reaches}
+use Rattle.abs_state.specs.Mode.{is_unset}
 use Rattle.abs_state.specs.declared.state.AbsState.{AbsState}
 use Rattle.abs_draft.specs.Ground.{Ground}
 use Rattle.abs_step.specs.Contained.{After, Before, Goes, IsInOrder, Keeps, Running}
-use Rattle.abs_step.specs.Successors.{nexts_of, uses_stack, writes_of}
+use Rattle.abs_step.specs.Successors.{answer_by, answer_of, has_no_shape, jumps_anywhere, nexts_of, refusal, uses_stack, writes_of}
+use Rattle.abs_step.specs.declared.next.Next.{Next}
+use Rattle.abs_step.specs.declared.reason.Reason.{Reason}
+use Rattle.t_states.specs.Io.{is_io}
 use Rattle.abs_step.proofs.Here.{here}
 use Rattle.abs_step.proofs.KeepsAside.{aside_goes}
 use Rattle.abs_step.proofs.KeepsEach.{call_goes, call_if_goes, call_if_not_taken, from_interrupt_is, from_non_maskable_is, inline_call_goes, inline_call_if_goes, inline_restart_goes, restart_goes, return_if_is, return_if_not_taken, return_is, returns_goes}
@@ -77,3 +83,129 @@ module _ (g : Ground) (address : ℕ) (main : Bool) (a : AbsState) (region : Reg
 
   pub each_done : (inline : Bool) (instr : Instr) → At inline instr → DoneAt inline instr
   each_done inline instr x = elim (cases_Bool (uses_stack instr)) [ inl u ↦ stack_done inline instr u x | inr u ↦ other_done inline instr u x ]
+
+-- ---- I, and the halt
+
+either : (P : Draft → Type 0) (b : Bool) (x y : Draft) → P x → P y → P (cond b x y)
+either P true x y p q = p
+either P false x y p q = q
+
+pub record Runs (c : Context) (d : Draft) : Type 0 where
+  pub i : d.regs.i ≡ c.state.regs.i
+  pub halts : d.halts ≡ false
+
+stack_runs : (c : Context) (instr : Instr) → uses_stack instr ≡ true → Runs c (instr_draft c instr)
+unfolding drafted moved
+stack_runs c (instrs.Push qq) u = record { i = refl; halts = refl }
+stack_runs c (instrs.Pop stack_pairs.Bc) u = record { i = refl; halts = refl }
+stack_runs c (instrs.Pop stack_pairs.De) u = record { i = refl; halts = refl }
+stack_runs c (instrs.Pop stack_pairs.Hl) u = record { i = refl; halts = refl }
+stack_runs c (instrs.Pop stack_pairs.Af) u = record { i = refl; halts = refl }
+stack_runs c (instrs.Pop stack_pairs.Ix) u = record { i = refl; halts = refl }
+stack_runs c (instrs.Pop stack_pairs.Iy) u = record { i = refl; halts = refl }
+stack_runs c (instrs.ExchangeStack pointers.Hl) u = record { i = refl; halts = refl }
+stack_runs c (instrs.ExchangeStack pointers.Ix) u = record { i = refl; halts = refl }
+stack_runs c (instrs.ExchangeStack pointers.Iy) u = record { i = refl; halts = refl }
+stack_runs c (instrs.Call nn) u = record { i = refl; halts = refl }
+stack_runs c (instrs.Restart p) u = record { i = refl; halts = refl }
+stack_runs c (instrs.CallIf condition nn) u = either (Runs c) (test_holds (tests.Flag condition) (draft_on (past (length (spelling (instrs.CallIf condition nn))) c.state.regs))) _ _ (record { i = refl; halts = refl }) (record { i = refl; halts = refl })
+stack_runs c instrs.Return u = record { i = refl; halts = refl }
+stack_runs c instrs.ReturnFromInterrupt u = record { i = refl; halts = refl }
+stack_runs c instrs.ReturnFromNonMaskable u = record { i = refl; halts = refl }
+stack_runs c (instrs.ReturnIf condition) u = either (Runs c) (test_holds (tests.Flag condition) (draft_on (past (length (spelling (instrs.ReturnIf condition))) c.state.regs))) _ _ (record { i = refl; halts = refl }) (record { i = refl; halts = refl })
+stack_runs c _ u = missing _ u
+
+apart_i : (c : Context) (instr : Instr) → is_apart instr ≡ true → instr ≢ instrs.StoreASpecial specials.I → (instr_draft c instr).regs.i ≡ c.state.regs.i
+unfolding drafted moved
+apart_i c (instrs.JumpTo pointer) e n = refl
+apart_i c instrs.Halt e n = refl
+apart_i c (instrs.StoreASpecial specials.I) e n = absurd (n refl)
+apart_i c (instrs.StoreASpecial specials.R) e n = missing _ e
+apart_i c _ e n = missing _ e
+
+apart_halts : (c : Context) (instr : Instr) → is_apart instr ≡ true → (instr_draft c instr).halts ≡ true → instr ≡ instrs.Halt
+unfolding drafted moved
+apart_halts c (instrs.JumpTo pointer) e h = absurd (cc)
+apart_halts c instrs.Halt e h = refl
+apart_halts c (instrs.StoreASpecial specials.I) e h = absurd (cc)
+apart_halts c (instrs.StoreASpecial specials.R) e h = missing _ e
+apart_halts c _ e h = missing _ e
+
+never : (P : Type 0) (b : Bool) → b ≡ true → b ≡ false → P
+never P b e f = absurd (cc)
+
+i_kept : (c : Context) (instr : Instr) → instr ≢ instrs.StoreASpecial specials.I → (instr_draft c instr).regs.i ≡ c.state.regs.i
+i_kept c instr n =
+    elim (cases_Bool (uses_stack instr)) [
+      | inl u ↦ (stack_runs c instr u).i
+      | inr u ↦ elim (cases_Bool (is_apart instr)) [
+          | inl e ↦ apart_i c instr e n
+          | inr e ↦ (tame_rest c instr (tame_instr instr u e)).i
+        ]
+    ]
+
+halt_alone : (c : Context) (instr : Instr) → (instr_draft c instr).halts ≡ true → instr ≡ instrs.Halt
+halt_alone c instr h =
+    elim (cases_Bool (uses_stack instr)) [
+      | inl u ↦ never _ _ h (stack_runs c instr u).halts
+      | inr u ↦ elim (cases_Bool (is_apart instr)) [
+          | inl e ↦ apart_halts c instr e h
+          | inr e ↦ never _ _ h (tame_rest c instr (tame_instr instr u e)).halts
+        ]
+    ]
+
+-- ---- what an instruction keeps
+
+pub after_here : (g : Ground) (address : ℕ) (main inline : Bool) (a : AbsState) (instr : Instr) (region : Region) (running : Running) (s : State) (env : Env) → Scene g address main inline a instr region running s env
+    → After g.cells region running a instr (writes_of g address a (Ok instr)) (nexts_of g address main inline instr a) (here g s env)
+after_here g address main inline a instr region running s env x =
+    let d = each_done g address main a region running s env inline instr x in
+    let r = reaches g.map (instr_draft (here g s env) instr) s in
+    record {
+      goes = d.0;
+      safe = is_safe g address main inline a instr region running s env x d.1.zip d.1.inside;
+      clear = is_clear g address main inline a instr region running s env x d.1.zip d.1.inside;
+      keeps_i = λ n. ap (λ regs. regs.i) r.regs ∙ i_kept (here g s env) instr n;
+      halts = λ h. halt_alone (here g s env) instr (sym r.halted ∙ h);
+    }
+
+-- what `successors` answered with, and what it did not refuse
+pub record Answered (main inline : Bool) (a : AbsState) (instr : Instr) (found nexts : List Next) : Type 0 where
+  pub same : found ≡ nexts
+  pub io : is_io instr ≡ false
+  pub set : (uses_stack instr && is_unset a.mode) ≡ false
+  pub shape : has_no_shape main inline instr a.shape ≡ false
+  pub jumps : jumps_anywhere instr a ≡ false
+
+not_first : (b : Bool) (r : Reason) (rest : Option Reason) → cond b (Some r) rest ≡ None → (b ≡ false) × (rest ≡ None)
+not_first true r rest e = absurd (cc)
+not_first false r rest e = (refl, e)
+
+ok_same : (found nexts : List Next) → answer_by None found ≡ Ok nexts → found ≡ nexts
+ok_same found nexts e = cc
+
+told : (o : Option Reason) (found nexts : List Next) → answer_by o found ≡ Ok nexts → (o ≡ None) × (found ≡ nexts)
+told None found nexts e = (refl, ok_same found nexts e)
+told (Some r) found nexts e = absurd (cc)
+
+answered : (main inline : Bool) (a : AbsState) (instr : Instr) (found nexts : List Next) → answer_by (refusal main inline instr a) found ≡ Ok nexts → Answered main inline a instr found nexts
+answered main inline a instr found nexts e =
+    let t = told (refusal main inline instr a) found nexts e in
+    let p = not_first (is_io instr) _ _ t.0 in
+    let q = not_first (uses_stack instr && is_unset a.mode) _ _ p.1 in
+    let r = not_first (has_no_shape main inline instr a.shape) _ _ q.1 in
+    let u = not_first (jumps_anywhere instr a) _ _ r.1 in
+    record { same = t.1; io = p.0; set = q.0; shape = r.0; jumps = u.0 }
+
+pub keeps : (g : Ground) (address : ℕ) (main inline : Bool) (a : AbsState) (instr : Instr) (nexts : List Next) → length a.shape ≤ 64 → StandsAt g.rom address (Ok instr) → answer_of g address main inline a (Ok instr) ≡ Ok nexts → Keeps g address main a instr nexts
+keeps g address main inline a instr nexts fits stands e region running c hardware at is_main before order =
+    let t = answered main inline a instr (nexts_of g address main inline instr a) nexts e in
+    let all : (h : Hardware) → h ≡ hardware_of g.rom g.map → Before g.cells region running a (context_of h c.state c.env) → After g.cells region running a instr (writes_of g address a (Ok instr)) nexts (context_of h c.state c.env) = λ h is.
+        subst (λ k. Before g.cells region running a (context_of k c.state c.env) → After g.cells region running a instr (writes_of g address a (Ok instr)) nexts (context_of k c.state c.env)) (sym is) (λ b.
+            subst (λ ns. After g.cells region running a instr (writes_of g address a (Ok instr)) ns (here g c.state c.env)) t.same
+            (after_here g address main inline a instr region running c.state c.env (record {
+              at = at; is_main = is_main; stands = stands; before = b;
+              order = subst (λ ns. IsInOrder g region running a instr (writes_of g address a (Ok instr)) ns) (sym t.same) order;
+              fits = fits; io = t.io; set = t.set; shape = t.shape; jumps = t.jumps;
+            }))) in
+    all c.hardware hardware before
