@@ -114,6 +114,7 @@ const PREFIXES: [(u8, &[u8]); 7] = [
 ];
 
 /// A ROM with each documented code once, and random bytes behind them.
+#[derive(Drop)]
 struct Codes {
     rom: Vec<u8>,
     /// Where the codes begin.
@@ -154,8 +155,8 @@ impl Codes {
         for _ in 0..2 {
             let _fits = bytes.try_push(numbers.byte());
         }
-        let at = self.rom.len() as u16;
-        if let Ok((_, len)) = decode(bytes.as_slice()) {
+        let at = u16::try_from(self.rom.len());
+        if let (Ok(at), Ok((_, len))) = (at, decode(bytes.as_slice())) {
             self.rom
                 .extend_from_slice(&bytes.as_slice()[..usize::from(len)])?;
             self.starts.push(at)?;
