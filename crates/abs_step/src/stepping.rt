@@ -5,7 +5,9 @@ ghost use Rattle.z80_decode.specs.Spelling.{spelling};
 ghost use Rattle.z80_decode.specs.declared.instr.Instr.{Instr as Instruction};
 ghost use Rattle.z80_decode.specs.declared.fault.DecodeFault.{DecodeFault as Fault};
 ghost use Rattle.abs_draft.specs.Ground.{ground_of};
-ghost use Rattle.abs_step.specs.Successors.{next_of, ways_from, answer_of, writes_of};
+ghost use Rattle.abs_draft.specs.Outcomes.{settled};
+ghost use Rattle.t_states.specs.Costs.{cost_of};
+ghost use Rattle.abs_step.specs.Successors.{address_of, stack_set, ways_from, answer_of, writes_of};
 
 use crate::next::{Next, NextKind, Nexts};
 use crate::reason::Reason;
@@ -20,13 +22,28 @@ use t_states::{cost, is_io};
 use z80_decode::Instr;
 use z80_moves::moves_for;
 
-/// A way on, once all moves of it are made.
-fn next_of(known: Known, main: bool, instr: &Instr, taken: bool, kind: NextKind) -> Next
-    ensures { result ≡ next_of main instr.now taken kind known }
+/// What is left to do once all moves of a way on are made: constants go first, and LD SP,nn of main sets the stack.
+fn finish(known: &mut Known, main: bool, instr: &Instr)
+    ensures { known.new ≡ record known.old {
+      state = stack_set main instr.now known.old.state;
+      effect = settled known.old.state known.old.effect;
+    } }
 {
-    let mut known = known;
     known.settle();
     set_stack(main, instr, &mut known.state);
+}
+
+/// A way on that is finished.
+#[inline]
+fn next_from(known: Known, instr: &Instr, taken: bool, kind: NextKind) -> Next
+    ensures { result ≡ record {
+      address = address_of kind known.pc.low;
+      state = known.state;
+      effect = known.effect;
+      cost = cost_of instr.now taken;
+      kind = kind;
+    } }
+{
     let address = match kind {
         NextKind::Jump | NextKind::Call => known.pc.low(),
         NextKind::Exit => 0,
@@ -116,16 +133,19 @@ fn ways_on(
     let moves = moves_for(instr);
     match known.make_to_test(ground, inline, moves.as_slice()) {
         None => {
-            let _fits = nexts.push(next_of(known, main, instr, true, kind));
+            finish(&mut known, main, instr);
+            nexts.push_reserved(next_from(known, instr, true, kind));
         }
         Some(tested) => {
             let mut left = known.copied();
             if known.narrow(tested.test, true) {
                 known.make_all(ground, inline, tested.behind);
-                let _fits = nexts.push(next_of(known, main, instr, true, kind));
+                finish(&mut known, main, instr);
+                nexts.push_reserved(next_from(known, instr, true, kind));
             }
             if left.narrow(tested.test, false) {
-                let _fits = nexts.push(next_of(left, main, instr, false, NextKind::Jump));
+                finish(&mut left, main, instr);
+                nexts.push_reserved(next_from(left, instr, false, NextKind::Jump));
             }
         }
     }

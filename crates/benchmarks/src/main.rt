@@ -1,17 +1,18 @@
 // The program that bench/ times and compares: EVENTS of a mixed loop on the checked step, ORDERS of calls without a circle and
-// CIRCLES with one (each skipped where it is 0), and the steps that standard input tells, one a line.
+// CIRCLES with one, CALLS of `successors` (each skipped where it is 0), and the steps that standard input tells, one a line.
 #![tactic(auto)]
 
 mod call_order;
 mod mixed_loop;
+mod rules;
 mod steps;
 mod vectors;
 
 use std::{env, io};
 
-/// The first three arguments: 0 where there is none.
-fn counts(rt: &HostRuntime) -> [u64; 3] {
-    let mut counts = [0; 3];
+/// The first four arguments: 0 where there is none.
+fn counts(rt: &HostRuntime) -> [u64; 4] {
+    let mut counts = [0; 4];
     let Ok(words) = env::args(rt) else {
         return counts;
     };
@@ -25,7 +26,7 @@ fn counts(rt: &HostRuntime) -> [u64; 3] {
 }
 
 fn main(rt: HostRuntime) -> io::Result<()> {
-    let [events, orders, circles] = counts(&rt);
+    let [events, orders, circles, calls] = counts(&rt);
     if events > 0 {
         print_loop(&rt, events)?;
     }
@@ -34,6 +35,9 @@ fn main(rt: HostRuntime) -> io::Result<()> {
     }
     if circles > 0 {
         print_circle(&rt, circles)?;
+    }
+    if calls > 0 {
+        print_rules(&rt, calls)?;
     }
     compare_steps(&rt)
 }
@@ -65,6 +69,13 @@ fn print_circle(rt: &HostRuntime, times: u64) -> io::Result<()> {
         "{} calls: a circle of {procs} from {first} to {last}",
         calls.len()
     )
+}
+
+fn print_rules(rt: &HostRuntime, calls: u64) -> io::Result<()> {
+    match rules::counted(rt.alloc(), calls) {
+        Ok((ways, refused)) => println!(rt; "{calls} rows: {ways} ways on, {refused} refused"),
+        Err(_) => println!(rt; "out of memory"),
+    }
 }
 
 fn compare_steps(rt: &HostRuntime) -> io::Result<()> {

@@ -1,15 +1,15 @@
 -- What is left of one linear after another was taken from it.
-use Rattle.std.proofs.Common.{◌≡◌, ◌≢◌, ℕ, ◌≤◌, Bool, true, false, not, List, [], get_or, ℤ, pos, ◌+ℤ◌, ◌-ℤ◌, ◌≤ℤ◌, sym, subst, ap, ◌∙◌, arith, All, IsTrue, unsigned_abs}
+use Rattle.std.proofs.Common.{◌≡◌, ◌≢◌, ℕ, ◌≤◌, Bool, true, false, not, List, [], get_or, ℤ, pos, ◌+ℤ◌, ◌-ℤ◌, ◌≤ℤ◌, sym, subst, ap, ◌∙◌, arith, All, IsTrue, unsigned_abs, refl}
 use Rattle.std.proofs.lemmas.Int.{ints}
 use Rattle.loop_bounds.specs.declared.effect.Effect.{Effect}
 use Rattle.loop_bounds.specs.declared.effect.Change.{Change}
-use Rattle.loop_bounds.specs.declared.effect.Change.TheVariants.{Old, Unknown}
+use Rattle.loop_bounds.specs.declared.effect.Change.TheVariants.{Old, Raised, Lowered, Constant, Unknown}
 use Rattle.loop_bounds.specs.declared.linear.Term.{Term}
 use Rattle.loop_bounds.specs.declared.rewritten.Rewritten.{Rewritten}
 use Rattle.loop_bounds.specs.declared.variable.Variable.{Variable}
 use Rattle.loop_bounds.specs.Linear.{Sum, IsLinear, total, value}
-use Rattle.loop_bounds.specs.Effect.{Valuation, whole, changed, after, change_of}
-use Rattle.loop_bounds.specs.Ranges.{Box, LiesIn}
+use Rattle.loop_bounds.specs.Effect.{Valuation, whole, changed, constant_before, after, after_from, change_of}
+use Rattle.loop_bounds.specs.Ranges.{Box, full_box, LiesIn}
 use Rattle.loop_bounds.specs.Bounds.{Decreases}
 use Rattle.loop_bounds.specs.Signed.{signed}
 use Rattle.loop_bounds.specs.Rewritten.{value_of_both, WasAdded}
@@ -18,12 +18,28 @@ use Rattle.loop_bounds.proofs.Boxes.{total_agree}
 abbrev pub IsUnchanged : Effect → Type 0
 IsUnchanged u = (v : Variable) → change_of u v ≡ Old v
 
+-- where nothing is known before a step, no variable is a constant
+none_constant : (c : Change) → constant_before full_box c ≡ c
+none_constant (Old v) = refl
+none_constant (Raised v) = refl
+none_constant (Lowered v) = refl
+none_constant (Constant k) = refl
+none_constant Unknown = refl
+
+after_full : (e : Effect) (before free : Valuation) (v : Variable) → after_from full_box e before free v ≡ after e before free v
+after_full e before free v = ap (λ (c : Change). changed c before (pos (free v))) (none_constant (change_of e v))
+
+total_full : (e : Effect) (before free : Valuation) (ts : List Term) → total (after_from full_box e before free) ts ≡ total (after e before free) ts
+total_full e before free ts =
+    total_agree (after_from full_box e before free) (after e before free) ts (λ k d p. after_full e before free (get_or ts k d).variable)
+
 after_unchanged : (u : Effect) → IsUnchanged u → (before free : Valuation) (v : Variable) → after u before free v ≡ whole before v
 after_unchanged u h before free v = ap (λ (c : Change). changed c before (pos (free v))) (h v)
 
-total_unchanged : (u : Effect) → IsUnchanged u → (before free : Valuation) (ts : List Term) → total (after u before free) ts ≡ total (whole before) ts
+total_unchanged : (u : Effect) → IsUnchanged u → (before free : Valuation) (ts : List Term) → total (after_from full_box u before free) ts ≡ total (whole before) ts
 total_unchanged u h before free ts =
-    total_agree (after u before free) (whole before) ts (λ k d p. after_unchanged u h before free (get_or ts k d).variable)
+    total_full u before free ts
+    ∙ total_agree (after u before free) (whole before) ts (λ k d p. after_unchanged u h before free (get_or ts k d).variable)
 
 pub none_unknown : (u : Effect) → IsUnchanged u → (ts : List Term) → All (λ t. change_of u t.variable ≢ Unknown) ts
 none_unknown u h ts k d p e = let same = h (get_or ts k d).variable in cc
@@ -38,23 +54,24 @@ start_value start c k u before free =
     omega (arith, ints, first, second)
 
 module _ (u effect : Effect) (same : IsUnchanged u) (start mid last : Rewritten) (c : ℤ) (known : start.known ≡ record { constant = c; terms = [] }) (unknown : start.unknown ≡ record { constant = pos 0; terms = [] }) where
-  pub decrease_value : (from to : Sum) (cost : ℕ) → c ≡ from.constant -ℤ pos cost -ℤ to.constant → WasAdded start mid u false from → WasAdded mid last effect true to → (before free : Valuation) → value_of_both before free last ≡ value (whole before) from -ℤ pos cost -ℤ value (after effect before free) to
+  pub decrease_value : (from to : Sum) (cost : ℕ) → c ≡ from.constant -ℤ pos cost -ℤ to.constant → WasAdded start mid full_box u false from → WasAdded mid last full_box effect true to → (before free : Valuation) → value_of_both before free last ≡ value (whole before) from -ℤ pos cost -ℤ value (after effect before free) to
   decrease_value from to cost is first second before free =
       let none = start_value start c known unknown before free in
       let one = first before free in
       let two = second before free in
       let plain = total_unchanged u same before free from.terms in
-      omega (arith, ints, none, one, two, plain, is)
+      let rewritten = total_full effect before free to.terms in
+      omega (arith, ints, none, one, two, plain, rewritten, is)
 
-  pub difference_value : (fact given : Sum) (n : Bool) → c ≡ fact.constant +ℤ signed (not n) given.constant → WasAdded start mid effect false fact → WasAdded mid last u (not n) given → last.unknown ≡ mid.unknown → mid.unknown ≡ start.unknown → (before free : Valuation) → value (whole before) last.known ≡ value (after effect before free) fact -ℤ signed n (value (whole before) given)
-  difference_value fact given true is first second kept kept' before free =
+  pub difference_value : (source : Box) (fact given : Sum) (n : Bool) → c ≡ fact.constant +ℤ signed (not n) given.constant → WasAdded start mid source effect false fact → WasAdded mid last full_box u (not n) given → last.unknown ≡ mid.unknown → mid.unknown ≡ start.unknown → (before free : Valuation) → value (whole before) last.known ≡ value (after_from source effect before free) fact -ℤ signed n (value (whole before) given)
+  difference_value source fact given true is first second kept kept' before free =
       let none = start_value start c known unknown before free in
       let one = first before free in
       let two = second before free in
       let plain = total_unchanged u same before free given.terms in
       let rest = ap (value (whole free)) (kept ∙ kept' ∙ unknown) in
       omega (arith, ints, none, one, two, plain, is, rest)
-  difference_value fact given false is first second kept kept' before free =
+  difference_value source fact given false is first second kept kept' before free =
       let none = start_value start c known unknown before free in
       let one = first before free in
       let two = second before free in
@@ -62,8 +79,8 @@ module _ (u effect : Effect) (same : IsUnchanged u) (start mid last : Rewritten)
       let rest = ap (value (whole free)) (kept ∙ kept' ∙ unknown) in
       omega (arith, ints, none, one, two, plain, is, rest)
 
-pub fact_value : (effect : Effect) (start last : Rewritten) (fact : Sum) → start.known ≡ record { constant = fact.constant; terms = [] } → start.unknown ≡ record { constant = pos 0; terms = [] } → WasAdded start last effect false fact → last.unknown ≡ start.unknown → (before free : Valuation) → value (whole before) last.known ≡ value (after effect before free) fact
-fact_value effect start last fact known unknown first kept before free =
+pub fact_value : (source : Box) (effect : Effect) (start last : Rewritten) (fact : Sum) → start.known ≡ record { constant = fact.constant; terms = [] } → start.unknown ≡ record { constant = pos 0; terms = [] } → WasAdded start last source effect false fact → last.unknown ≡ start.unknown → (before free : Valuation) → value (whole before) last.known ≡ value (after_from source effect before free) fact
+fact_value source effect start last fact known unknown first kept before free =
     let none = start_value start fact.constant known unknown before free in
     let one = first before free in
     let rest = ap (value (whole free)) (kept ∙ unknown) in

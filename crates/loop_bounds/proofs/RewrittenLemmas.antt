@@ -1,19 +1,21 @@
 -- A rewritten sum after one more multiple of what a step leaves in a variable.
-use Rattle.std.proofs.Common.{Bool, true, false, List, [], ◌∷◌, ◌++◌, take, get_or, subst, All, neg_ℤ, length-append, ◌≢◌, ◌≡◌, ℕ, ◌+◌, ◌^◌, ◌≤◌, ◌<◌, length, ℤ, pos, ◌+ℤ◌, ◌-ℤ◌, ◌*ℤ◌, sym, ap, ◌∙◌, arith, unsigned_abs}
+use Rattle.std.proofs.Common.{Bool, true, false, List, [], ◌∷◌, ◌++◌, take, get_or, subst, All, neg_ℤ, length-append, ◌≢◌, ◌≡◌, if◌then◌else◌, ℕ, ◌+◌, ◌^◌, ◌≤◌, ◌<◌, length, ℤ, pos, ◌+ℤ◌, ◌-ℤ◌, ◌*ℤ◌, sym, ap, ◌∙◌, arith, unsigned_abs}
 use Rattle.std.proofs.lemmas.Int.{ints}
 use Rattle.std.proofs.Math.IntN.{+ℤ_invl, +ℤ_assoc, zero-*ℤ}
 use Rattle.std.proofs.lemmas.List.{take_more, get_or_append_left}
+use Rattle.intervals.specs.Logic.{is_single}
 use Rattle.loop_bounds.proofs.SoFar.{HasAdded}
 use Rattle.loop_bounds.specs.declared.variable.Variable.{Variable}
 use Rattle.loop_bounds.specs.declared.linear.Term.{Term}
 use Rattle.loop_bounds.specs.declared.effect.Effect.{Effect}
 use Rattle.loop_bounds.specs.declared.effect.Change.{Change}
-use Rattle.loop_bounds.specs.declared.effect.Change.TheVariants.{Unknown}
+use Rattle.loop_bounds.specs.declared.effect.Change.TheVariants.{Constant, Unknown}
 use Rattle.loop_bounds.specs.Signed.{signed}
 use Rattle.loop_bounds.proofs.LinearLemmas.{at_end}
 use Rattle.loop_bounds.specs.declared.rewritten.Rewritten.{Rewritten}
 use Rattle.loop_bounds.specs.Linear.{Sum, total, value}
-use Rattle.loop_bounds.specs.Effect.{Valuation, whole, after, changed, change_of}
+use Rattle.loop_bounds.specs.Effect.{Valuation, whole, after_from, changed, old_range, constant_before, change_of}
+use Rattle.loop_bounds.specs.Ranges.{Box}
 use Rattle.loop_bounds.specs.Form.{weight}
 use Rattle.loop_bounds.specs.Rewritten.{HasRoom, value_of_both}
 use Rattle.loop_bounds.proofs.FormLemmas.{raised_product, lowered_product, abs_sum, total_push, product_of_sum}
@@ -96,21 +98,29 @@ signed_push true x ts t =
     omega (arith, ints, push, product)
 signed_push false x ts t = total_push x ts t
 
-module _ (old mid new : Rewritten) (effect : Effect) (n : Bool) (ts : List Term) (k : ℕ) (t : Term) (c : ℤ) (change : Change) (so_far : HasAdded old mid effect n (take k ts) k) (inside : k < length ts) (at : t ≡ get_or ts k t) (c_is : c ≡ signed n t.coefficient) (change_is : change ≡ change_of effect t.variable) where
+choice_known : (b : Bool) (n : ℕ) (c : Change) → c ≢ Unknown → (if b then Constant n else c) ≢ Unknown
+choice_known true n c h e = cc
+choice_known false n c h e = h e
+
+-- a constant in the place of a variable is not unknown
+constant_known : (source : Box) (c : Change) → c ≢ Unknown → constant_before source c ≢ Unknown
+constant_known source c h = choice_known (is_single (old_range source c)) (old_range source c).low c h
+
+module _ (old mid new : Rewritten) (source : Box) (effect : Effect) (n : Bool) (ts : List Term) (k : ℕ) (t : Term) (c : ℤ) (change : Change) (so_far : HasAdded old mid source effect n (take k ts) k) (inside : k < length ts) (at : t ≡ get_or ts k t) (c_is : c ≡ signed n t.coefficient) (change_is : change ≡ constant_before source (change_of effect t.variable)) where
   front_more : take (k + 1) ts ≡ take k ts ++ t ∷ []
   front_more = take_more ts k t inside ∙ ap (λ (u : Term). take k ts ++ u ∷ []) (sym at)
 
-  pub added_more : ((before free : Valuation) → value_of_both before free new ≡ value_of_both before free mid +ℤ c *ℤ changed change before (pos (free t.variable))) → ((used : ℕ) → HasRoom used mid → HasRoom (used + 1) new) → (change ≢ Unknown → new.unknown ≡ mid.unknown) → HasAdded old new effect n (take (k + 1) ts) (k + 1)
+  pub added_more : ((before free : Valuation) → value_of_both before free new ≡ value_of_both before free mid +ℤ c *ℤ changed change before (pos (free t.variable))) → ((used : ℕ) → HasRoom used mid → HasRoom (used + 1) new) → (change ≢ Unknown → new.unknown ≡ mid.unknown) → HasAdded old new source effect n (take (k + 1) ts) (k + 1)
   added_more value room no_unknown = record {
     value = λ before free.
         let step = value before free in
         let past = so_far.value before free in
-        let push = signed_push n (after effect before free) (take k ts) t in
-        let same = ap (λ (us : List Term). signed n (total (after effect before free) us)) front_more in
+        let push = signed_push n (after_from source effect before free) (take k ts) t in
+        let same = ap (λ (us : List Term). signed n (total (after_from source effect before free) us)) front_more in
         let product = ap (λ z. z *ℤ changed change before (pos (free t.variable))) c_is ∙ ap (λ (h : Change). signed n t.coefficient *ℤ changed h before (pos (free t.variable))) change_is in
         step ∙ ap (λ z. z +ℤ c *ℤ changed change before (pos (free t.variable))) past
-        ∙ ap (λ z. value_of_both before free old +ℤ signed n (total (after effect before free) (take k ts)) +ℤ z) product
-        ∙ +ℤ_assoc (value_of_both before free old) (signed n (total (after effect before free) (take k ts))) _
+        ∙ ap (λ z. value_of_both before free old +ℤ signed n (total (after_from source effect before free) (take k ts)) +ℤ z) product
+        ∙ +ℤ_assoc (value_of_both before free old) (signed n (total (after_from source effect before free) (take k ts))) _
         ∙ ap (λ z. value_of_both before free old +ℤ z) (sym push ∙ sym same);
     room = λ used h.
         let next = room (used + k) (so_far.room used h) in
@@ -119,7 +129,7 @@ module _ (old mid new : Rewritten) (effect : Effect) (n : Bool) (ts : List Term)
         let here : All (λ u. change_of effect u.variable ≢ Unknown) (take k ts ++ t ∷ []) = rw front_more at all in
         let front : All (λ u. change_of effect u.variable ≢ Unknown) (take k ts) = λ i d p. subst (λ (u : Term). change_of effect u.variable ≢ Unknown) (get_or_append_left (take k ts) (t ∷ []) d i p) (here i d (omega (arith, length-append (take k ts) (t ∷ [])))) in
         let last : change_of effect t.variable ≢ Unknown = subst (λ (u : Term). change_of effect u.variable ≢ Unknown) (at_end (take k ts) t t) (here (length (take k ts)) t (omega (arith, length-append (take k ts) (t ∷ [])))) in
-        no_unknown (λ e. last (sym change_is ∙ e)) ∙ so_far.no_unknown front;
+        no_unknown (λ e. constant_known source (change_of effect t.variable) last (sym change_is ∙ e)) ∙ so_far.no_unknown front;
   }
 
 -- a room for six terms is a sum whose least value can be computed

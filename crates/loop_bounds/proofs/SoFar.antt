@@ -5,7 +5,7 @@ use Rattle.loop_bounds.specs.declared.effect.Effect.{Effect}
 use Rattle.loop_bounds.specs.declared.effect.Change.TheVariants.{Unknown}
 use Rattle.loop_bounds.specs.declared.linear.Term.{Term}
 use Rattle.loop_bounds.specs.Linear.{total}
-use Rattle.loop_bounds.specs.Effect.{Valuation, after, change_of}
+use Rattle.loop_bounds.specs.Effect.{Valuation, after_from, change_of}
 use Rattle.loop_bounds.specs.Ranges.{Box}
 use Rattle.loop_bounds.specs.Form.{weight, least_total}
 use Rattle.loop_bounds.specs.Signed.{signed}
@@ -28,8 +28,8 @@ pub record IsGreatestSoFar (box : Box) (seen : List Term) (greatest : ℤ) : Typ
   pub exact : greatest ≡ greatest_total box seen
   pub size : unsigned_abs greatest ≤ 65535 * weight seen
 
--- the terms were added, or their negations, each rewritten by the effect
-pub record HasAdded (old new : Rewritten) (effect : Effect) (negated : Bool) (terms : List Term) (count : ℕ) : Type 0 where
-  pub value : (before free : Valuation) → value_of_both before free new ≡ value_of_both before free old +ℤ signed negated (total (after effect before free) terms)
+-- the terms were added, or their negations, each rewritten by the effect of a step from the source box
+pub record HasAdded (old new : Rewritten) (source : Box) (effect : Effect) (negated : Bool) (terms : List Term) (count : ℕ) : Type 0 where
+  pub value : (before free : Valuation) → value_of_both before free new ≡ value_of_both before free old +ℤ signed negated (total (after_from source effect before free) terms)
   pub room : (used : ℕ) → HasRoom used old → HasRoom (used + count) new
   pub no_unknown : All (λ t. change_of effect t.variable ≢ Unknown) terms → new.unknown ≡ old.unknown

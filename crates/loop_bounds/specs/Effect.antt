@@ -1,5 +1,7 @@
 -- What a step does to the variables (docs/CHECKER.md, "Linear bounds, effects and tightening").
 use Rattle.std.specs.Prelude.{◌≢◌, ℕ, ◌==◌, if◌then◌else◌, ℤ, pos, ◌+ℤ◌, ◌-ℤ◌, All, Option, Some, None}
+use Rattle.intervals.specs.Logic.{is_single}
+use Rattle.intervals.specs.Range.{Interval, full}
 use Rattle.loop_bounds.specs.declared.effect.Change.{Change}
 use Rattle.loop_bounds.specs.declared.effect.Change.TheVariants.{Old, Raised, Lowered, Constant, Unknown}
 use Rattle.loop_bounds.specs.declared.effect.Effect.{Effect}
@@ -9,6 +11,7 @@ use Rattle.loop_bounds.specs.declared.variable.Variable.TheVariants.{A, B, C, D,
 use Rattle.loop_bounds.specs.declared.variable.Part.{Part}
 use Rattle.loop_bounds.specs.declared.variable.Part.TheVariants.{Word, High, Low}
 use Rattle.loop_bounds.specs.Linear.{Sum}
+use Rattle.loop_bounds.specs.Ranges.{Box}
 
 -- each variable as it was
 abbrev pub unchanged : Effect
@@ -74,6 +77,19 @@ changed Unknown before free = free
 -- the values after a step, where the unknown ones are free
 abbrev pub after : Effect → Valuation → Valuation → Variable → ℤ
 after e before free v = changed (change_of e v) before (pos (free v))
+
+-- the range before a step of what the step leaves as a variable was; of all else nothing is known
+abbrev pub old_range : Box → Change → Interval
+old_range source (Old v) = source v
+old_range source _ = full 65536
+
+-- a constant goes first: what was one value before the step is a constant
+abbrev pub constant_before : Box → Change → Change
+constant_before source change = if is_single (old_range source change) then Constant (old_range source change).low else change
+
+-- the values after a step from a source box, where the unknown ones are free
+abbrev pub after_from : Box → Effect → Valuation → Valuation → Variable → ℤ
+after_from source e before free v = changed (constant_before source (change_of e v)) before (pos (free v))
 
 -- no variable of the sum is unknown after the step
 abbrev pub HasNoUnknown : Effect → Sum → Type 0

@@ -3,8 +3,9 @@ use Rattle.std.specs.Prelude.{◌≡◌, ℕ, ◌+◌, ◌*◌, ◌^◌, ◌≤�
 use Rattle.loop_bounds.specs.declared.rewritten.Rewritten.{Rewritten}
 use Rattle.loop_bounds.specs.declared.effect.Effect.{Effect}
 use Rattle.loop_bounds.specs.Linear.{Sum, total, value}
-use Rattle.loop_bounds.specs.Effect.{Valuation, whole, after}
+use Rattle.loop_bounds.specs.Effect.{Valuation, whole, after_from}
 use Rattle.loop_bounds.specs.Form.{weight}
+use Rattle.loop_bounds.specs.Ranges.{Box}
 use Rattle.loop_bounds.specs.Signed.{signed}
 
 -- what it comes to at the values before the step and those of the unknown variables
@@ -20,7 +21,7 @@ pub record HasRoom (used : ℕ) (r : Rewritten) : Type 0 where
   pub constant : unsigned_abs r.known.constant ≤ 2 ^ 40 * (used + 1)
   pub unknown_constant : r.unknown.constant ≡ pos 0
 
--- the terms of a sum were added, or their negations, each rewritten by the effect
-abbrev pub WasAdded : Rewritten → Rewritten → Effect → Bool → Sum → Type 0
-WasAdded old new effect negated s =
-    (before free : Valuation) → value_of_both before free new ≡ value_of_both before free old +ℤ signed negated (total (after effect before free) s.terms)
+-- the terms of a sum were added, or their negations, each rewritten by the effect of a step from the source box
+abbrev pub WasAdded : Rewritten → Rewritten → Box → Effect → Bool → Sum → Type 0
+WasAdded old new source effect negated s =
+    (before free : Valuation) → value_of_both before free new ≡ value_of_both before free old +ℤ signed negated (total (after_from source effect before free) s.terms)

@@ -2,13 +2,13 @@
 ghost use Rattle.std.specs.Prelude.{◌≡◌, ◌↔◌, ◌⊎◌, ◌≢◌, ◌<◌, ◌≤◌, ◌^◌, All, IsTrue, not, pos, ◌+ℤ◌, ◌-ℤ◌, unsigned_abs};
 ghost use Rattle.loop_bounds.specs.declared.effect.Change.TheVariants.{Unknown};
 ghost use Rattle.loop_bounds.specs.Linear.{value};
-ghost use Rattle.loop_bounds.specs.Effect.{Valuation, whole, after, HasNoUnknown, change_of};
+ghost use Rattle.loop_bounds.specs.Effect.{Valuation, whole, after_from, HasNoUnknown, change_of};
 ghost use Rattle.loop_bounds.specs.Signed.{signed};
 ghost use Rattle.loop_bounds.specs.Bounds.{Decreases, Vanishes, Becomes, BecomesNegation};
 
 use crate::effect::{Change, Effect};
 use crate::linear::{Linear, Term};
-use crate::ranges::Ranges;
+use crate::ranges::{Ranges, Unbounded};
 use crate::rewritten::Rewritten;
 
 /// Whether `from` less the cost, in T-states, less `to` after the step is at least 0, whatever the variables are in the
@@ -25,8 +25,8 @@ pub fn decreases<S: Ranges, T: Ranges>(
     ensures { IsTrue result ↔ Decreases from.now to.now cost effect.now (S.range_of source.now) (T.range_of target.now) }
 {
     let mut left = Rewritten::new(constant_left(from, cost, to));
-    left.add_linear(from, &Effect::unchanged(), false);
-    left.add_linear(to, effect, true);
+    left.add_linear(from, &Unbounded, &Effect::unchanged(), false);
+    left.add_linear(to, &Unbounded, effect, true);
     left.is_never_negative(source, target)
 }
 
@@ -75,36 +75,47 @@ fn has_no_unknown(linear: &Linear, effect: &Effect) -> bool
     have_no_unknown(linear.terms(), effect)
 }
 
-/// Whether the fact, rewritten by the effect, has no unknown and is the constant 0.
-pub fn vanishes(fact: &Linear, effect: &Effect) -> bool
-    ensures { IsTrue result ↔ Vanishes fact.now effect.now }
+/// Whether the fact, rewritten by the effect of a step from the source ranges, has no unknown and is the constant 0. What a
+/// step leaves as it was is a constant where its source range is one value.
+pub fn vanishes<S: Ranges>(fact: &Linear, effect: &Effect, source: &S) -> bool
+    ensures { IsTrue result ↔ Vanishes fact.now effect.now (S.range_of source.now) }
 {
     if !has_no_unknown(fact, effect) {
         return false;
     }
     let mut left = Rewritten::new(wide_constant(fact));
-    left.add_linear(fact, effect, false);
+    left.add_linear(fact, source, effect, false);
     left.known.is_zero()
 }
 
-/// Whether the fact, rewritten by the effect, has no unknown and is the given one, or its negation where that is asked.
-fn is_rewritten_to(fact: &Linear, effect: &Effect, given: &Linear, negated: bool) -> bool
+/// Whether the fact, rewritten by the effect of a step from the source ranges, has no unknown and is the given one, or its
+/// negation where that is asked.
+fn is_rewritten_to<S: Ranges>(
+    fact: &Linear,
+    effect: &Effect,
+    source: &S,
+    given: &Linear,
+    negated: bool,
+) -> bool
     ensures { IsTrue result ↔ (HasNoUnknown effect.now fact.now × ((before free : Valuation)
-        → value (after effect.now before free) fact.now ≡ signed negated (value (whole before) given.now))) }
+        → value (after_from (S.range_of source.now) effect.now before free) fact.now ≡ signed negated (value (whole before) given.now))) }
 {
     if !has_no_unknown(fact, effect) {
         return false;
     }
     let mut left = Rewritten::new(constant_between(fact, given, negated));
-    left.add_linear(fact, effect, false);
-    left.add_linear(given, &Effect::unchanged(), !negated);
+    left.add_linear(fact, source, effect, false);
+    left.add_linear(given, &Unbounded, &Effect::unchanged(), !negated);
     left.known.is_zero()
 }
 
-/// Whether the fact, rewritten by the effect, has no unknown and is the given one or its negation.
-pub fn becomes(fact: &Linear, effect: &Effect, given: &Linear) -> bool
-    ensures { IsTrue result
-        ↔ (Becomes fact.now effect.now given.now ⊎ BecomesNegation fact.now effect.now given.now) }
+/// Whether the fact, rewritten by the effect of a step from the source ranges, has no unknown and is the given one or its
+/// negation. What a step leaves as it was is a constant where its source range is one value; the given fact is taken as it
+/// stands.
+pub fn becomes<S: Ranges>(fact: &Linear, effect: &Effect, source: &S, given: &Linear) -> bool
+    ensures { IsTrue result ↔ (Becomes fact.now effect.now (S.range_of source.now) given.now
+        ⊎ BecomesNegation fact.now effect.now (S.range_of source.now) given.now) }
 {
-    is_rewritten_to(fact, effect, given, false) || is_rewritten_to(fact, effect, given, true)
+    is_rewritten_to(fact, effect, source, given, false)
+        || is_rewritten_to(fact, effect, source, given, true)
 }

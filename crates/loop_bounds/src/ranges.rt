@@ -2,6 +2,7 @@
 ghost use Rattle.std.specs.Prelude.{◌≡◌, ℕ, Option, Some, None, IsSomeAnd, MatchBool};
 ghost use Rattle.std.specs.Bool.{OnFalse};
 ghost use Rattle.intervals.specs.Range.{Interval, Within};
+ghost use Rattle.loop_bounds.specs.Ranges.{full_box};
 ghost use Rattle.loop_bounds.specs.declared.variable.Variable.{Variable};
 
 use crate::variable::Variable;
@@ -14,6 +15,18 @@ pub trait Ranges {
 
     fn range(&self, variable: Variable) -> WordRange
         ensures { result ≡ range_of self.now variable };
+}
+
+/// Nothing is known of any variable.
+#[derive(Drop)]
+pub struct Unbounded;
+
+impl Ranges for Unbounded {
+    ghost range_of = { λ _. full_box };
+
+    fn range(&self, _variable: Variable) -> WordRange {
+        WordRange::full()
+    }
 }
 
 /// Ranges of a state of which one variable can be cut at a time. A cut may change the ranges of other variables too, as

@@ -2,7 +2,7 @@
 ghost use Rattle.std.specs.Prelude.{◌≡◌, ◌≢◌, ◌↔◌, IsTrue, ◌≤ℤ◌, ℕ, ◌+◌, ◌<◌, ◌≤◌, ◌^◌, [], length, All, ℤ, pos, ◌+ℤ◌, ◌*ℤ◌, unsigned_abs};
 ghost use Rattle.loop_bounds.specs.declared.effect.Change.TheVariants.{Unknown};
 ghost use Rattle.loop_bounds.specs.Linear.{total};
-ghost use Rattle.loop_bounds.specs.Effect.{Valuation, change_of, changed, after, HasNoUnknown};
+ghost use Rattle.loop_bounds.specs.Effect.{Valuation, change_of, changed, old_range, constant_before, after_from, HasNoUnknown};
 ghost use Rattle.loop_bounds.specs.Ranges.{LiesIn};
 ghost use Rattle.loop_bounds.specs.Signed.{signed};
 
@@ -10,6 +10,7 @@ use crate::effect::{Change, Effect};
 use crate::form::{Form, multiple};
 use crate::linear::{Linear, Term};
 use crate::ranges::Ranges;
+use intervals::WordRange;
 
 /// A sum that was rewritten by an effect: what it has of variables before the step, and what it has of variables that are
 /// unknown after it.
@@ -26,6 +27,26 @@ fn negated_if(negated: bool, coefficient: i32) -> i32
     ensures size { unsigned_abs result ≤ 1000000 }
 {
     if negated { -coefficient } else { coefficient }
+}
+
+/// The range before a step of what a step leaves as a variable was; of all else nothing is known.
+fn old_range<S: Ranges>(source: &S, change: &Change) -> WordRange
+    ensures { result ≡ old_range (S.range_of source.now) change.now }
+{
+    match *change {
+        Change::Old(variable) => source.range(variable),
+        _ => WordRange::full(),
+    }
+}
+
+/// What a step leaves in a variable, where an old variable whose range before the step is one value is that value.
+fn constant_before<S: Ranges>(source: &S, change: Change) -> Change
+    ensures { result ≡ constant_before (S.range_of source.now) change }
+{
+    match old_range(source, &change).value() {
+        Some(value) => Change::Constant(value),
+        None => change,
+    }
 }
 
 impl Rewritten {
@@ -78,19 +99,19 @@ impl Rewritten {
         }
     }
 
-    /// Adds some terms, or their negations, each rewritten by the effect.
-    fn add_terms(&mut self, terms: &[Term], effect: &Effect, negated: bool)
+    /// Adds some terms, or their negations, each rewritten by the effect of a step from the source ranges.
+    fn add_terms<S: Ranges>(&mut self, terms: &[Term], source: &S, effect: &Effect, negated: bool)
         requires few { length terms.now ≤ 3 }
         requires small { All (λ t. unsigned_abs t.coefficient ≤ 1000000) terms.now }
         requires room { HasRoom 3 self.old }
         ensures value { (before free : Valuation) → value_of_both before free self.new
-            ≡ value_of_both before free self.old +ℤ signed negated (total (after effect.now before free) terms.now) }
+            ≡ value_of_both before free self.old +ℤ signed negated (total (after_from (S.range_of source.now) effect.now before free) terms.now) }
         ensures room { (used : ℕ) → HasRoom used self.old → HasRoom (used + 3) self.new }
         ensures no_unknown { All (λ t. change_of effect.now t.variable ≢ Unknown) terms.now
             → self.new.unknown ≡ self.old.unknown }
     {
         for term in terms {
-            let change = effect.change(term.variable);
+            let change = constant_before(source, effect.change(term.variable));
             let changed = Term {
                 coefficient: negated_if(negated, term.coefficient),
                 variable: term.variable,
@@ -99,14 +120,20 @@ impl Rewritten {
         }
     }
 
-    /// Adds the terms of a linear, or their negations, each rewritten by the effect.
-    pub fn add_linear(&mut self, linear: &Linear, effect: &Effect, negated: bool)
+    /// Adds the terms of a linear, or their negations, each rewritten by the effect of a step from the source ranges.
+    pub fn add_linear<S: Ranges>(
+        &mut self,
+        linear: &Linear,
+        source: &S,
+        effect: &Effect,
+        negated: bool,
+    )
         requires { HasRoom 3 self.old }
-        ensures value { WasAdded self.old self.new effect.now negated linear.now }
+        ensures value { WasAdded self.old self.new (S.range_of source.now) effect.now negated linear.now }
         ensures room { (used : ℕ) → HasRoom used self.old → HasRoom (used + 3) self.new }
         ensures no_unknown { HasNoUnknown effect.now linear.now → self.new.unknown ≡ self.old.unknown }
     {
-        self.add_terms(linear.terms(), effect, negated);
+        self.add_terms(linear.terms(), source, effect, negated);
     }
 
     /// Whether the value is at least 0 wherever the variables before the step are in the source ranges, and the unknown ones

@@ -268,33 +268,54 @@ const MINUS_SIX: Sum = (6, -1, 0, 0);
 
 const LOWERS: Lefts = (Left::LoweredB, Left::OldC, Left::OldBc);
 
-/// What a step leaves, a fact, and whether the fact holds behind the step by itself.
-const VANISHING: &[(Lefts, Sum, bool)] = &[
-    ((Left::Constant(5), Left::OldC, Left::OldBc), FIVE, true),
-    ((Left::Constant(4), Left::OldC, Left::OldBc), FIVE, false),
-    (UNKNOWN, FIVE, false),
-    (MOVES, APART, true),
-    (KEEPS, APART, false),
+// What is known before a step where B is 5, and C 0 to 255.
+const B_IS_FIVE: Bounds = ((5, 5), (0, 255));
+
+/// What a step leaves, what is known before it, a fact, and whether the fact holds behind the step by itself.
+const VANISHING: &[(Lefts, Bounds, Sum, bool)] = &[
+    ((Left::Constant(5), Left::OldC, Left::OldBc), BYTES, FIVE, true),
+    ((Left::Constant(4), Left::OldC, Left::OldBc), BYTES, FIVE, false),
+    (UNKNOWN, BYTES, FIVE, false),
+    (MOVES, BYTES, APART, true),
+    (KEEPS, BYTES, APART, false),
+    // B is left as it was, and it was 5: the fact is 5 - 5. So is it where C becomes what B was, but not 5 - 6.
+    (KEEPS, B_IS_FIVE, FIVE, true),
+    (KEEPS, BYTES, FIVE, false),
+    (KEEPS, B_IS_FIVE, SIX, false),
+    (BOTH_B, B_IS_FIVE, APART, true),
+    (UNKNOWN, B_IS_FIVE, FIVE, false),
 ];
 
-/// What a step leaves, a fact, another, and whether the first holds behind the step where the other held before.
-const BECOMING: &[(Lefts, Sum, Sum, bool)] = &[
-    (LOWERS, FIVE, SIX, true),
-    (LOWERS, FIVE, MINUS_SIX, true),
-    (LOWERS, FIVE, FIVE, false),
-    (KEEPS, FIVE, SIX, false),
-    ((Left::OldC, Left::OldB, Left::OldBc), APART, APART, true),
-    (UNKNOWN, APART, APART, false),
+// Both are what B was.
+const BOTH_B: Lefts = (Left::OldB, Left::OldB, Left::OldBc);
+
+// C - 5
+const C_IS_FIVE: Sum = (-5, 0, 1, 0);
+
+/// What a step leaves, what is known before it, a fact, another, and whether the first holds behind the step where the
+/// other held before.
+const BECOMING: &[(Lefts, Bounds, Sum, Sum, bool)] = &[
+    (LOWERS, BYTES, FIVE, SIX, true),
+    (LOWERS, BYTES, FIVE, MINUS_SIX, true),
+    (LOWERS, BYTES, FIVE, FIVE, false),
+    (KEEPS, BYTES, FIVE, SIX, false),
+    ((Left::OldC, Left::OldB, Left::OldBc), BYTES, APART, APART, true),
+    (UNKNOWN, BYTES, APART, APART, false),
+    // B - C where B is left 5 is 5 - C, which is the negation of C - 5, and no longer B - C.
+    (KEEPS, B_IS_FIVE, APART, C_IS_FIVE, true),
+    (KEEPS, B_IS_FIVE, APART, APART, false),
+    (KEEPS, BYTES, APART, C_IS_FIVE, false),
 ];
 
 #[test]
 fn facts_are_rewritten(rt: HostRuntime) {
-    for (place, &(lefts, fact, wanted)) in VANISHING.iter().enumerate() {
-        let found = vanishes(&linear(&rt, fact), &effect(lefts));
+    for (place, &(lefts, from, fact, wanted)) in VANISHING.iter().enumerate() {
+        let found = vanishes(&linear(&rt, fact), &effect(lefts), &known(from));
         assert!(rt; found == wanted, "fact {place}");
     }
-    for (place, &(lefts, fact, given, wanted)) in BECOMING.iter().enumerate() {
-        let found = becomes(&linear(&rt, fact), &effect(lefts), &linear(&rt, given));
+    for (place, &(lefts, from, fact, given, wanted)) in BECOMING.iter().enumerate() {
+        let (fact, given) = (linear(&rt, fact), linear(&rt, given));
+        let found = becomes(&fact, &effect(lefts), &known(from), &given);
         assert!(rt; found == wanted, "pair {place}");
     }
 }

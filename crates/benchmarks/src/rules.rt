@@ -1,0 +1,211 @@
+// Calls of `successors` at all documented codes, from random states.
+
+use abs_state::{AbsState, FlagFact, KeptCell, Mode};
+use abs_step::successors;
+use address_map::{Map, Rom};
+use arrayvec::ArrayVec;
+use intervals::{ByteRange, Pair, RegPair, WordRange};
+use std::alloc::{AllocError, Global};
+use z80_decode::{Register8, decode};
+
+/// Random numbers, always the same.
+#[derive(Drop)]
+struct Numbers {
+    state: u64,
+}
+
+impl Numbers {
+    /// A number from 0 to 65,535.
+    fn word(&mut self) -> u16 {
+        let product = self.state.wrapping_mul(6_364_136_223_846_793_005);
+        self.state = product.wrapping_add(1_442_695_040_888_963_407);
+        (self.state >> 48) as u16
+    }
+
+    fn byte(&mut self) -> u8 {
+        (self.word() / 256) as u8
+    }
+
+    /// Words from one on, at most 256.
+    fn words_from(&mut self, low: u16) -> WordRange {
+        let high = low.saturating_add(u16::from(self.byte()));
+        WordRange::new(low, high).unwrap_or(WordRange::full())
+    }
+
+    /// A pair of which nothing is known, one word of the ROM, at most 256 of them, or at most 256 of all words; each fourth
+    /// with an origin.
+    fn pair(&mut self) -> Pair {
+        let word = self.word();
+        let of_word = match self.byte() % 4 {
+            0 => WordRange::full(),
+            1 => WordRange::single(word % ROM),
+            2 => self.words_from(word % ROM),
+            _ => self.words_from(word),
+        };
+        let origin = match self.byte() % 4 {
+            0 => Some(RegPair::Bc),
+            _ => None,
+        };
+        Pair {
+            origin,
+            ..Pair::of_word(of_word)
+        }
+    }
+
+    fn fact(&mut self) -> Option<FlagFact> {
+        match self.byte() % 4 {
+            0 => Some(FlagFact::Zero(Register8::A)),
+            1 => Some(FlagFact::Zero(Register8::B)),
+            2 => Some(FlagFact::Compared(self.byte())),
+            _ => None,
+        }
+    }
+
+    /// A state in mode `s` or `n`, with up to four armed cells and up to seven slots, or none.
+    fn state(&mut self) -> AbsState {
+        let mut state = AbsState::of_main();
+        state.mode = if self.byte() < 128 {
+            Mode::Set
+        } else {
+            Mode::Nmi
+        };
+        state.armed = u16::from(self.byte() % 5);
+        for register in PAIRS {
+            state.pairs.set(register, self.pair());
+        }
+        state.flag = self.fact();
+        for _ in 0..self.byte() % 8 {
+            let pair = self.pair();
+            let _fits = state.push(pair);
+        }
+        state
+    }
+}
+
+const PAIRS: [RegPair; 10] = [
+    RegPair::Af,
+    RegPair::Bc,
+    RegPair::De,
+    RegPair::Hl,
+    RegPair::Ix,
+    RegPair::Iy,
+    RegPair::AlternateAf,
+    RegPair::AlternateBc,
+    RegPair::AlternateDe,
+    RegPair::AlternateHl,
+];
+
+/// How many bytes the ROM has.
+const ROM: u16 = 0x4000;
+
+/// How many states there are.
+const STATES: usize = 61;
+
+/// What stands before the opcode: two bytes, the first of them or none. Behind DD CB and FD CB stand a displacement and then
+/// the opcode.
+const PREFIXES: [(u8, &[u8]); 7] = [
+    (0, &[]),
+    (0, &[0xCB]),
+    (0, &[0xED]),
+    (0, &[0xDD]),
+    (0, &[0xFD]),
+    (1, &[0xDD, 0xCB]),
+    (1, &[0xFD, 0xCB]),
+];
+
+/// A ROM with each documented code once, and random bytes behind them.
+#[derive(Drop)]
+struct Codes {
+    rom: Vec<u8>,
+    /// Where the codes begin.
+    starts: Vec<u16>,
+}
+
+impl Codes {
+    fn of(alloc: Global, numbers: &mut Numbers) -> Result<Codes, AllocError> {
+        let mut codes = Codes {
+            rom: Vec::new(alloc),
+            starts: Vec::new(alloc),
+        };
+        for (displacements, prefix) in PREFIXES {
+            for opcode in 0..=255 {
+                codes.add(numbers, prefix, displacements, opcode)?;
+            }
+        }
+        for _ in codes.rom.len()..usize::from(ROM) {
+            codes.rom.push(numbers.byte())?;
+        }
+        Ok(codes)
+    }
+
+    /// Adds what is spelled by a prefix, so many displacements, the opcode and random operands, if anything is.
+    fn add(
+        &mut self,
+        numbers: &mut Numbers,
+        prefix: &[u8],
+        displacements: u8,
+        opcode: u8,
+    ) -> Result<(), AllocError> {
+        let mut bytes: ArrayVec<u8, 8> = ArrayVec::new();
+        let _fits = bytes.try_extend_from_slice(prefix);
+        for _ in 0..displacements {
+            let _fits = bytes.try_push(numbers.byte());
+        }
+        let _fits = bytes.try_push(opcode);
+        for _ in 0..2 {
+            let _fits = bytes.try_push(numbers.byte());
+        }
+        let at = u16::try_from(self.rom.len());
+        if let (Ok(at), Ok((_, len))) = (at, decode(bytes.as_slice())) {
+            self.rom
+                .extend_from_slice(&bytes.as_slice()[..usize::from(len)])?;
+            self.starts.push(at)?;
+        }
+        Ok(())
+    }
+}
+
+/// How many ways on there were in so many calls, one code and one state after another, and how many calls refused the row.
+pub fn counted(alloc: Global, calls: u64) -> Result<(u64, u64), AllocError> {
+    let mut numbers = Numbers { state: 1 };
+    let codes = Codes::of(alloc, &mut numbers)?;
+    let mut states = Vec::new(alloc);
+    for _ in 0..STATES {
+        states.push(numbers.state())?;
+    }
+    Ok(called(alloc, &codes, states.as_slice(), calls))
+}
+
+/// The kept cells are the first four of work RAM, each with any byte below 16.
+fn kept() -> [KeptCell; 4] {
+    let range = ByteRange::at_most(15);
+    [0x4000, 0x4001, 0x4002, 0x4003].map(|at| KeptCell { at, range })
+}
+
+fn called(alloc: Global, codes: &Codes, states: &[AbsState], calls: u64) -> (u64, u64) {
+    let Some(rom) = Rom::of(codes.rom.as_slice()) else {
+        return (0, 0);
+    };
+    let map = Map::galaxian(rom.len());
+    let cells = kept();
+    let (mut ways, mut refused): (u64, u64) = (0, 0);
+    let (mut code, mut state) = (0, 0);
+    for _ in 0..calls {
+        let (Some(at), Some(known)) = (codes.starts.get(code), states.get(state)) else {
+            return (ways, refused);
+        };
+        match successors(alloc, &rom, &map, &cells, *at, false, false, known) {
+            Ok(nexts) => ways = ways.wrapping_add(nexts.len() as u64),
+            Err(_) => refused = refused.wrapping_add(1),
+        }
+        code = following(code, codes.starts.len());
+        state = following(state, states.len());
+    }
+    (ways, refused)
+}
+
+/// The place behind one of a list of this length, or the first.
+fn following(place: usize, len: usize) -> usize {
+    let next = place.wrapping_add(1);
+    if next < len { next } else { 0 }
+}
