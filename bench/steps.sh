@@ -1,6 +1,7 @@
 #!/bin/sh
 # Compares single steps at random states with what Debian's libz80ex (apt-get install libz80ex-dev) makes of them:
-# bench/steps.sh [COUNT] [SEED], a million where no count is given.
+# bench/steps.sh [COUNT] [SEED], a million where no count is given. The first call proves what crates/benchmarks stands on, which
+# takes minutes; 5,000,000 steps after it take 110 seconds of processor time.
 set -eu
 here=$(cd "$(dirname "$0")" && pwd)
 work=$(mktemp -d)
