@@ -50,48 +50,64 @@ fn the_fields_of_a_line(rt: HostRuntime) {
     }
 }
 
-/// Registers whose main set, IX, IY and SP are these words, and whose other set has this byte throughout.
-fn regs([af, bc, de, hl, ix, iy, sp]: [u16; 7], other: u8) -> Regs {
-    let mut main = RegisterSet::default();
-    main.set_af(af);
-    main.set_bc(bc);
-    main.set_de(de);
-    main.set_hl(hl);
-    let alternate = RegisterSet {
-        a: other,
-        f: other,
-        b: other,
-        c: other,
-        d: other,
-        e: other,
-        h: other,
-        l: other,
-    };
-    Regs {
-        main,
-        alternate,
-        ix,
-        iy,
-        sp,
-        ..Regs::default()
-    }
-}
+/// A set of registers of A5, and the registers of a reset to A5.
+const FILLED: RegisterSet = RegisterSet {
+    a: 0xA5,
+    f: 0xA5,
+    b: 0xA5,
+    c: 0xA5,
+    d: 0xA5,
+    e: 0xA5,
+    h: 0xA5,
+    l: 0xA5,
+};
 
-/// Whether a reset has this phase, these registers and this byte in each cell of RAM.
-fn has_reset(reset: &Reset, phase: u32, regs: Regs, byte: u8) -> bool {
+const FILLED_REGS: Regs = Regs {
+    main: FILLED,
+    alternate: FILLED,
+    ix: 0xA5A5,
+    iy: 0xA5A5,
+    sp: 0xA5A5,
+    pc: 0,
+    i: 0,
+    r: 0,
+    iff1: false,
+    iff2: false,
+};
+
+/// Whether a reset has this phase, and A5 in each register and in each cell of RAM.
+fn is_filled(reset: &Reset, phase: u32) -> bool {
     reset.phase == phase
-        && reset.regs == regs
-        && reset.work == [byte; 0x400]
-        && reset.video == [byte; 0x400]
-        && reset.object == [byte; 0x100]
+        && reset.regs == FILLED_REGS
+        && reset.work == [0xA5; 0x400]
+        && reset.video == [0xA5; 0x400]
+        && reset.object == [0xA5; 0x100]
 }
 
 #[test]
 fn the_fields_of_a_reset(rt: HostRuntime) {
     let line = ResetLine::of(b"reset 50687 A5").unwrap_or(ResetLine { phase: 0, fill: 0 });
     assert!(rt; line.phase == 50_687 && line.fill == 0xA5);
-    assert!(rt; has_reset(&line.reset(), 50_687, regs([0xA5A5; 7], 0xA5), 0xA5));
+    assert!(rt; is_filled(&line.reset(), 50_687));
 }
+
+/// Registers that differ.
+const REGS: Regs = Regs {
+    main: RegisterSet {
+        a: 0x01,
+        f: 0x02,
+        b: 0x03,
+        c: 0x04,
+        d: 0x05,
+        e: 0x06,
+        h: 0x07,
+        l: 0x08,
+    },
+    ix: 0x090A,
+    iy: 0x0B0C,
+    sp: 0x0D0E,
+    ..FILLED_REGS
+};
 
 const SUMMARY: Summary = Summary {
     events: 0,
@@ -102,7 +118,7 @@ const SUMMARY: Summary = Summary {
     sums: [1_024, 2_048, 768],
 };
 
-/// What JUMP comes to in these environments, from registers that differ, and each byte of work RAM 1, of video RAM 2 and of
+/// What JUMP comes to in these environments, from these registers, and each byte of work RAM 1, of video RAM 2 and of
 /// object RAM 3.
 fn summed(alloc: Global, envs: &[Env]) -> Option<Summary> {
     let certificate = read(alloc, JUMP_CERTIFICATE.as_bytes()).ok()?;
@@ -111,10 +127,7 @@ fn summed(alloc: Global, envs: &[Env]) -> Option<Summary> {
         work: [1; 0x400],
         video: [2; 0x400],
         object: [3; 0x100],
-        regs: regs(
-            [0x0102, 0x0304, 0x0506, 0x0708, 0x090A, 0x0B0C, 0x0D0E],
-            0xEE,
-        ),
+        regs: REGS,
         phase: 50_687,
     };
     Some(Machine::reset(&accepted, &reset).run(envs))
