@@ -1,10 +1,13 @@
 #!/bin/sh
 # Compares single steps at random states with what Debian's libz80ex (apt-get install libz80ex-dev) makes of them:
-# bench/steps.sh [COUNT] [SEED], a million where no count is given.
+# bench/steps.sh [COUNT] [SEED], a million where no count is given. The first call proves what crates/benchmarks stands on, which
+# takes minutes; 5,000,000 steps behind it took 71 seconds. The steps go through a file of 126 bytes a step, since a pipe is read
+# byte by byte.
 set -eu
 here=$(cd "$(dirname "$0")" && pwd)
 work=$(mktemp -d)
 trap 'rm -rf "$work"' EXIT
 cc -O2 -o "$work/steps" "$here/steps.c" -lz80ex
 (cd "$here/../crates/benchmarks" && rt run > /dev/null < /dev/null)
-"$work/steps" "${1:-1000000}" "${2:-1}" | "$here/../crates/benchmarks/out/benchmarks"
+"$work/steps" "${1:-1000000}" "${2:-1}" > "$work/lines"
+"$here/../crates/benchmarks/out/benchmarks" < "$work/lines"

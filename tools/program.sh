@@ -130,6 +130,12 @@ bytes() { python3 -c 'import os, sys
 for byte in open(sys.argv[1], "rb").read(): os.write(1, bytes([byte]))' "$1"; }
 ask run <(bytes "$six.rom") <(bytes "$six.cert") <(bytes "$six.input") 3
 judge "a byte at a time" 0 "$run_of_three" ''
+rows 200 > rows.cert
+ask verify <(bytes "$six.rom") <(bytes rows.cert)
+judge "a byte at a time, 200 rows" 0 "$table" ''
+printf 'reset 50687 A5\n1 1A 2B 3C 4D 5E 6F 1\n1 00 00 00 00 00 00 0\n' > two.input
+ask run <(bytes "$six.rom") <(bytes "$six.cert") <(bytes two.input) 9
+judge "a byte at a time, two lines" 0 $'done 2 20 0003 4400\nregs A5A5 A5A5 A5A5 A5A5 A5A5 A5A5\nsum 168960 168960 42240\n' ''
 
 echo "$cases cases, $wrong not as they should be"
 [ "$wrong" = 0 ]

@@ -7,6 +7,7 @@ ghost use Rattle.z80_decode.specs.declared.fault.DecodeFault.{DecodeFault as Fau
 ghost use Rattle.abs_draft.specs.Ground.{ground_of};
 ghost use Rattle.abs_draft.specs.Outcomes.{settled};
 ghost use Rattle.t_states.specs.Costs.{cost_of};
+ghost use Rattle.abs_step.specs.Contained.{Keeps};
 ghost use Rattle.abs_step.specs.Successors.{address_of, stack_set, ways_from, answer_of, writes_of};
 
 use crate::next::{Next, NextKind, Nexts};
@@ -62,6 +63,9 @@ fn next_from(known: Known, instr: &Instr, taken: bool, kind: NextKind) -> Next
 /// the address is that of an inline call. The map's ROM length is the ROM's, and there are at most 256 kept cells. It takes no
 /// memory.
 ///
+/// Whatever the board is of which the row holds, the instruction goes as one of these ways on says, and does nothing else
+/// (docs/CHECKER.md, "What a step keeps").
+///
 /// # Errors
 ///
 /// The lowest of the reasons 4, 5, 9 and 10 that applies, or 12 for a computed jump that is no one word
@@ -82,6 +86,9 @@ pub fn successors(
         → answer_of (ground_of rom.now map.now cells.now) address main inline state.now decoded ≡ Ok nexts.items) }
     ensures err { IfErr result (λ reason. (decoded : Result Instruction Fault) → StandsAt rom.now address decoded
         → answer_of (ground_of rom.now map.now cells.now) address main inline state.now decoded ≡ Err reason) }
+    ensures decodes { IfOk result (λ nexts. (instr : Instruction) × StandsAt rom.now address (Ok instr)) }
+    ensures keeps { IfOk result (λ nexts. (instr : Instruction) → StandsAt rom.now address (Ok instr)
+        → Keeps (ground_of rom.now map.now cells.now) address main state.now instr nexts.items) }
 {
     let ground = Ground::of(rom, map, cells);
     match fetch(rom, address) {

@@ -97,12 +97,12 @@ fn an_acceptance_clears_iff1_alone(rt: HostRuntime) {
     assert!(rt; iff_after(di, &[0xED, 0x45]) == Some((false, false)));
 }
 
-/// The routine clears the enable and sets it again: XOR A; LD (7001),A; INC A; LD (7001),A; RETN. That clears the line, so
-/// the next blank is met again.
+/// The routine clears the enable and sets it again: XOR A; LD (7001),A; INC A; LD (7001),A; JR to itself. That clears the
+/// line, so the next blank is met again; that acceptance finds IFF1 clear and IFF2 set, and keeps IFF2.
 #[test]
 fn a_cleared_line_latches_again(rt: HostRuntime) -> Result<(), Fail> {
-    let routine = [0xAF, 0x32, 0x01, 0x70, 0x3C, 0x32, 0x01, 0x70, 0xED, 0x45];
-    let rom = with_routine(0x00, &routine);
+    let routine = [0xAF, 0x32, 0x01, 0x70, 0x3C, 0x32, 0x01, 0x70, 0x18, 0xFE];
+    let rom = with_routine(0xFB, &routine);
     let mut board = filled(0, 50_688 - 46);
     let mut acceptances = 0u32;
     for _ in 0..4_300 {
@@ -112,6 +112,7 @@ fn a_cleared_line_latches_again(rt: HostRuntime) -> Result<(), Fail> {
         stepped(&mut board, &rom, WIDE, 1, &environment())?;
     }
     assert!(rt; acceptances == 2);
+    assert!(rt; !board.regs().iff1 && board.regs().iff2);
     Ok(())
 }
 

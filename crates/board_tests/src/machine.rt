@@ -1,4 +1,4 @@
-// Steps whose answers come from the manual by hand. Those of another program are in crates/step_vectors.
+// Steps whose answers come from the manual by hand. Those of another program are in crates/benchmarks.
 
 ghost use Rattle.std.specs.Prelude.{◌≡◌, ◌<◌, length};
 ghost use Rattle.t_states.specs.Frame.{frame};
@@ -176,6 +176,8 @@ fn difference((rom, steps, changes, pc, t, cells): Row) -> &'static str {
         "registers"
     } else if board.regs().pc != pc {
         "program counter"
+    } else if board.regs().r != 0 {
+        "R"
     } else if !has(&board, cells) {
         "bytes"
     } else {

@@ -1,4 +1,4 @@
-// The tests of certificates, and of the commands over devices in memory.
+// The tests of certificates, of an input's lines and a run's summary, and of the commands over devices in memory.
 #![tactic(auto)]
 
 #[cfg(test)]
@@ -7,6 +7,8 @@ mod certificates;
 mod commands_over;
 #[cfg(test)]
 mod device_order;
+#[cfg(test)]
+mod inputs;
 #[cfg(test)]
 mod memory_devices;
 #[cfg(test)]

@@ -3,22 +3,43 @@
 /// LD SP,4400H; JP 0003H
 pub const JUMP: &[u8] = &[0x31, 0x00, 0x44, 0xC3, 0x03, 0x00];
 
-/// LD SP,4400H; LD A,5; LD (4000H),A; JR -2
-pub const STORE: &[u8] = &[0x31, 0x00, 0x44, 0x3E, 0x05, 0x32, 0x00, 0x40, 0x18, 0xFE];
+/// LD SP,4400H; LD A,12H; LD (nn),A to 4000, to 5000 and 57FF, and to 5800, 5901 and 5FFF; JR -2
+pub const STORES: &[u8] = &[
+    0x31, 0x00, 0x44, 0x3E, 0x12, 0x32, 0x00, 0x40, 0x32, 0x00, 0x50, 0x32, 0xFF, 0x57, 0x32, 0x00,
+    0x58, 0x32, 0x01, 0x59, 0x32, 0xFF, 0x5F, 0x18, 0xFE,
+];
 
-/// The text of a certificate of a ROM of this length, with a stack in this region and rows of these addresses and
-/// modes (docs/CERTIFICATE.md).
+/// The text of a certificate of a ROM of this length, with a stack in this region, this depth of main (0 where none is told)
+/// and rows of these addresses and modes (docs/CERTIFICATE.md).
 macro_rules! certificate_text {
-    ($len:literal, $region:literal, $($row:literal),*) => {
+    ($len:literal, $region:literal, depth $depth:literal, $($row:literal),*) => {
         concat!(
-            "galcert 1\nrom ", $len, "\nstack ", $region, "\nbudget -\nproc main 0000 0 0 -\n",
+            "galcert 1\nrom ", $len, "\nstack ", $region, "\nbudget -\nproc main 0000 0 ", $depth, " -\n",
             $("row 0 ", $row, " * * * * * * * * * * - - - -\n",)*
             "end\n"
         )
     };
+    ($len:literal, $region:literal, $($row:literal),*) => {
+        certificate_text!($len, $region, depth 0, $($row),*)
+    };
 }
 
 pub(crate) use certificate_text;
+
+/// The certificate of STORES.
+pub const STORES_CERTIFICATE: &str = certificate_text!(
+    25,
+    "4380 4400",
+    "0000 u",
+    "0003 s",
+    "0005 s",
+    "0008 s",
+    "000B s",
+    "000E s",
+    "0011 s",
+    "0014 s",
+    "0017 s"
+);
 
 /// The certificate of JUMP.
 pub const JUMP_CERTIFICATE: &str = certificate_text!(6, "4380 4400", "0000 u", "0003 s");

@@ -2,24 +2,96 @@
 
 use crate::commands_over::{run, run_whole, verify, verify_whole};
 use crate::memory_devices::{Bytes, Taken};
-use crate::samples::{JUMP, JUMP_CERTIFICATE, ROW_MISSING, STORE, certificate_text};
+use crate::samples::{
+    JUMP, JUMP_CERTIFICATE, ROW_MISSING, STORES, STORES_CERTIFICATE, certificate_text,
+};
 use commands::steps_of;
 use std::test::Fail;
 
+/// What `verify` prints of main's depth 0 in 128 bytes.
+const TABLE: &str = "accepted\nmain 0000 depth     0 time      -\nstack 0 of 128\nnmi none\n";
+
+/// What `run` prints of three events of JUMP, from a reset to 00.
+const THREE: &str = "done 3 30 0003 4400\nregs 0000 0000 0000 0000 0000 0000\nsum 0 0 0\n";
+
 /// A ROM, its certificate, and the status and the text of `verify`.
 const VERDICTS: &[(&[u8], &str, u8, &str)] = &[
+    (JUMP, JUMP_CERTIFICATE, 0, TABLE),
+    // The depth is the region's size, and one more; and all of the region
     (
         JUMP,
-        JUMP_CERTIFICATE,
+        certificate_text!(6, "4380 4400", depth 128, "0000 u", "0003 s"),
         0,
-        "accepted\nmain 0000 depth     0 time      -\nstack 0 of 128\nnmi none\n",
+        "accepted\nmain 0000 depth   128 time      -\nstack 128 of 128\nnmi none\n",
     ),
-    // LD SP,4400H; LD (0000H),A or LD (4800H),A or LD (7009H),A; JR -2
+    (
+        JUMP,
+        certificate_text!(6, "4380 4400", depth 129, "0000 u", "0003 s"),
+        1,
+        "refused 0000 11 StackDepth\n",
+    ),
+    (
+        JUMP,
+        certificate_text!(6, "4000 4400", depth 3, "0000 u", "0003 s"),
+        0,
+        "accepted\nmain 0000 depth     3 time      -\nstack 3 of 1024\nnmi none\n",
+    ),
+    // The ROM's length is one more or less than the certificate's
+    (
+        JUMP,
+        certificate_text!(5, "4380 4400", "0000 u", "0003 s"),
+        1,
+        "refused 0000 1 Rom\n",
+    ),
+    (
+        JUMP,
+        certificate_text!(7, "4380 4400", "0000 u", "0003 s"),
+        1,
+        "refused 0000 1 Rom\n",
+    ),
+    // Regions that end behind the first 400h addresses of work RAM, begin before them, or end where they begin
+    (
+        JUMP,
+        certificate_text!(6, "4380 4401", "0000 u", "0003 s"),
+        1,
+        "refused 0000 2 Region\n",
+    ),
+    (
+        JUMP,
+        certificate_text!(6, "4380 4800", "0000 u", "0003 s"),
+        1,
+        "refused 0000 2 Region\n",
+    ),
+    (
+        JUMP,
+        certificate_text!(6, "3FFF 4400", "0000 u", "0003 s"),
+        1,
+        "refused 0000 2 Region\n",
+    ),
+    (
+        JUMP,
+        certificate_text!(6, "4400 4400", "0000 u", "0003 s"),
+        1,
+        "refused 0000 2 Region\n",
+    ),
+    // LD SP,4400H; LD (nn),A; JR -2: the first and the last byte of the ROM and the one behind it, 4800, and the enable's mirror
     (
         b"\x31\x00\x44\x32\x00\x00\x18\xFE",
         certificate_text!(8, "4380 4400", "0000 u", "0003 s", "0006 s"),
         1,
         "refused 0003 6 WriteRom\n",
+    ),
+    (
+        b"\x31\x00\x44\x32\x07\x00\x18\xFE",
+        certificate_text!(8, "4380 4400", "0000 u", "0003 s", "0006 s"),
+        1,
+        "refused 0003 6 WriteRom\n",
+    ),
+    (
+        b"\x31\x00\x44\x32\x08\x00\x18\xFE",
+        certificate_text!(8, "4380 4400", "0000 u", "0003 s", "0006 s"),
+        1,
+        "refused 0003 7 WriteUnmapped\n",
     ),
     (
         b"\x31\x00\x44\x32\x00\x48\x18\xFE",
@@ -34,12 +106,6 @@ const VERDICTS: &[(&[u8], &str, u8, &str)] = &[
         "refused 0003 12 NotCovered\n",
     ),
     (JUMP, ROW_MISSING, 1, "refused 0000 12 NotCovered\n"),
-    (
-        JUMP,
-        certificate_text!(6, "4400 4400", "0000 u", "0003 s"),
-        1,
-        "refused 0000 2 Region\n",
-    ),
     // LD SP,4200H
     (
         b"\x31\x00\x42",
@@ -116,6 +182,75 @@ fn verdicts_are_told(rt: HostRuntime) {
     }
 }
 
+/// A ROM and a certificate against which two reasons stand, and the one that is told: the lower of a row's or of the whole's,
+/// and a row's before StackDepth.
+const TWO_REASONS: &[(&[u8], &str, &str)] = &[
+    // Rom and Region, Region and Entry, Region and StackDepth
+    (
+        JUMP,
+        certificate_text!(5, "4400 4400", "0000 u", "0003 s"),
+        "refused 0000 1 Rom\n",
+    ),
+    (
+        JUMP,
+        certificate_text!(6, "4380 4401", "0003 s"),
+        "refused 0000 2 Region\n",
+    ),
+    (
+        JUMP,
+        certificate_text!(6, "4400 4400", depth 1, "0000 u", "0003 s"),
+        "refused 0000 2 Region\n",
+    ),
+    // Entry and Decode
+    (
+        b"\xCB\x30",
+        certificate_text!(2, "4380 4400", "0000 s"),
+        "refused 0000 3 Entry\n",
+    ),
+    // WriteRom and NotCovered, WriteUnmapped and NotCovered: LD SP,4400H; LD (0000H),A or LD (4800H),A
+    (
+        b"\x31\x00\x44\x32\x00\x00",
+        certificate_text!(6, "4380 4400", "0000 u", "0003 s"),
+        "refused 0003 6 WriteRom\n",
+    ),
+    (
+        b"\x31\x00\x44\x32\x00\x48",
+        certificate_text!(6, "4380 4400", "0000 u", "0003 s"),
+        "refused 0003 7 WriteUnmapped\n",
+    ),
+    // NotCovered and NmiBeforeStack: LD A,1; LD (7001H),A
+    (
+        b"\x3E\x01\x32\x01\x70",
+        certificate_text!(5, "4380 4400", "0000 u", "0002 u"),
+        "refused 0002 12 NotCovered\n",
+    ),
+    // NotCovered and SpWrite: LD SP,4200H
+    (
+        b"\x31\x00\x42",
+        certificate_text!(3, "4380 4400", "0000 u"),
+        "refused 0000 12 NotCovered\n",
+    ),
+    // NotCovered of a row, and StackDepth
+    (
+        JUMP,
+        certificate_text!(6, "4380 4400", depth 129, "0000 u"),
+        "refused 0000 12 NotCovered\n",
+    ),
+    // SpWrite of the first row, and WriteRom of the second: LD SP,4200H; LD (0000H),A; JR -2
+    (
+        b"\x31\x00\x42\x32\x00\x00\x18\xFE",
+        certificate_text!(8, "4380 4400", "0000 u", "0003 s", "0006 s"),
+        "refused 0000 20 SpWrite\n",
+    ),
+];
+
+#[test]
+fn the_first_of_two_reasons_is_told(rt: HostRuntime) {
+    for &(rom, cert, text) in TWO_REASONS {
+        assert!(rt; verify_whole(rt.alloc(), rom, cert).is(1, text), "{text}");
+    }
+}
+
 #[test]
 fn a_rom_of_too_many_bytes_is_refused(rt: HostRuntime) -> Result<(), Fail> {
     let long = vec![in rt.alloc(); 0; 16_385]?;
@@ -126,11 +261,38 @@ fn a_rom_of_too_many_bytes_is_refused(rt: HostRuntime) -> Result<(), Fail> {
 
 /// An input, at most this many steps of it, and the status and the text of `run` with JUMP.
 const RUNS: &[(&str, u32, u8, &str)] = &[
+    ("reset 0 00\n3 00 00 00 00 00 00 0\n", 3, 0, THREE),
+    // A fill of A5, and no line of environments
     (
-        "reset 0 00\n3 00 00 00 00 00 00 0\n",
+        "reset 50687 A5\n",
+        1,
+        0,
+        "done 0 0 0000 A5A5\nregs A5A5 A5A5 A5A5 A5A5 A5A5 A5A5\nsum 168960 168960 42240\n",
+    ),
+    // Lines of one and of four events: all of them, those that are asked for, and up to a line that is not needed
+    (
+        "reset 0 00\n1 00 00 00 00 00 00 0\n4 00 00 00 00 00 00 0\n",
+        9,
+        0,
+        "done 5 50 0003 4400\nregs 0000 0000 0000 0000 0000 0000\nsum 0 0 0\n",
+    ),
+    (
+        "reset 0 00\n1 00 00 00 00 00 00 0\n4 00 00 00 00 00 00 0\n",
         3,
         0,
-        "done 3 30 0003 4400\nregs 0000 0000 0000 0000 0000 0000\nsum 0 0 0\n",
+        THREE,
+    ),
+    (
+        "reset 0 00\n1 00 00 00 00 00 00 0\n2 00 00 00 00 00 00 0\nx\n",
+        3,
+        0,
+        THREE,
+    ),
+    (
+        "reset 0 00\n1 00 00 00 00 00 00 0\n2 00 00 00 00 00 00 0\nx\n",
+        4,
+        1,
+        "bad input line 4\n",
     ),
     (
         "reset 0 00\n3 00 00 00 00 00 00 0\n",
@@ -139,12 +301,7 @@ const RUNS: &[(&str, u32, u8, &str)] = &[
         "done 0 0 0000 0000\nregs 0000 0000 0000 0000 0000 0000\nsum 0 0 0\n",
     ),
     // The longest line: 30 bytes, with its line feed as the 31st
-    (
-        "reset 0 00\n4294967295 00 00 00 00 00 00 0\n",
-        3,
-        0,
-        "done 3 30 0003 4400\nregs 0000 0000 0000 0000 0000 0000\nsum 0 0 0\n",
-    ),
+    ("reset 0 00\n4294967295 00 00 00 00 00 00 0\n", 3, 0, THREE),
     ("", 2, 1, "bad input line 1\n"),
     ("reset 50688 00\n", 2, 1, "bad input line 1\n"),
     ("reset 0 00", 2, 1, "bad input line 1\n"),
@@ -188,12 +345,38 @@ fn runs_are_told(rt: HostRuntime) {
     }
 }
 
+/// Two stores of 12H to video RAM, three to object RAM's copies and one to work RAM, over cells of 01.
 #[test]
-fn a_store_reaches_work_ram(rt: HostRuntime) {
-    let cert = certificate_text!(10, "4380 4400", "0000 u", "0003 s", "0005 s", "0008 s");
-    let input = "reset 0 00\n5 00 00 00 00 00 00 0\n";
-    let five = "done 5 54 0008 4400\nregs 0500 0000 0000 0000 0000 0000\nsum 5 0 0\n";
-    assert!(rt; run_whole(rt.alloc(), STORE, cert, input, 5).is(0, five));
+fn stores_reach_their_rams(rt: HostRuntime) {
+    let input = "reset 50687 01\n4 00 00 00 00 00 00 0\n9 FF FF FF FF FF FF 1\n";
+    let nine = "done 9 107 0017 4400\nregs 1201 0101 0101 0101 0101 0101\nsum 1041 1058 307\n";
+    assert!(rt; run_whole(rt.alloc(), STORES, STORES_CERTIFICATE, input, 9).is(0, nine));
+}
+
+/// Each device gives or takes one byte a call.
+#[test]
+fn bytes_one_by_one(rt: HostRuntime) {
+    let alloc = rt.alloc();
+    let rom = Bytes::failing(STORES, 1, u64::MAX);
+    let cert = Bytes::failing(STORES_CERTIFICATE.as_bytes(), 1, u64::MAX);
+    let after = verify(alloc, rom, cert, Taken::failing(alloc, 1, u64::MAX));
+    assert!(rt; after.is(0, TABLE));
+    let rom = Bytes::failing(JUMP, 1, u64::MAX);
+    let cert = Bytes::failing(JUMP_CERTIFICATE.as_bytes(), 1, u64::MAX);
+    let input = Bytes::failing(
+        b"reset 0 00\n2 00 00 00 00 00 00 0\n1 00 00 00 00 00 00 0\n",
+        1,
+        u64::MAX,
+    );
+    let after = run(
+        alloc,
+        rom,
+        cert,
+        input,
+        9,
+        Taken::failing(alloc, 1, u64::MAX),
+    );
+    assert!(rt; after.is(0, THREE));
 }
 
 /// Each device fails at each call in turn: the status is 3, and what was written stays.
@@ -201,7 +384,7 @@ fn a_store_reaches_work_ram(rt: HostRuntime) {
 fn device_failures_are_told(rt: HostRuntime) {
     let alloc = rt.alloc();
     let cert = JUMP_CERTIFICATE.as_bytes();
-    let table = b"accepted\nmain 0000 depth     0 time      -\nstack 0 of 128\nnmi none\n";
+    let table = TABLE.as_bytes();
     for calls in 0..table.len() {
         let out = Taken::failing(alloc, 1, calls as u64);
         let after = verify(alloc, Bytes::whole(JUMP), Bytes::whole(cert), out);

@@ -96,41 +96,58 @@ fn linear(rt: &impl Abort, (constant, b, c, hl): Sum) -> Linear {
     sum
 }
 
-/// -1,000,000,000 - 1,000,000 * A + BC
-fn great(rt: &impl Abort) -> Linear {
-    let constant = Linear::of_constant(-1_000_000_000).expect(rt, "the least constant");
-    let less = constant
-        .with_term(times(-1_000_000, Variable::A))
-        .expect(rt, "the least coefficient");
+/// -1,000,000,000 - 1,000,000 * A + BC: the least constant, the least coefficient, and a second term
+fn great() -> Option<Linear> {
+    let constant = Linear::of_constant(-1_000_000_000)?;
+    let less = constant.with_term(times(-1_000_000, Variable::A))?;
     less.with_term(times(1, Variable::Bc))
-        .expect(rt, "a second term")
+}
+
+fn great_with(term: Term) -> Option<Linear> {
+    great()?.with_term(term)
+}
+
+fn constants_are_checked() -> bool {
+    Linear::of_constant(1_000_000_001).is_none() && Linear::of_constant(-1_000_000_001).is_none()
+}
+
+fn is_great() -> bool {
+    match great() {
+        Some(sum) => sum.constant() == -1_000_000_000 && sum.terms().len() == 2,
+        None => false,
+    }
+}
+
+/// Whether these do not go with it: a variable that it has, one before that, a coefficient of 0, and one above the greatest.
+fn terms_are_checked() -> bool {
+    great_with(times(1, Variable::Bc)).is_none()
+        && great_with(times(1, Variable::L)).is_none()
+        && great_with(times(0, Variable::Iy)).is_none()
+        && great_with(times(1_000_001, Variable::Iy)).is_none()
 }
 
 #[test]
 fn linears_are_checked(rt: HostRuntime) {
-    assert!(rt; Linear::of_constant(1_000_000_001).is_none());
-    assert!(rt; Linear::of_constant(-1_000_000_001).is_none());
-    let sum = great(&rt);
-    assert!(rt; sum.constant() == -1_000_000_000 && sum.terms().len() == 2);
-    let refused = [
-        (times(1, Variable::Bc), "twice"),
-        (times(1, Variable::L), "not rising"),
-        (times(0, Variable::Iy), "zero"),
-        (times(1_000_001, Variable::Iy), "too great"),
-    ];
-    for (term, why) in refused {
-        assert!(rt; sum.with_term(term).is_none(), "{why}");
-    }
+    assert!(rt; constants_are_checked());
+    assert!(rt; is_great());
+    assert!(rt; terms_are_checked());
+}
+
+/// Whether slot 63's low byte is the last variable, and fits as a third term, behind which no fourth does.
+fn last_variable_fits() -> Option<bool> {
+    let last = times(1, Variable::Slot(SlotNumber::new(63)?, Part::Low));
+    let whole = great_with(last)?;
+    Some(
+        SlotNumber::new(64).is_none()
+            && Variable::Iy.rank() == 11
+            && last.variable.rank() == 203
+            && whole.with_term(last).is_none(),
+    )
 }
 
 #[test]
 fn the_last_variable_fits(rt: HostRuntime) {
-    let number = SlotNumber::new(63).expect(&rt, "the last slot");
-    assert!(rt; SlotNumber::new(64).is_none());
-    let last = times(1, Variable::Slot(number, Part::Low));
-    assert!(rt; Variable::Iy.rank() == 11 && last.variable.rank() == 203);
-    let whole = great(&rt).with_term(last).expect(&rt, "the last variable");
-    assert!(rt; whole.with_term(last).is_none(), "a fourth term");
+    assert!(rt; last_variable_fits() == Some(true));
 }
 
 /// What a step leaves in a variable.

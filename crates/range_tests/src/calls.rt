@@ -2,14 +2,35 @@
 ghost use Rattle.std.specs.Prelude.{◌<◌, Contains};
 
 use call_graph::{Edge, GraphFault, Held, ProcId, depths, order};
-use std::alloc::{AllocError, Global};
-use std::test::Fail;
+use std::alloc::Global;
 
 /// Calls, each of a caller and a callee.
 macro_rules! calls {
     ($($caller:literal $callee:literal),*) => {
         &[$(Edge { caller: $caller, callee: $callee }),*]
     };
+}
+
+/// What a call came to.
+#[derive(Clone, Copy, PartialEq, Eq)]
+enum Came {
+    /// It answered what was wanted.
+    Right,
+    Refused,
+    Wrong,
+}
+
+fn right_if(is_wanted: bool) -> Came {
+    if is_wanted { Came::Right } else { Came::Wrong }
+}
+
+/// What `order` came to, where these procedures are wanted, callees first or as a circle.
+fn ordered(alloc: Global, calls: &[Edge], wanted: &[ProcId], is_circle: bool) -> Came {
+    match order(alloc, calls) {
+        Ok(list) => right_if(!is_circle && list.as_slice() == wanted),
+        Err(GraphFault::Cycle(list)) => right_if(is_circle && list.as_slice() == wanted),
+        Err(GraphFault::NoMemory) => Came::Refused,
+    }
 }
 
 /// Calls, and their procedures with callees first.
@@ -21,21 +42,12 @@ const ORDERS: &[(&[Edge], &[ProcId])] = &[
 ];
 
 #[test]
-fn callees_first(rt: HostRuntime) -> Result<(), Fail> {
+fn callees_first(rt: HostRuntime) {
     for (place, &(calls, wanted)) in ORDERS.iter().enumerate() {
         assert!(rt;
-            order(rt.alloc(), calls)?.as_slice() == wanted,
+            ordered(rt.alloc(), calls, wanted, false) == Came::Right,
             "calls {place}"
         );
-    }
-    Ok(())
-}
-
-/// The procedures of the circle that `order` names.
-fn circle_of(alloc: Global, calls: &[Edge]) -> Result<Vec<ProcId>, AllocError> {
-    match order(alloc, calls) {
-        Err(GraphFault::Cycle(list)) => Ok(list),
-        _ => Ok(Vec::new(alloc)),
     }
 }
 
@@ -72,43 +84,51 @@ const CIRCLES: &[(&[Edge], &[ProcId])] = &[
 
 /// The lowest circle, by the lowest of its shortest ways.
 #[test]
-fn circles_are_told(rt: HostRuntime) -> Result<(), Fail> {
+fn circles_are_told(rt: HostRuntime) {
     for (place, &(calls, circle)) in CIRCLES.iter().enumerate() {
         assert!(rt;
-            circle_of(rt.alloc(), calls)?.as_slice() == circle,
+            ordered(rt.alloc(), calls, circle, true) == Came::Right,
             "circle {place}"
         );
     }
-    Ok(())
 }
 
-/// The calls 0 1, 1 2 and so on to 1022 1023, and then more.
-fn chain(alloc: Global, more: &[Edge]) -> Result<Vec<Edge>, AllocError> {
-    let mut calls = Vec::new(alloc);
-    for caller in 0..1023u16 {
-        let callee = caller.wrapping_add(1);
-        calls.push(Edge { caller, callee })?;
+/// Makes these calls 0 1, 1 2 and so on; 1023 calls 0.
+fn link(calls: &mut [Edge]) {
+    let mut number = 0u16;
+    for call in calls.iter_mut() {
+        call.caller = number;
+        number = number.wrapping_add(1) % 1024;
+        call.callee = number;
     }
-    calls.extend_from_slice(more)?;
-    Ok(calls)
 }
+
+/// The numbers from this one on, by steps, modulo 65,536.
+fn numbers(first: u16, step: u16) -> [ProcId; 1024] {
+    let mut numbers = [0; 1024];
+    let mut number = first;
+    for place in numbers.iter_mut() {
+        *place = number;
+        number = number.wrapping_add(step);
+    }
+    numbers
+}
+
+const CALL: Edge = Edge {
+    caller: 0,
+    callee: 0,
+};
 
 #[test]
-fn a_chain(rt: HostRuntime) -> Result<(), Fail> {
-    let list = order(rt.alloc(), &chain(rt.alloc(), &[])?)?;
-    assert!(rt; list.len() == 1024);
-    assert!(rt; list.first() == Some(&1023) && list.last() == Some(&0));
-    Ok(())
+fn a_chain_of_all_and_a_circle(rt: HostRuntime) {
+    let (mut chain, mut circle) = ([CALL; 1023], [CALL; 1024]);
+    link(&mut chain);
+    link(&mut circle);
+    assert!(rt; ordered(rt.alloc(), &chain, &numbers(1023, 0xFFFF), false) == Came::Right);
+    assert!(rt; ordered(rt.alloc(), &circle, &numbers(0, 1), true) == Came::Right);
 }
 
-#[test]
-fn a_chain_that_is_closed(rt: HostRuntime) -> Result<(), Fail> {
-    let circle = circle_of(rt.alloc(), &chain(rt.alloc(), calls!(1023 0))?)?;
-    assert!(rt; circle.len() == 1024 && circle.first() == Some(&0));
-    Ok(())
-}
-
-/// Procedure 0 calls 1 with 4 bytes held, and 2 with 2 held; 1 calls 2 with 6 held; their own bytes are 20, 3, 5.
+/// Procedure 0 calls 1 with 4 bytes held, and 2 with 2 held; 1 calls 2 with 6 held.
 fn held_calls() -> [Held; 3]
     ensures { (call : Held) → Contains result call → (call.caller < 4) × (call.callee < 4) }
 {
@@ -131,13 +151,20 @@ fn held_calls() -> [Held; 3]
     ]
 }
 
+/// What `depths` of those calls came to, by the bytes of the procedures themselves.
+fn deepened(alloc: Global, own: [u32; 4], wanted: [u64; 4]) -> Came {
+    match depths(alloc, &own, &held_calls()) {
+        Ok(list) => right_if(list.as_slice() == wanted.as_slice()),
+        Err(GraphFault::Cycle(_)) => Came::Wrong,
+        Err(GraphFault::NoMemory) => Came::Refused,
+    }
+}
+
+/// 2 needs its own 5, 1 the greater of its own 3 and 6 + 5, and 0 the greatest of its own, 4 + 11 and 2 + 5.
 #[test]
-fn least_depths(rt: HostRuntime) -> Result<(), Fail> {
-    let list = depths(rt.alloc(), &[20, 3, 5, 9], &held_calls())?;
-    assert!(rt; list.as_slice() == [20, 11, 5, 9].as_slice());
-    let list = depths(rt.alloc(), &[1, 3, 5, 9], &held_calls())?;
-    assert!(rt; list.as_slice() == [15, 11, 5, 9].as_slice());
-    Ok(())
+fn least_depths(rt: HostRuntime) {
+    assert!(rt; deepened(rt.alloc(), [20, 3, 5, 9], [20, 11, 5, 9]) == Came::Right);
+    assert!(rt; deepened(rt.alloc(), [1, 3, 5, 9], [15, 11, 5, 9]) == Came::Right);
 }
 
 /// Procedure 1 calls itself, with 2 bytes held.
@@ -151,56 +178,36 @@ fn held_circle() -> [Held; 1]
     }]
 }
 
-#[test]
-fn no_depths_on_a_circle(rt: HostRuntime) -> Result<(), Fail> {
-    let mut named = Vec::new(rt.alloc());
-    if let Err(GraphFault::Cycle(list)) = depths(rt.alloc(), &[1, 3, 5, 9], &held_circle()) {
-        named = list;
+fn is_circle_of_one(alloc: Global) -> bool {
+    match depths(alloc, &[1, 3, 5, 9], &held_circle()) {
+        Err(GraphFault::Cycle(list)) => list.as_slice() == [1].as_slice(),
+        _ => false,
     }
-    assert!(rt; named.as_slice() == [1].as_slice());
-    Ok(())
-}
-
-/// With one allocation refused (`rt try --test --fail-alloc N`) the call answers `NoMemory`, and the next one as
-/// if nothing had been.
-#[test]
-fn refused_memory_in_order(rt: HostRuntime) -> Result<(), Fail> {
-    let mut refused = 0u8;
-    for _ in 0..3 {
-        match order(rt.alloc(), calls!(2 3, 3 1)) {
-            Ok(list) => assert!(rt; list.as_slice() == [1, 3, 2].as_slice()),
-            Err(GraphFault::NoMemory) => refused = refused.wrapping_add(1),
-            Err(GraphFault::Cycle(list)) => assert!(rt; list.len() == 0),
-        }
-    }
-    assert!(rt; refused <= 1);
-    Ok(())
 }
 
 #[test]
-fn refused_memory_on_a_circle(rt: HostRuntime) -> Result<(), Fail> {
-    let mut refused = 0u8;
-    for _ in 0..3 {
-        match order(rt.alloc(), calls!(2 3, 3 2)) {
-            Ok(list) => assert!(rt; list.len() == 0),
-            Err(GraphFault::NoMemory) => refused = refused.wrapping_add(1),
-            Err(GraphFault::Cycle(list)) => assert!(rt; list.as_slice() == [2, 3].as_slice()),
-        }
-    }
-    assert!(rt; refused <= 1);
-    Ok(())
+fn no_depths_on_a_circle(rt: HostRuntime) {
+    assert!(rt; is_circle_of_one(rt.alloc()));
 }
 
+/// With one allocation refused (`rt try --test --fail-alloc N`) one call answers `NoMemory`, and the next one as if
+/// nothing had been.
 #[test]
-fn refused_memory_in_depths(rt: HostRuntime) -> Result<(), Fail> {
+fn refused_memory(rt: HostRuntime) {
+    let alloc = rt.alloc();
     let mut refused = 0u8;
     for _ in 0..3 {
-        match depths(rt.alloc(), &[1, 3, 5, 9], &held_calls()) {
-            Ok(list) => assert!(rt; list.as_slice() == [15, 11, 5, 9].as_slice()),
-            Err(GraphFault::NoMemory) => refused = refused.wrapping_add(1),
-            Err(GraphFault::Cycle(list)) => assert!(rt; list.len() == 0),
+        let all = [
+            ordered(alloc, calls!(2 3, 3 1), &[1, 3, 2], false),
+            ordered(alloc, calls!(2 3, 3 2), &[2, 3], true),
+            deepened(alloc, [1, 3, 5, 9], [15, 11, 5, 9]),
+        ];
+        for came in all.iter() {
+            assert!(rt; *came != Came::Wrong);
+            if *came == Came::Refused {
+                refused = refused.wrapping_add(1);
+            }
         }
     }
     assert!(rt; refused <= 1);
-    Ok(())
 }

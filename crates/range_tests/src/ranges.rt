@@ -171,90 +171,149 @@ fn sums_of_words(rt: HostRuntime) {
     }
 }
 
-#[test]
-fn ranges(rt: HostRuntime) {
-    assert!(rt; ByteRange::new(4, 3).is_none());
+fn bytes_hold() -> bool {
     let range = bytes(4, 9);
-    assert!(rt; range.intersection(ByteRange::at_most(6)) == Some(bytes(4, 6)));
-    assert!(rt; range.intersection(ByteRange::at_least(10)).is_none());
-    assert!(rt; range.without(4) == Some(bytes(5, 9)));
-    assert!(rt; range.without(5) == Some(range));
-    assert!(rt; ByteRange::single(0).without(0).is_none());
-    assert!(rt; range.join(&bytes(20, 30)) == bytes(4, 30));
-    assert!(rt; range.covers(&bytes(5, 9)) && !range.covers(&bytes(5, 10)));
-    assert!(rt; range.meets(bytes(9, 20)) && !range.meets(bytes(10, 20)));
-    assert!(rt; range.value().is_none() && ByteRange::single(7).value() == Some(7));
+    ByteRange::new(4, 3).is_none()
+        && range.intersection(ByteRange::at_most(6)) == Some(bytes(4, 6))
+        && range.intersection(ByteRange::at_least(10)).is_none()
+        && range.without(4) == Some(bytes(5, 9))
+        && range.without(5) == Some(range)
+        && ByteRange::single(0).without(0).is_none()
+        && range.join(&bytes(20, 30)) == bytes(4, 30)
+        && range.covers(&bytes(5, 9))
+        && !range.covers(&bytes(5, 10))
+        && range.meets(bytes(9, 20))
+        && !range.meets(bytes(10, 20))
+        && range.value().is_none()
+        && ByteRange::single(7).value() == Some(7)
+}
+
+fn words_hold() -> bool {
+    let range = words(4, 9);
+    range.low() == 4
+        && range.high() == 9
+        && range.without(9) == Some(words(4, 8))
+        && range.contains(9)
+        && !range.contains(10)
+        && WordRange::at_least(0).is_full()
+        && !WordRange::at_most(9).is_full()
 }
 
 #[test]
-fn ranges_of_words(rt: HostRuntime) {
-    let range = words(4, 9);
-    assert!(rt; range.low() == 4 && range.high() == 9);
-    assert!(rt; range.without(9) == Some(words(4, 8)));
-    assert!(rt; range.contains(9) && !range.contains(10));
-    assert!(rt; WordRange::at_least(0).is_full() && !WordRange::at_most(9).is_full());
+fn ranges(rt: HostRuntime) {
+    assert!(rt; bytes_hold());
+    assert!(rt; words_hold());
+}
+
+/// Whether a pair is that of these ranges.
+fn is_of(pair: Pair, word: WordRange, high: ByteRange, low: ByteRange) -> bool {
+    pair.word == word && pair.high == high && pair.low == low
+}
+
+fn made_pairs_hold() -> bool {
+    let loop_count = Pair::of_origin(RegPair::Bc).with_high(bytes(1, 8));
+    is_of(
+        loop_count,
+        words(0x0100, 0x08ff),
+        bytes(1, 8),
+        ByteRange::full(),
+    ) && loop_count.origin == None
+        && is_of(
+            Pair::of_word(words(0x4380, 0x43ff)),
+            words(0x4380, 0x43ff),
+            bytes(0x43, 0x43),
+            bytes(0x80, 0xff),
+        )
+        && is_of(
+            Pair::of_word(words(0x43ff, 0x4400)),
+            words(0x43ff, 0x4400),
+            bytes(0x43, 0x44),
+            ByteRange::full(),
+        )
+}
+
+/// Whether the pair B from 1 to 8 with any C, its high byte cut to this range, is of these words, or none.
+fn counts_cut_to(high: ByteRange, left: Option<WordRange>) -> bool {
+    let loop_count = Pair::of_origin(RegPair::Bc).with_high(bytes(1, 8));
+    match (loop_count.cut_high(high), left) {
+        (Some(pair), Some(word)) => is_of(pair, word, high, ByteRange::full()),
+        (None, None) => true,
+        _ => false,
+    }
+}
+
+fn cut_words_hold() -> bool {
+    match Pair::of_origin(RegPair::Bc).cut_word(words(0, 5)) {
+        Some(kept) => {
+            is_of(kept, words(0, 5), bytes(0, 0), bytes(0, 5)) && kept.origin == Some(RegPair::Bc)
+        }
+        None => false,
+    }
+}
+
+fn not_zero_holds() -> bool {
+    match Pair::full().without_word(0) {
+        Some(pair) => is_of(pair, words(1, 0xffff), ByteRange::full(), ByteRange::full()),
+        None => false,
+    }
 }
 
 #[test]
 fn pairs(rt: HostRuntime) {
-    let loop_count = Pair::of_origin(RegPair::Bc).with_high(bytes(1, 8));
-    assert!(rt; loop_count.word == words(0x0100, 0x08ff));
-    assert!(rt; loop_count.origin == None);
-    let one_page = Pair::of_word(words(0x4380, 0x43ff));
-    assert!(rt; one_page.high == bytes(0x43, 0x43));
-    assert!(rt; one_page.low == bytes(0x80, 0xff));
-    let two_pages = Pair::of_word(words(0x43ff, 0x4400));
-    assert!(rt; two_pages.high == bytes(0x43, 0x44));
-    assert!(rt; two_pages.low == ByteRange::full());
-    let none = loop_count.cut_high(bytes(9, 9));
-    assert!(rt; none == None);
-    let last = loop_count.cut_high(bytes(1, 1)).unwrap_or(Pair::full());
-    assert!(rt; last.word == words(0x0100, 0x01ff));
-    let kept = Pair::of_origin(RegPair::Bc)
-        .cut_word(words(0, 5))
-        .unwrap_or(Pair::full());
-    assert!(rt; kept.high == bytes(0, 0));
-    assert!(rt; kept.low == bytes(0, 5));
-    assert!(rt; kept.origin == Some(RegPair::Bc));
-    let not_zero = Pair::full().without_word(0).unwrap_or(Pair::full());
-    assert!(rt; not_zero.word == words(1, 0xffff));
-    assert!(rt; not_zero.high == ByteRange::full());
+    assert!(rt; made_pairs_hold());
+    assert!(rt; counts_cut_to(bytes(1, 1), Some(words(0x0100, 0x01ff))));
+    assert!(rt; counts_cut_to(bytes(9, 9), None));
+    assert!(rt; cut_words_hold());
+    assert!(rt; not_zero_holds());
+}
+
+/// Whether the normal form of a pair of the words from 0105 on, the high byte 1 and the low bytes up to 09 has the words from
+/// 0105 to 0109 and the low bytes from this cut on.
+fn becomes(last: u16, least: u8, cut: u8) -> bool {
+    let pair = Pair {
+        word: words(0x0105, last),
+        high: bytes(1, 1),
+        low: bytes(least, 9),
+        origin: None,
+    };
+    match pair.normal_form() {
+        Some(normal) => is_of(normal, words(0x0105, 0x0109), bytes(1, 1), bytes(cut, 9)),
+        None => false,
+    }
 }
 
 #[test]
 fn the_three_cuts_are_made_once(rt: HostRuntime) {
-    // The high byte is 1 and the word from 0105 to 02FF: only after the word was cut to 0105-0109 have its ends one high
-    // byte, and the low byte keeps 03 to 09.
-    let pair = Pair {
-        word: words(0x0105, 0x02ff),
-        high: bytes(1, 1),
-        low: bytes(3, 9),
-        origin: None,
-    };
-    let normal = pair.normal_form().unwrap_or(Pair::full());
-    assert!(rt; normal.word == words(0x0105, 0x0109));
-    assert!(rt; normal.high == bytes(1, 1));
-    assert!(rt; normal.low == bytes(3, 9));
-    let again = normal.normal_form().unwrap_or(Pair::full());
-    assert!(rt; again.low == bytes(5, 9));
+    // Only after the word was cut to 0105-0109 have its ends one high byte, so the low byte keeps 03 to 09 at first.
+    assert!(rt; becomes(0x02ff, 3, 3));
+    assert!(rt; becomes(0x0109, 3, 5));
+}
+
+fn origins_hold() -> bool {
+    let saved = Pair::of_origin(RegPair::De);
+    let other = Pair::of_origin(RegPair::AlternateHl);
+    Pair::full().covers(&saved)
+        && !saved.covers(&Pair::full())
+        && !saved.covers(&other)
+        && saved.join(&other) == Pair::full()
+        && saved.join(&saved) == saved
+        && saved.is_full()
+        && RegPair::AlternateHl.place() == 9
+}
+
+fn joins_hold() -> bool {
+    let low = Pair::of_word(words(0x4000, 0x4003));
+    let high = Pair::of_word(words(0x4200, 0x4201));
+    let both = low.join(&high);
+    is_of(both, words(0x4000, 0x4201), bytes(0x40, 0x42), bytes(0, 3))
+        && !low.meets(high)
+        && both.meets(high)
+        && both.covers(&low)
+        && !low.is_full()
 }
 
 #[test]
 fn pairs_covered_and_joined(rt: HostRuntime) {
-    let saved = Pair::of_origin(RegPair::De);
-    let other = Pair::of_origin(RegPair::AlternateHl);
-    assert!(rt;
-        Pair::full().covers(&saved) && !saved.covers(&Pair::full()) && !saved.covers(&other)
-    );
-    assert!(rt; saved.join(&other) == Pair::full());
-    assert!(rt; saved.join(&saved) == saved);
-    let low = Pair::of_word(words(0x4000, 0x4003));
-    let high = Pair::of_word(words(0x4200, 0x4201));
-    let both = low.join(&high);
-    assert!(rt; both.word == words(0x4000, 0x4201));
-    assert!(rt; both.high == bytes(0x40, 0x42));
-    assert!(rt; both.low == bytes(0, 3));
-    assert!(rt; !low.meets(high) && both.meets(high) && both.covers(&low));
-    assert!(rt; saved.is_full() && !low.is_full());
-    assert!(rt; RegPair::AlternateHl.place() == 9);
+    assert!(rt; origins_hold());
+    assert!(rt; joins_hold());
 }

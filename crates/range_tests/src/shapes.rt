@@ -2,152 +2,282 @@
 use intervals::{ByteRange, Pair, RegPair, WordRange};
 use stack_shape::{SLOTS, Shape, ShapeFault, Slot};
 
-fn words(low: u16, high: u16) -> Slot {
-    Slot {
-        pair: Pair::of_word(WordRange::new(low, high).unwrap_or(WordRange::full())),
-    }
+/// What is known of a slot.
+#[derive(Clone, Copy)]
+enum Known {
+    /// A range of words, from the least to the greatest.
+    Words(u16, u16),
+    /// What a pair was at the entry.
+    Saved(RegPair),
+    Nothing,
 }
 
-fn saved(register: RegPair) -> Slot {
-    Slot {
-        pair: Pair::of_origin(register),
-    }
+use Known::{Nothing, Saved, Words};
+
+fn slot(known: Known) -> Slot {
+    let pair = match known {
+        Words(low, high) => Pair::of_word(WordRange::new(low, high).unwrap_or(WordRange::full())),
+        Saved(register) => Pair::of_origin(register),
+        Nothing => Pair::full(),
+    };
+    Slot { pair }
 }
 
-fn shape_of(slots: &[Slot]) -> Shape {
+fn shape_of(slots: &[Known]) -> Shape {
     let mut shape = Shape::empty();
-    for slot in slots {
-        let _ = shape.push(*slot);
+    for known in slots {
+        let _ = shape.push(slot(*known));
     }
     shape
 }
 
+/// A shape of 64 slots, of the words from 0 on, and whether each of them fitted.
+fn filled() -> (Shape, bool) {
+    let mut shape = Shape::empty();
+    let mut fits = true;
+    for word in 0..64 {
+        fits = fits && shape.push(slot(Words(word, word))).is_ok();
+    }
+    (shape, fits)
+}
+
+fn sixty_four_slots_fit() -> bool {
+    let (mut shape, fits) = filled();
+    let before = shape.copied();
+    fits && shape.push(slot(Nothing)) == Err(ShapeFault::Full)
+        && shape == before
+        && shape.len() == SLOTS
+        && SLOTS == 64
+        && shape.bytes() == 128
+        && shape.slots().first().copied() == Some(slot(Words(0, 0)))
+        && shape.pop().ok() == Some(slot(Words(63, 63)))
+        && shape.push(slot(Nothing)).is_ok()
+}
+
 #[test]
 fn sixty_four_slots_and_no_more(rt: HostRuntime) {
-    let mut shape = Shape::empty();
-    for word in 0..64 {
-        assert!(rt; shape.push(words(word, word)) == Ok(()));
-        assert!(rt; shape.top() == Some(words(word, word)));
+    assert!(rt; sixty_four_slots_fit());
+}
+
+/// What is done with a shape.
+#[derive(Clone, Copy)]
+enum Op {
+    Push(Known),
+    Pop,
+    Exchange(Known),
+    Replace(usize, Known),
+}
+
+/// The slot that is taken out; None where there is none.
+fn taken(shape: &mut Shape, op: Op) -> Option<Slot> {
+    match op {
+        Op::Push(known) => {
+            let _ = shape.push(slot(known));
+            None
+        }
+        Op::Pop => shape.pop().ok(),
+        Op::Exchange(known) => shape.exchange(slot(known)).ok(),
+        Op::Replace(place, known) => shape.replace(place, slot(known)),
     }
-    let before = shape.copied();
-    assert!(rt; shape.push(words(64, 64)) == Err(ShapeFault::Full));
-    assert!(rt; shape == before);
-    assert!(rt; shape.len() == 64);
-    assert!(rt; shape.bytes() == 128);
-    assert!(rt; SLOTS == 64);
-    assert!(rt; shape.slots().first().copied() == Some(words(0, 0)));
-    assert!(rt; shape.pop() == Ok(words(63, 63)));
-    assert!(rt; shape.push(words(64, 64)) == Ok(()));
+}
+
+/// The slots before, what is done, the slot that is taken out, and the slots after it.
+type Change = (&'static [Known], Op, Option<Known>, &'static [Known]);
+
+const CHANGES: &[Change] = &[
+    (
+        &[],
+        Op::Push(Saved(RegPair::Af)),
+        None,
+        &[Saved(RegPair::Af)],
+    ),
+    (
+        &[Words(1, 1)],
+        Op::Push(Words(2, 3)),
+        None,
+        &[Words(1, 1), Words(2, 3)],
+    ),
+    // What is pushed last is popped first
+    (
+        &[
+            Saved(RegPair::Af),
+            Saved(RegPair::Bc),
+            Words(0x4000, 0x40ff),
+        ],
+        Op::Pop,
+        Some(Words(0x4000, 0x40ff)),
+        &[Saved(RegPair::Af), Saved(RegPair::Bc)],
+    ),
+    (
+        &[Saved(RegPair::Af), Saved(RegPair::Bc)],
+        Op::Pop,
+        Some(Saved(RegPair::Bc)),
+        &[Saved(RegPair::Af)],
+    ),
+    (
+        &[Saved(RegPair::Af)],
+        Op::Pop,
+        Some(Saved(RegPair::Af)),
+        &[],
+    ),
+    (&[], Op::Pop, None, &[]),
+    // The top is exchanged, if there is one
+    (
+        &[Words(1, 1), Words(2, 2)],
+        Op::Exchange(Saved(RegPair::Hl)),
+        Some(Words(2, 2)),
+        &[Words(1, 1), Saved(RegPair::Hl)],
+    ),
+    (&[], Op::Exchange(Saved(RegPair::Hl)), None, &[]),
+    // Slots count from 0, which was pushed first
+    (
+        &[Words(1, 1), Words(2, 2), Words(3, 3)],
+        Op::Replace(1, Saved(RegPair::Hl)),
+        Some(Words(2, 2)),
+        &[Words(1, 1), Saved(RegPair::Hl), Words(3, 3)],
+    ),
+    (
+        &[Words(1, 1), Words(2, 2)],
+        Op::Replace(0, Nothing),
+        Some(Words(1, 1)),
+        &[Nothing, Words(2, 2)],
+    ),
+    (
+        &[Words(1, 1)],
+        Op::Replace(1, Nothing),
+        None,
+        &[Words(1, 1)],
+    ),
+    (&[], Op::Replace(0, Nothing), None, &[]),
+];
+
+fn is_as_told((before, op, out, after): Change) -> bool {
+    let mut shape = shape_of(before);
+    let copy = shape.copied();
+    taken(&mut shape, op) == out.map(slot)
+        && shape == shape_of(after)
+        && copy == shape_of(before)
+        && shape.len() == after.len()
+        && usize::from(shape.bytes()) == after.len().wrapping_mul(2)
+        && shape.top() == after.last().copied().map(slot)
+        && shape.is_empty() == after.is_empty()
+}
+
+fn nothing_is_taken_of_none() -> bool {
+    Shape::empty().pop().err() == Some(ShapeFault::Empty)
+        && Shape::empty().exchange(slot(Nothing)).err() == Some(ShapeFault::Empty)
 }
 
 #[test]
-fn pushed_last_popped_first(rt: HostRuntime) {
-    let mut shape = shape_of(&[
-        saved(RegPair::Af),
-        saved(RegPair::Bc),
-        words(0x4000, 0x40ff),
-    ]);
-    assert!(rt; shape.bytes() == 6);
-    assert!(rt; shape.pop() == Ok(words(0x4000, 0x40ff)));
-    assert!(rt; shape.pop() == Ok(saved(RegPair::Bc)));
-    assert!(rt; shape.bytes() == 2);
-    assert!(rt; shape.pop() == Ok(saved(RegPair::Af)));
-    assert!(rt; shape.is_empty());
-    assert!(rt; shape.pop() == Err(ShapeFault::Empty));
-    assert!(rt; shape.len() == 0);
-    assert!(rt; shape.bytes() == 0);
-    assert!(rt; shape.top() == None);
-    assert!(rt; shape == Shape::empty());
+fn changes_by_the_table(rt: HostRuntime) {
+    for (place, change) in CHANGES.iter().enumerate() {
+        assert!(rt; is_as_told(*change), "change {place}");
+    }
+    assert!(rt; nothing_is_taken_of_none());
+}
+
+/// Two shapes, whether the first covers the second, whether the second covers the first, and whether they meet.
+type Pairing = (&'static [Known], &'static [Known], bool, bool, bool);
+
+const PAIRINGS: &[Pairing] = &[
+    (
+        &[Words(0x4000, 0x40ff), Words(0, 10)],
+        &[Words(0x4010, 0x4020), Words(5, 5)],
+        true,
+        false,
+        true,
+    ),
+    // The same ranges in the other order
+    (
+        &[Words(0x4000, 0x40ff), Words(0, 10)],
+        &[Words(5, 5), Words(0x4010, 0x4020)],
+        false,
+        false,
+        false,
+    ),
+    (
+        &[Words(1, 1), Saved(RegPair::Ix)],
+        &[Words(1, 1), Saved(RegPair::Ix)],
+        true,
+        true,
+        true,
+    ),
+    (&[Nothing], &[Saved(RegPair::Hl)], true, false, true),
+    (
+        &[Saved(RegPair::De)],
+        &[Saved(RegPair::Hl)],
+        false,
+        false,
+        true,
+    ),
+    // Lengths that differ
+    (&[Nothing], &[Nothing, Nothing], false, false, false),
+    (&[], &[Nothing], false, false, false),
+    (&[], &[], true, true, true),
+    // One word shared, and none in the second slot
+    (
+        &[Words(0x4000, 0x40ff), Words(0, 10)],
+        &[Words(0x40ff, 0x4100), Saved(RegPair::Hl)],
+        false,
+        false,
+        true,
+    ),
+    (
+        &[Words(0x4000, 0x40ff), Words(0, 10)],
+        &[Words(0x40ff, 0x4100), Words(11, 12)],
+        false,
+        false,
+        false,
+    ),
+];
+
+fn are_as_told((one, other, covers, covered, meet): Pairing) -> bool {
+    let (one, other) = (shape_of(one), shape_of(other));
+    one.covers(&other) == covers
+        && other.covers(&one) == covered
+        && one.meets(&other) == meet
+        && other.meets(&one) == meet
 }
 
 #[test]
-fn exchanged_at_the_top(rt: HostRuntime) {
-    let mut shape = Shape::empty();
-    assert!(rt; shape.exchange(saved(RegPair::Hl)) == Err(ShapeFault::Empty));
-    assert!(rt; shape.is_empty());
-    let mut shape = shape_of(&[words(1, 1), words(2, 2)]);
-    assert!(rt; shape.exchange(saved(RegPair::Hl)) == Ok(words(2, 2)));
-    assert!(rt; shape == shape_of(&[words(1, 1), saved(RegPair::Hl)]));
+fn covered_and_met_slot_by_slot(rt: HostRuntime) {
+    for (place, pairing) in PAIRINGS.iter().enumerate() {
+        assert!(rt; are_as_told(*pairing), "pair {place}");
+    }
 }
 
-#[test]
-fn covered_slot_by_slot(rt: HostRuntime) {
-    let wide = shape_of(&[words(0x4000, 0x40ff), words(0, 10)]);
-    let narrow = shape_of(&[words(0x4010, 0x4020), words(5, 5)]);
-    assert!(rt; wide.covers(&narrow) && !narrow.covers(&wide));
-    assert!(rt; wide.covers(&wide));
-    let turned = shape_of(&[words(5, 5), words(0x4010, 0x4020)]);
-    assert!(rt; !wide.covers(&turned));
-    let unknown = shape_of(&[Slot::default()]);
-    let from_hl = shape_of(&[saved(RegPair::Hl)]);
-    assert!(rt; unknown.covers(&from_hl) && !from_hl.covers(&unknown));
-    assert!(rt; !from_hl.covers(&shape_of(&[saved(RegPair::De)])));
-}
-
-#[test]
-fn lengths_that_differ(rt: HostRuntime) {
-    let one = shape_of(&[Slot::default()]);
-    let two = shape_of(&[Slot::default(), Slot::default()]);
-    assert!(rt; !one.covers(&two) && !two.covers(&one));
-    assert!(rt; one.join(&two) == None);
-    assert!(rt; two.join(&one) == None);
-    let none = Shape::empty();
-    assert!(rt; none.covers(&Shape::empty()) && !none.covers(&one) && !one.covers(&none));
-    assert!(rt; none.join(&Shape::empty()) == Some(Shape::empty()));
-}
-
-#[test]
-fn joined_slot_by_slot(rt: HostRuntime) {
+fn joins_hold() -> bool {
     let low = shape_of(&[
-        words(0x4000, 0x4003),
-        saved(RegPair::Hl),
-        saved(RegPair::De),
+        Words(0x4000, 0x4003),
+        Saved(RegPair::Hl),
+        Saved(RegPair::De),
     ]);
     let high = shape_of(&[
-        words(0x4200, 0x4201),
-        saved(RegPair::Hl),
-        saved(RegPair::Bc),
+        Words(0x4200, 0x4201),
+        Saved(RegPair::Hl),
+        Saved(RegPair::Bc),
     ]);
+    let mut both = shape_of(&[Nothing, Saved(RegPair::Hl), Nothing]);
     let hull = Pair {
         word: WordRange::new(0x4000, 0x4201).unwrap_or(WordRange::full()),
         high: ByteRange::new(0x40, 0x42).unwrap_or(ByteRange::full()),
         low: ByteRange::at_most(3),
         origin: None,
     };
-    let both = shape_of(&[Slot { pair: hull }, saved(RegPair::Hl), Slot::default()]);
-    assert!(rt; low.join(&high) == Some(both.copied()));
-    assert!(rt; both.covers(&low) && both.covers(&high));
+    let _ = both.replace(0, Slot { pair: hull });
+    both.covers(&low) && both.covers(&high) && low.join(&high) == Some(both)
+}
+
+fn lengths_part_joins() -> bool {
+    let (one, two) = (shape_of(&[Nothing]), shape_of(&[Nothing, Nothing]));
+    one.join(&two).is_none()
+        && two.join(&one).is_none()
+        && Shape::empty().join(&Shape::empty()) == Some(Shape::empty())
+        && one.clone().ok() == Some(one)
 }
 
 #[test]
-fn copies_are_equal_and_apart(rt: HostRuntime) {
-    let shape = shape_of(&[words(1, 1), saved(RegPair::Ix)]);
-    let mut copy = shape.copied();
-    assert!(rt; copy == shape);
-    assert!(rt; shape.clone().is_ok_and(|again| again == shape) == true);
-    assert!(rt; copy.pop() == Ok(saved(RegPair::Ix)));
-    assert!(rt; copy != shape);
-    assert!(rt; shape.bytes() == 4);
-}
-
-#[test]
-fn replaced_in_the_middle(rt: HostRuntime) {
-    let mut shape = shape_of(&[words(1, 1), words(2, 2), words(3, 3)]);
-    assert!(rt; shape.replace(1, saved(RegPair::Hl)) == Some(words(2, 2)));
-    let replaced = shape_of(&[words(1, 1), saved(RegPair::Hl), words(3, 3)]);
-    assert!(rt; shape == replaced);
-    assert!(rt; shape.replace(3, words(4, 4)) == None);
-    assert!(rt; shape == replaced);
-    assert!(rt; Shape::empty().replace(0, words(4, 4)) == None);
-}
-
-#[test]
-fn shapes_that_meet(rt: HostRuntime) {
-    let one = shape_of(&[words(0x4000, 0x40ff), words(0, 10)]);
-    let other = shape_of(&[words(0x40ff, 0x4100), saved(RegPair::Hl)]);
-    assert!(rt; one.meets(&other) && other.meets(&one));
-    let apart = shape_of(&[words(0x40ff, 0x4100), words(11, 12)]);
-    assert!(rt; !one.meets(&apart) && !apart.meets(&one));
-    assert!(rt; !one.meets(&shape_of(&[Slot::default()])));
-    assert!(rt; Shape::empty().meets(&Shape::empty()));
+fn joined_slot_by_slot(rt: HostRuntime) {
+    assert!(rt; joins_hold());
+    assert!(rt; lengths_part_joins());
 }

@@ -2,11 +2,12 @@
 
 ghost use Rattle.std.specs.Prelude.{◌≡◌};
 ghost use Rattle.certificate.specs.Fields.{Reads};
-ghost use Rattle.runner.specs.Input.{IsResetLine, IsEnvLine, reset_fields, reset_text, env_fields, env_text, env_of};
+ghost use Rattle.runner.specs.Input.{IsResetLine, IsEnvLine, reset_fields, reset_text, reset_of, regs_of, env_fields, env_text, env_of};
 
-use board_step::{Env, Inputs};
+use board_step::{Env, Inputs, Reset};
 use certificate::{Fields, decimal_between, flag_field, hex2_field};
 use t_states::FRAME;
+use z80_alu::{RegisterSet, Regs, Word};
 
 /// The first line of an input, `reset PHASE FILL`.
 #[derive(Clone, Copy)]
@@ -23,6 +24,53 @@ impl ResetLine {
         ensures { Reads reset_text IsResetLine text.now result }
     {
         reset_line(Fields::of(text))
+    }
+
+    /// The values that a reset leaves open, as the line tells them.
+    pub fn reset(self) -> Reset
+        ensures { result ≡ reset_of self }
+    {
+        let ResetLine { phase, fill } = self;
+        Reset {
+            work: [fill; 0x400],
+            video: [fill; 0x400],
+            object: [fill; 0x100],
+            regs: filled_regs(fill),
+            phase,
+        }
+    }
+}
+
+/// The registers of a reset whose bytes are all the same, but for those that a reset clears.
+fn filled_regs(fill: u8) -> Regs
+    ensures { result ≡ regs_of fill }
+{
+    let set = RegisterSet {
+        a: fill,
+        f: fill,
+        b: fill,
+        c: fill,
+        d: fill,
+        e: fill,
+        h: fill,
+        l: fill,
+    };
+    let pair = Word {
+        high: fill,
+        low: fill,
+    };
+    let word = pair.value();
+    Regs {
+        main: set,
+        alternate: set,
+        ix: word,
+        iy: word,
+        sp: word,
+        pc: 0,
+        i: 0,
+        r: 0,
+        iff1: false,
+        iff2: false,
     }
 }
 

@@ -10,6 +10,7 @@ mod pending;
 mod playing;
 
 pub use fault::PlayFault;
+pub use input::{EnvLine, ResetLine};
 pub use machine::{Machine, Summary};
-pub use output::{put, put_decimal, put_hex4};
+pub use output::{put, put_decimal, put_hex4, put_summary};
 pub use playing::play;

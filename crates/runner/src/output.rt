@@ -134,8 +134,8 @@ fn put_sums<W: Sink>(out: &mut W, sums: &[u32]) -> Result<(), DeviceFault>
     put(out, b"\n")
 }
 
-/// Writes the lines of a summary.
-pub(crate) fn put_summary<W: Sink>(out: &mut W, summary: &Summary) -> Result<(), DeviceFault>
+/// Writes the lines of a summary (docs/PROGRAM.md, "A run's lines").
+pub fn put_summary<W: Sink>(out: &mut W, summary: &Summary) -> Result<(), DeviceFault>
     ensures written { OnOk result (Takes (W.taken out.old) (summary_text summary.now) (W.taken out.new)) }
     ensures part { OnErr result (TakesPart (W.taken out.old) (summary_text summary.now) (W.taken out.new)) }
     ensures kept { OnOk result (W.failure_count out.new ≡ W.failure_count out.old) }

@@ -6,17 +6,15 @@ ghost use Rattle.certificate.specs.Device.{HasGrown, Takes};
 ghost use Rattle.runner.specs.Input.{IsResetLine, IsEnvLine, reset_text, env_text};
 ghost use Rattle.runner.specs.Output.{summary_text};
 ghost use Rattle.runner.specs.Pending.{EndsWell, TakesEnough, left_of};
-ghost use Rattle.runner.specs.Playing.{BeginsText, BeginsWithNo, IsBadLine, OfBytes, Played, TakesEnv, TakesReset, WasJudged, regs_of, reset_of};
+ghost use Rattle.runner.specs.Playing.{BeginsText, BeginsWithNo, IsBadLine, OfBytes, Played, TakesEnv, TakesReset, WasJudged};
 
 use crate::fault::PlayFault;
 use crate::input::{EnvLine, ResetLine};
 use crate::machine::{Machine, Summary};
 use crate::output::put_summary;
 use crate::pending::{Line, Pending};
-use board_step::Reset;
 use cert_checker::Accepted;
 use certificate::{DeviceFault, Sink, Source};
-use z80_alu::{RegisterSet, Regs, Word};
 
 /// Plays an input (docs/PROGRAM.md, "INPUT") on an accepted ROM for at most this many events, and writes its
 /// summary. A line of the input is read and judged only when its events are needed; the first line is always
@@ -70,7 +68,7 @@ fn play_input<R: Source>(
 {
     let mut pending = Pending::new();
     let reset = first_line(&mut pending, input)?;
-    let mut machine = Machine::reset(accepted, &filled(reset));
+    let mut machine = Machine::reset(accepted, &reset.reset());
     let mut left = steps;
     let mut number = 1;
     let mut time = 0;
@@ -130,52 +128,5 @@ fn next_env<R: Source>(
         },
         Line::Bad => Err(PlayFault::Line(number)),
         Line::End => Ok(None),
-    }
-}
-
-/// The registers of a reset whose bytes are all the same, but for those that a reset clears.
-fn filled_regs(fill: u8) -> Regs
-    ensures { result ≡ regs_of fill }
-{
-    let set = RegisterSet {
-        a: fill,
-        f: fill,
-        b: fill,
-        c: fill,
-        d: fill,
-        e: fill,
-        h: fill,
-        l: fill,
-    };
-    let pair = Word {
-        high: fill,
-        low: fill,
-    };
-    let word = pair.value();
-    Regs {
-        main: set,
-        alternate: set,
-        ix: word,
-        iy: word,
-        sp: word,
-        pc: 0,
-        i: 0,
-        r: 0,
-        iff1: false,
-        iff2: false,
-    }
-}
-
-/// The values that a reset leaves open, as the first line of an input tells them.
-fn filled(line: ResetLine) -> Reset
-    ensures { result ≡ reset_of line }
-{
-    let ResetLine { phase, fill } = line;
-    Reset {
-        work: [fill; 0x400],
-        video: [fill; 0x400],
-        object: [fill; 0x100],
-        regs: filled_regs(fill),
-        phase,
     }
 }

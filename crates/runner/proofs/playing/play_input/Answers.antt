@@ -3,10 +3,10 @@ use Rattle.board_step.specs.Reset.{reset_state}
 use Rattle.board_step.specs.State.{State}
 use Rattle.board_step.specs.declared.env.Env.{Env}
 use Rattle.cert_checker.specs.Certified.{Certified, hardware_on}
-use Rattle.runner.specs.Input.{env_of}
+use Rattle.runner.specs.Input.{env_of, reset_of}
 use Rattle.runner.specs.Leads.{TakesTime}
 use Rattle.runner.specs.Pending.{TakesEnough, left_of}
-use Rattle.runner.specs.Playing.{TakesEnv, TakesReset, reset_of}
+use Rattle.runner.specs.Playing.{TakesEnv, TakesReset}
 use Rattle.runner.specs.declared.fault.PlayFault.{PlayFault}
 use Rattle.runner.specs.declared.fault.PlayFault.TheVariants.{Line, Read}
 use Rattle.runner.proofs.FeedLemmas.{fresh}
@@ -21,7 +21,7 @@ loop-left-init g c =
     let now = left_of c.first_line.new.pending (g.R.Source.rest c.first_line.new.input) in
     let takes : TakesReset old c.in_ok-reset.reset now = subst (λ (o : Option (List ℕ)). TakesReset o c.in_ok-reset.reset now) (fresh c.new-pending.result old c.new-pending.ensures.bytes c.new-pending.ensures.ended) c.in_ok-reset.ensures.line in
     let start = sofar_start hardware c.args.steps old now c.in_ok-reset.reset takes in
-    let state : c.reset-machine.result.state ≡ reset_state (reset_of c.in_ok-reset.reset) = c.reset-machine.ensures.state ∙ ap reset_state c.filled.ensures in
+    let state : c.reset-machine.result.state ≡ reset_state (reset_of c.in_ok-reset.reset) = c.reset-machine.ensures.state ∙ ap reset_state c.reset.ensures in
     record {
       far = subst (λ (s : State). Sofar hardware c.args.steps old now 1 c.args.steps 0 s) (sym state) start;
       certified = c.reset-machine.ensures.accepted;
