@@ -1,14 +1,22 @@
 -- What an answer tells, said of what stands at the address.
-use Rattle.std.proofs.Common.{◌≡◌, sym, subst, drop, ℕ, List, Result, Ok, Err}
+use Rattle.std.proofs.Common.{Bool, ◌≡◌, sym, subst, drop, ℕ, List, Result, Ok, Err}
 use Rattle.std.specs.Prelude.{IfOk, IfErr}
 use Rattle.board_step.proofs.DecodedLemmas.{decoded_once}
 use Rattle.board_step.specs.Decoded.{StandsAt}
 use Rattle.z80_decode.specs.declared.instr.Instr.{Instr}
 use Rattle.z80_decode.specs.declared.fault.DecodeFault.{DecodeFault}
+use Rattle.abs_state.specs.declared.state.AbsState.{AbsState}
+use Rattle.abs_draft.specs.Ground.{Ground}
+use Rattle.abs_step.specs.Contained.{Keeps}
+use Rattle.abs_step.specs.declared.next.Next.{Next}
 
 pub if_ok : {X Y : Type 0} (r : Result X Y) (P Q : X → Type 0) → IfOk r P → ((x : X) → P x → Q x) → IfOk r Q
 if_ok (Ok x) P Q h f = f x h
 if_ok (Err y) P Q h f = tt
+
+pub both_ok : {X Y : Type 0} (r : Result X Y) (P Q R : X → Type 0) → IfOk r P → IfOk r Q → ((x : X) → P x → Q x → R x) → IfOk r R
+both_ok (Ok x) P Q R g h f = f x g h
+both_ok (Err y) P Q R g h f = tt
 
 pub if_err : {X Y : Type 0} (r : Result X Y) (P Q : Y → Type 0) → IfErr r P → ((y : Y) → P y → Q y) → IfErr r Q
 if_err (Ok x) P Q h f = tt
@@ -17,3 +25,8 @@ if_err (Err y) P Q h f = f y h
 -- what holds of the one thing that stands at an address holds of whatever stands there
 pub of_all : (rom : List ℕ) (at : ℕ) (this : Result Instr DecodeFault) (P : Result Instr DecodeFault → Type 0) → StandsAt rom at this → P this → (other : Result Instr DecodeFault) → StandsAt rom at other → P other
 of_all rom at this P here h other there = subst P (decoded_once (drop at rom) this other here there) h
+
+-- an instruction that stands there keeps what the row says
+abbrev pub KeepsIf : Ground → ℕ → Bool → AbsState → List Next → Result Instr DecodeFault → Type 0
+KeepsIf g address main a nexts (Ok instr) = Keeps g address main a instr nexts
+KeepsIf g address main a nexts (Err fault) = Unit {0}

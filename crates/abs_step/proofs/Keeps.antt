@@ -163,6 +163,7 @@ after_here g address main inline a instr region running s env x =
     let r = reaches g.map (instr_draft (here g s env) instr) s in
     record {
       goes = d.0;
+      writes = d.1.zip;
       safe = is_safe g address main inline a instr region running s env x d.1.zip d.1.inside;
       clear = is_clear g address main inline a instr region running s env x d.1.zip d.1.inside;
       keeps_i = λ n. ap (λ regs. regs.i) r.regs ∙ i_kept (here g s env) instr n;

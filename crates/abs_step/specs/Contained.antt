@@ -1,7 +1,7 @@
 -- What an instruction makes of the board where a row holds of it, and no rule is against the row (docs/CHECKER.md, "What a
 -- step keeps").
 use Rattle.std.specs.Prelude.{ℕ, ◌+◌, ◌%◌, ◌≡◌, ◌≢◌, Bool, true, false, None, Ok, List, [], ◌∷◌, length}
-use Rattle.std.specs.List.{All, Contains}
+use Rattle.std.specs.List.{All, AllZip, Contains}
 use Rattle.address_map.specs.AddressMap.{AddressMap}
 use Rattle.address_map.specs.declared.region.Region.{Region}
 use Rattle.intervals.specs.Domain.{Entry}
@@ -33,7 +33,7 @@ use Rattle.abs_state.specs.declared.state.AbsState.{AbsState}
 use Rattle.abs_draft.specs.Ground.{Ground}
 use Rattle.abs_draft.specs.declared.data_write.DataWrite.{DataWrite}
 use Rattle.abs_laws.specs.Cells.{bytes_of_cells}
-use Rattle.abs_laws.specs.Fits.{Follows, IsThere}
+use Rattle.abs_laws.specs.Fits.{Follows, IsThere, LiesIn}
 use Rattle.abs_laws.specs.Writes.{AllKeep, IsPlaced, MissesRegion, NeverEnables, TakesData}
 use Rattle.abs_step.specs.Successors.{writes_of}
 use Rattle.abs_step.specs.declared.next.Next.{Next}
@@ -161,10 +161,11 @@ pub record Goes (cells : List KeptCell) (region : Region) (running : Running) (a
   pub stays : a.mode ≡ Nmi → next.state.mode ≡ Nmi
   pub goes : GoesBy next.kind cells region running instr c next
 
--- What an instruction does before its T-states go by. No trap is met where the row's data writes go to places that take data,
+-- What an instruction does before its T-states go by. Each data write lies in the one that is known of it, no trap is met where the row's data writes go to places that take data,
 -- a clear NMI enable stays clear where none of them may set it, I is changed by LD I,A alone, and HALT alone halts.
 pub record After (cells : List KeptCell) (region : Region) (running : Running) (a : AbsState) (instr : Instr) (ws : List DataWrite) (nexts : List Next) (c : Context) : Type 0 where
   pub goes : Goes cells region running a instr nexts c
+  pub writes : AllZip LiesIn ws (instr_draft c instr).writes
   pub safe : All (TakesData c.hardware.map) ws → trap_of_instr region c instr ≡ None
   pub clear : All (NeverEnables c.hardware.map) ws → c.state.enable ≡ false → (done c instr).enable ≡ false
   pub keeps_i : instr ≢ instrs.StoreASpecial specials.I → (done c instr).regs.i ≡ c.state.regs.i

@@ -1,5 +1,5 @@
 // The rules that stand at the instruction: which use the stack, why a row is refused for itself, and how it leads on.
-ghost use Rattle.std.specs.Prelude.{◌≡◌};
+ghost use Rattle.std.specs.Prelude.{◌≡◌, ◌≤◌, IfNone, length};
 ghost use Rattle.abs_step.specs.Successors.{is_call, is_return, is_push, is_pop, uses_stack, returns_nowhere, has_no_shape, jump_pair, jumps_anywhere, refusal, kind_of, mode_set, stack_set};
 
 use crate::next::NextKind;
@@ -65,7 +65,8 @@ fn returns_nowhere(main: bool, shape: &Shape) -> bool
 
 /// Whether the shape is not what the instruction wants.
 fn has_no_shape(main: bool, inline: bool, instr: &Instr, shape: &Shape) -> bool
-    ensures { result ≡ has_no_shape main inline instr.now shape.now }
+    ensures value { result ≡ has_no_shape main inline instr.now shape.now }
+    ensures fits { length shape.now ≤ 64 }
 {
     let is_full = shape.len() == 64 && (is_push(instr) || is_call(instr) && inline);
     is_full || is_pop(instr) && shape.is_empty() || is_return(instr) && returns_nowhere(main, shape)
@@ -97,7 +98,8 @@ fn jumps_anywhere(instr: &Instr, state: &AbsState) -> bool
 
 /// The lowest reason of a row at an instruction that is not judged by the certificate.
 pub(crate) fn refusal(main: bool, inline: bool, instr: &Instr, state: &AbsState) -> Option<Reason>
-    ensures { result ≡ refusal main inline instr.now state.now }
+    ensures value { result ≡ refusal main inline instr.now state.now }
+    ensures fits { IfNone result (length state.now.shape ≤ 64) }
 {
     if is_io(instr) {
         Some(Reason::IoSpace)

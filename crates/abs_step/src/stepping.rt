@@ -113,6 +113,7 @@ fn successors_at(
     requires cells { length ground.now.cells ≤ 256 }
     requires len { len ≡ length (spelling instr.now) }
     ensures ok { IfOk result (λ nexts. answer_of ground.now address main inline state.now (Ok instr.now) ≡ Ok nexts.items) }
+    ensures fits { IfOk result (λ nexts. length state.now.shape ≤ 64) }
     ensures err { IfErr result (λ reason. answer_of ground.now address main inline state.now (Ok instr.now) ≡ Err reason) }
 {
     if let Some(reason) = refusal(main, inline, instr, state) {

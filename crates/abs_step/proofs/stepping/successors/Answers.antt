@@ -5,7 +5,8 @@ use Rattle.z80_decode.specs.declared.fault.DecodeFault.{DecodeFault}
 use Rattle.abs_draft.specs.Ground.{Ground, ground_of}
 use Rattle.abs_step.specs.Successors.{answer_of}
 use Rattle.abs_step.specs.declared.reason.Reason.TheVariants.{Decode}
-use Rattle.abs_step.proofs.Answered.{if_ok, if_err, of_all}
+use Rattle.abs_step.proofs.Answered.{KeepsIf, both_ok, if_ok, if_err, of_all}
+use Rattle.abs_step.proofs.Keeps.{keeps}
 use Rattle.abs_step.proofs.stepping.successors.Goals as goal
 
 pub returns-in-Ok-clause-ok : goal.returns-in-Ok-clause-ok
@@ -29,3 +30,13 @@ returns-in-Err-clause-err c =
     of_all c.args.rom.now c.args.address (Err c.in-Err.fault)
     (λ (d : Result Instr DecodeFault). answer_of (ground_of c.args.rom.now c.args.map.now c.args.cells.now) c.args.address c.args.main c.args.inline c.args.state.now d ≡ Err (Decode c.in-Err.fault))
     c.in-Err.ensures.fault refl
+
+pub returns-in-Ok-clause-keeps : goal.returns-in-Ok-clause-keeps
+returns-in-Ok-clause-keeps c =
+    both_ok c.successors_at.result _ _ _ c.successors_at.ensures.fits c.successors_at.ensures.ok
+    (λ nexts fits e instr stands. of_all c.args.rom.now c.args.address (Ok c.in-Ok.instr)
+    (λ (d : Result Instr DecodeFault). KeepsIf (ground_of c.args.rom.now c.args.map.now c.args.cells.now) c.args.address c.args.main c.args.state.now nexts.items d)
+    c.in-Ok.ensures.stands
+    (keeps (ground_of c.args.rom.now c.args.map.now c.args.cells.now) c.args.address c.args.main c.args.inline c.args.state.now c.in-Ok.instr nexts.items fits c.in-Ok.ensures.stands
+    (subst (λ (g : Ground). answer_of g c.args.address c.args.main c.args.inline c.args.state.now (Ok c.in-Ok.instr) ≡ Ok nexts.items) c.of-ground.ensures e))
+    (Ok instr) stands)
