@@ -1,1 +1,2 @@
 pub mod GroundLemmas
+pub mod SpanLemmas

@@ -1,5 +1,5 @@
 -- What each kind of move leaves of what is known: the table of the abstract step (docs/CHECKER.md, "The abstract step").
-use Rattle.std.specs.Prelude.{ℕ, ◌+◌, ◌-◌, ◌==◌, Bool, true, false, if◌then◌else◌, List, length, Option, Some, None}
+use Rattle.std.specs.Prelude.{◌-◌, Bool, if◌then◌else◌, length, Some, None}
 use Rattle.intervals.specs.Logic.{complement, of_single, with_bit_set, with_bit_reset}
 use Rattle.intervals.specs.Pair.{written_bytes}
 use Rattle.intervals.specs.Range.{Interval, single, full}

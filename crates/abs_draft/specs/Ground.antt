@@ -1,5 +1,5 @@
 -- What never changes beside a row: the ROM, the address map and the kept cells; and what a data read or write finds there.
-use Rattle.std.specs.Prelude.{ℕ, ◌+◌, ◌-◌, ◌%◌, ◌==◌, ◌&&◌, ◌||◌, nat_lt, nat_le, Bool, true, false, if◌then◌else◌, List, [], ◌∷◌, length, take, drop, Option, Some, None}
+use Rattle.std.specs.Prelude.{ℕ, ◌+◌, ◌-◌, ◌%◌, ◌==◌, ◌&&◌, ◌||◌, nat_lt, nat_le, min, max, Bool, true, false, if◌then◌else◌, List, [], ◌∷◌, length, take, drop, Option, Some, None}
 use Rattle.std.specs.List.{list_any, range_with_len, slice_get}
 use Rattle.address_map.specs.AddressMap.{AddressMap}
 use Rattle.address_map.specs.Class.{class_of, cell_of}
@@ -8,10 +8,10 @@ use Rattle.address_map.specs.declared.cell.RamKind.TheVariants.{Work, Video, Obj
 use Rattle.address_map.specs.declared.map.WriteClass.{WriteClass}
 use Rattle.address_map.specs.declared.map.WriteClass.TheVariants as writes
 use Rattle.intervals.specs.Logic.{is_single}
-use Rattle.intervals.specs.Range.{Interval, single, full, hull}
+use Rattle.intervals.specs.Range.{Interval, full}
 use Rattle.abs_state.specs.declared.cell.KeptCell.{KeptCell}
 use Rattle.abs_state.specs.declared.mode.Mode.{Mode}
-use Rattle.abs_state.specs.declared.mode.Mode.TheVariants.{Unset, Set, Nmi}
+use Rattle.abs_state.specs.declared.mode.Mode.TheVariants.{Set, Nmi}
 use Rattle.abs_draft.specs.declared.data_write.DataWrite.{DataWrite}
 
 -- what never changes beside a row
@@ -73,15 +73,20 @@ armed_after g w armed = if arms g.map w (slice_get g.cells armed) then armed + 1
 
 -- ---- reads
 
--- a range widened to hold some bytes
-unfoldable pub widened : Interval → List ℕ → Interval
-widened range [] = range
-widened range (byte ∷ bytes) = widened (hull range (single byte)) bytes
+-- the least of a byte and some more
+unfoldable pub least_of : ℕ → List ℕ → ℕ
+least_of least [] = least
+least_of least (byte ∷ bytes) = min byte (least_of least bytes)
+
+-- the greatest
+unfoldable pub greatest_of : ℕ → List ℕ → ℕ
+greatest_of greatest [] = greatest
+greatest_of greatest (byte ∷ bytes) = max byte (greatest_of greatest bytes)
 
 -- the least to the greatest of some bytes
 abbrev pub span : List ℕ → Interval
 span [] = full 256
-span (byte ∷ bytes) = widened (single byte) bytes
+span (byte ∷ bytes) = record { low = least_of byte bytes; high = greatest_of byte bytes }
 
 -- the bytes of the ROM at the addresses of a range
 abbrev pub bytes_at : List ℕ → Interval → List ℕ

@@ -1,17 +1,14 @@
 -- What is known while an instruction goes through its moves, and how its registers are read and written.
-use Rattle.std.specs.Prelude.{ℕ, ◌-◌, ◌==◌, nat_lt, Bool, if◌then◌else◌, List, [], ◌∷◌, ◌++◌, length, take, get_or, slice_set, Option, Some, None}
-use Rattle.intervals.specs.Pair.{full_pair, written_word, written_bytes}
-use Rattle.intervals.specs.Range.{Interval, single, full}
+use Rattle.std.specs.Prelude.{ℕ, ◌-◌, nat_lt, if◌then◌else◌, List, [], ◌∷◌, ◌++◌, length, take, get_or, slice_set, Option, Some, None}
+use Rattle.intervals.specs.Pair.{full_pair, written_word}
+use Rattle.intervals.specs.Range.{Interval, full}
 use Rattle.intervals.specs.declared.pair.Pair.{Pair}
 use Rattle.intervals.specs.declared.reg_pair.RegPair.{RegPair}
 use Rattle.intervals.specs.declared.reg_pair.RegPair.TheVariants as pairs
 use Rattle.loop_bounds.specs.Effect.{slot_change}
 use Rattle.loop_bounds.specs.declared.effect.Change.{Change}
-use Rattle.loop_bounds.specs.declared.effect.Change.TheVariants.{Old, Raised, Lowered, Constant, Unknown}
+use Rattle.loop_bounds.specs.declared.effect.Change.TheVariants.{Old, Raised, Lowered, Unknown}
 use Rattle.loop_bounds.specs.declared.effect.Effect.{Effect}
-use Rattle.loop_bounds.specs.declared.effect.SlotChange.{SlotChange}
-use Rattle.loop_bounds.specs.declared.variable.Variable.{Variable}
-use Rattle.loop_bounds.specs.declared.variable.Variable.TheVariants as variables
 use Rattle.loop_bounds.specs.declared.variable.Part.TheVariants.{Word, High, Low}
 use Rattle.stack_shape.specs.declared.slot.Slot.{Slot}
 use Rattle.z80_decode.specs.declared.operands.Register8.{Register8}
@@ -20,11 +17,9 @@ use Rattle.z80_moves.specs.declared.registers.ByteRegister.{ByteRegister}
 use Rattle.z80_moves.specs.declared.registers.ByteRegister.TheVariants as bytes
 use Rattle.z80_moves.specs.declared.registers.WordRegister.{WordRegister}
 use Rattle.z80_moves.specs.declared.registers.WordRegister.TheVariants as words
-use Rattle.abs_state.specs.Pairs.{pair_of}
-use Rattle.abs_state.specs.Registers.{byte_of as register_range, put_byte as state_byte, put_pair as state_pair, put_word as state_word, put_flags as state_flags}
+use Rattle.abs_state.specs.Registers.{put_byte as state_byte, put_pair as state_pair, put_flags as state_flags}
 use Rattle.abs_state.specs.Variables.{full_slot}
 use Rattle.abs_state.specs.declared.fact.FlagFact.{FlagFact}
-use Rattle.abs_state.specs.declared.pairs.Pairs.{Pairs}
 use Rattle.abs_state.specs.declared.state.AbsState.{AbsState}
 use Rattle.abs_draft.specs.Ground.{Ground, may_enable, mode_after, armed_after}
 use Rattle.abs_draft.specs.declared.known.Known.{Known}

@@ -1,6 +1,6 @@
 -- The moves of an instruction, and the two ways that its test may go.
 use Rattle.std.specs.Prelude.{ℕ, ◌+◌, ◌%◌, ◌==◌, Bool, true, false, not, if◌then◌else◌, List, [], ◌∷◌, length, get_or, Option, Some, None, option_map}
-use Rattle.intervals.specs.Range.{Interval, single, full}
+use Rattle.intervals.specs.Range.{Interval, single}
 use Rattle.intervals.specs.declared.reg_pair.RegPair.TheVariants.{Bc}
 use Rattle.loop_bounds.specs.declared.effect.Change.{Change}
 use Rattle.loop_bounds.specs.declared.effect.Change.TheVariants.{Constant}
@@ -17,13 +17,11 @@ use Rattle.z80_moves.specs.declared.moves.Test.{Test}
 use Rattle.z80_moves.specs.declared.moves.Test.TheVariants as tests
 use Rattle.abs_state.specs.Narrowing.{byte_is, word_is, condition_is}
 use Rattle.abs_state.specs.Variables.{full_slot}
-use Rattle.abs_state.specs.declared.pairs.Pairs.{Pairs}
 use Rattle.abs_state.specs.declared.state.AbsState.{AbsState}
 use Rattle.abs_draft.specs.AfterMove.{after_move}
 use Rattle.abs_draft.specs.Ground.{Ground}
 use Rattle.loop_bounds.specs.Effect.{unchanged}
 use Rattle.abs_draft.specs.declared.known.Known.{Known}
-use Rattle.abs_draft.specs.declared.data_write.DataWrite.{DataWrite}
 
 -- what is known of a state where a test held, and where it did not; none where that can't be
 abbrev pub state_tested : Test → Bool → AbsState → Option AbsState

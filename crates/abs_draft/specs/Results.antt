@@ -1,6 +1,6 @@
 -- The ranges that operations leave (docs/CHECKER.md, "The window rule and the table of results").
-use Rattle.std.specs.Prelude.{ℕ, ◌==◌, ◌*◌, ◌/◌, ◌%◌, ◌+◌, Bool, true, false, if◌then◌else◌, Option, Some, None}
-use Rattle.intervals.specs.Logic.{conjunction, disjunction, exclusive_disjunction, complement, halves, doubles, of_single, rotation_left, rotation_right, with_bit_set, with_bit_reset, is_single}
+use Rattle.std.specs.Prelude.{if◌then◌else◌, Option, Some, None}
+use Rattle.intervals.specs.Logic.{conjunction, disjunction, exclusive_disjunction, halves, doubles, of_single, rotation_left, rotation_right, is_single}
 use Rattle.intervals.specs.Range.{Interval, single, full}
 use Rattle.intervals.specs.Sums.{sum, sum_with_carry, difference, difference_with_carry}
 use Rattle.z80_decode.specs.declared.kinds.AccumulatorRotate.{AccumulatorRotate}

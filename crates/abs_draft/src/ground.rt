@@ -2,7 +2,7 @@
 ghost use Rattle.std.specs.Prelude.{◌≡◌, ◌≤◌, ◌<◌, take, drop, length, Option, Some, None};
 ghost use Rattle.address_map.specs.Class.{class_of, cell_of};
 ghost use Rattle.address_map.specs.AddressMap.{AddressMap};
-ghost use Rattle.abs_draft.specs.Ground.{ground_of, any_address, is_enable, some_odd, may_enable, mode_after, is_work_cell, cell_at, has_range, arms, armed_after, span, widened, bytes_at, rom_range, read_one, read_range};
+ghost use Rattle.abs_draft.specs.Ground.{ground_of, any_address, is_enable, some_odd, may_enable, mode_after, is_work_cell, cell_at, has_range, arms, armed_after, span, least_of, greatest_of, bytes_at, rom_range, read_one, read_range};
 
 use crate::data_write::DataWrite;
 use abs_state::{KeptCell, Mode};
@@ -51,9 +51,9 @@ fn span(bytes: &[u8]) -> ByteRange
 }
 
 /// A range widened to hold some bytes.
-#[tactic(auto, unfolding(crate::specs::Ground::widened))]
+#[tactic(auto, unfolding(crate::specs::Ground::least_of, crate::specs::Ground::greatest_of))]
 fn widened(range: ByteRange, bytes: &[u8]) -> ByteRange
-    ensures { result ≡ widened range bytes.now }
+    ensures { result ≡ record { low = least_of range.low bytes.now; high = greatest_of range.high bytes.now } }
 {
     let mut wide = range;
     for byte in bytes {
