@@ -380,11 +380,11 @@ fn bytes_one_by_one(rt: HostRuntime) {
     assert!(rt; after.is(0, THREE));
 }
 
-/// Whether `verify` has status 3 where the write behind this many, of a byte each, fails, and what was written stays.
-fn write_failure_is_told(alloc: Global, writes: usize) -> bool {
-    let out = Taken::failing(alloc, 1, writes as u64);
+/// Whether `verify` has status 3 where the write behind these bytes, of one each, fails, and these stay written.
+fn write_failure_is_told(alloc: Global, written: &[u8]) -> bool {
+    let out = Taken::failing(alloc, 1, written.len() as u64);
     let after = verify(alloc, Bytes::whole(JUMP), accepted(), out);
-    after.status == 3 && Some(after.written.as_slice()) == TABLE.as_bytes().get(..writes)
+    after.status == 3 && after.written.as_slice() == written
 }
 
 /// Whether `verify` has status 3 and writes nothing where the ROM's read behind this many fails.
@@ -403,8 +403,9 @@ fn input_failure_is_told(alloc: Global, reads: usize) -> bool {
 /// Each device fails at each call in turn.
 #[test]
 fn device_failures_are_told(rt: HostRuntime) {
-    for writes in 0..TABLE.len() {
-        assert!(rt; write_failure_is_told(rt.alloc(), writes));
+    let table = TABLE.as_bytes();
+    for writes in 0..table.len() {
+        assert!(rt; write_failure_is_told(rt.alloc(), &table[..writes]));
     }
     for reads in 0..4 {
         assert!(rt; rom_failure_is_told(rt.alloc(), reads));
