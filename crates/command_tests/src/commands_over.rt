@@ -1,6 +1,7 @@
 // The commands over devices in memory, and what they leave.
 
 use crate::memory_devices::{Bytes, Taken};
+use crate::samples::JUMP_CERTIFICATE;
 use commands::{run_on, verify_on};
 use std::alloc::Global;
 
@@ -21,6 +22,11 @@ impl Outcome {
     pub fn is(&self, status: u8, text: &str) -> bool {
         self.status == status && self.written.as_slice() == text.as_bytes()
     }
+}
+
+/// The certificate of JUMP.
+pub fn accepted() -> Bytes<'static> {
+    Bytes::whole(JUMP_CERTIFICATE.as_bytes())
 }
 
 /// `verify` over these devices; no input is asked.

@@ -1,33 +1,31 @@
 // Which devices are asked, and in which order.
 
-use crate::commands_over::{run, verify};
+use crate::commands_over::{accepted, run, verify};
 use crate::memory_devices::{Bytes, Taken};
-use crate::samples::{JUMP, JUMP_CERTIFICATE, ROW_MISSING};
+use crate::samples::{JUMP, JUMP_CERTIFICATE, JUMP_INPUT, ROW_MISSING};
 use commands::{FileSource, run_on};
+use std::alloc::Global;
 use std::test::Fail;
 
-const INPUT: &[u8] = b"reset 0 00\n3 00 00 00 00 00 00 0\n";
-
-/// The certificate of JUMP.
-fn accepted() -> Bytes<'static> {
-    Bytes::whole(JUMP_CERTIFICATE.as_bytes())
+/// Whether no other device is asked where the ROM's read behind this many fails.
+fn stops_at_the_rom(alloc: Global, reads: u64) -> bool {
+    let rom = Bytes::failing(JUMP, 2, reads);
+    let after = verify(alloc, rom, accepted(), Taken::new(alloc));
+    after.status == 3 && after.cert_asked == 0 && after.out_asked == 0
 }
 
-/// Where the ROM fails, no other device is asked.
+fn run_stops_at_the_rom(alloc: Global) -> bool {
+    let (rom, input) = (Bytes::failing(JUMP, 2, 1), Bytes::whole(JUMP_INPUT));
+    let after = run(alloc, rom, accepted(), input, 3, Taken::new(alloc));
+    after.status == 3 && after.cert_asked == 0 && after.input_asked == 0 && after.out_asked == 0
+}
+
 #[test]
 fn the_rom_is_read_first(rt: HostRuntime) {
-    let alloc = rt.alloc();
-    for calls in 0..4 {
-        let rom = Bytes::failing(JUMP, 2, calls);
-        let after = verify(alloc, rom, accepted(), Taken::new(alloc));
-        assert!(rt; after.status == 3);
-        assert!(rt; after.cert_asked == 0 && after.out_asked == 0);
+    for reads in 0..4 {
+        assert!(rt; stops_at_the_rom(rt.alloc(), reads));
     }
-    let rom = Bytes::failing(JUMP, 2, 1);
-    let (cert, input) = (accepted(), Bytes::whole(INPUT));
-    let after = run(alloc, rom, cert, input, 3, Taken::new(alloc));
-    assert!(rt; after.status == 3);
-    assert!(rt; after.cert_asked == 0 && after.input_asked == 0 && after.out_asked == 0);
+    assert!(rt; run_stops_at_the_rom(rt.alloc()));
 }
 
 /// Where the certificate fails, the ROM was read to its end, and no other device is asked.
@@ -38,27 +36,35 @@ fn the_certificate_is_read_next(rt: HostRuntime) {
     let after = verify(alloc, Bytes::whole(JUMP), cert, Taken::new(alloc));
     assert!(rt; after.status == 3 && after.rom_left == 0 && after.out_asked == 0);
     let cert = Bytes::failing(b"galcert 1\n", 4, 1);
-    let (rom, input) = (Bytes::whole(JUMP), Bytes::whole(INPUT));
+    let (rom, input) = (Bytes::whole(JUMP), Bytes::whole(JUMP_INPUT));
     let after = run(alloc, rom, cert, input, 3, Taken::new(alloc));
     assert!(rt; after.status == 3 && after.rom_left == 0);
     assert!(rt; after.input_asked == 0 && after.out_asked == 0);
 }
 
+/// Whether `run` with this certificate, and an output that fails at the write behind this many, has this status, writes this
+/// text and asks the input for no byte.
+fn asks_no_input(alloc: Global, cert: &str, writes: u64, status: u8, text: &str) -> bool {
+    let (rom, cert) = (Bytes::whole(JUMP), Bytes::whole(cert.as_bytes()));
+    let out = Taken::failing(alloc, 4096, writes);
+    let after = run(alloc, rom, cert, Bytes::failing(JUMP_INPUT, 1, 0), 3, out);
+    after.is(status, text) && after.input_asked == 0
+}
+
+const REFUSED: &[(&str, &str)] = &[
+    (ROW_MISSING, "refused 0000 12 NotCovered\n"),
+    ("galcert 1\nrom 06\n", "bad certificate line 2\n"),
+];
+
 /// The input of a refused certificate is not asked for a byte, whether the refusal can be written or not.
 #[test]
 fn no_input_after_a_refusal(rt: HostRuntime) {
-    let alloc = rt.alloc();
-    for (cert, want) in [
-        (ROW_MISSING, "refused 0000 12 NotCovered\n"),
-        ("galcert 1\nrom 06\n", "bad certificate line 2\n"),
-    ] {
-        for (calls, status, written) in [(u64::MAX, 1, want), (0, 3, "")] {
-            let (rom, cert) = (Bytes::whole(JUMP), Bytes::whole(cert.as_bytes()));
-            let out = Taken::failing(alloc, 4096, calls);
-            let after = run(alloc, rom, cert, Bytes::failing(INPUT, 1, 0), 3, out);
-            assert!(rt; after.is(status, written), "{want}");
-            assert!(rt; after.input_asked == 0);
-        }
+    for &(cert, text) in REFUSED {
+        assert!(rt;
+            asks_no_input(rt.alloc(), cert, u64::MAX, 1, text),
+            "{text}"
+        );
+        assert!(rt; asks_no_input(rt.alloc(), cert, 0, 3, ""), "{text}");
     }
 }
 
@@ -66,7 +72,7 @@ fn no_input_after_a_refusal(rt: HostRuntime) {
 #[test]
 fn the_input_is_read_before_the_lines_are_written(rt: HostRuntime) {
     let alloc = rt.alloc();
-    let (rom, cert, input) = (Bytes::whole(JUMP), accepted(), Bytes::whole(INPUT));
+    let (rom, cert, input) = (Bytes::whole(JUMP), accepted(), Bytes::whole(JUMP_INPUT));
     let after = run(alloc, rom, cert, input, 3, Taken::failing(alloc, 4096, 0));
     assert!(rt; after.status == 3 && after.input_left == 0);
 }

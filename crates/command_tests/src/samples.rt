@@ -46,3 +46,6 @@ pub const JUMP_CERTIFICATE: &str = certificate_text!(6, "4380 4400", "0000 u", "
 
 /// JUMP's without the row of its second instruction.
 pub const ROW_MISSING: &str = certificate_text!(6, "4380 4400", "0000 u");
+
+/// Three events of JUMP, from a reset to 00.
+pub const JUMP_INPUT: &[u8] = b"reset 0 00\n3 00 00 00 00 00 00 0\n";

@@ -1,11 +1,12 @@
 // Verdicts and runs over devices in memory.
 
-use crate::commands_over::{run, run_whole, verify, verify_whole};
+use crate::commands_over::{accepted, run, run_whole, verify, verify_whole};
 use crate::memory_devices::{Bytes, Taken};
 use crate::samples::{
-    JUMP, JUMP_CERTIFICATE, ROW_MISSING, STORES, STORES_CERTIFICATE, certificate_text,
+    JUMP, JUMP_CERTIFICATE, JUMP_INPUT, ROW_MISSING, STORES, STORES_CERTIFICATE, certificate_text,
 };
 use commands::steps_of;
+use std::alloc::Global;
 use std::test::Fail;
 
 /// What `verify` prints of main's depth 0 in 128 bytes.
@@ -379,28 +380,38 @@ fn bytes_one_by_one(rt: HostRuntime) {
     assert!(rt; after.is(0, THREE));
 }
 
-/// Each device fails at each call in turn: the status is 3, and what was written stays.
+/// Whether `verify` has status 3 where the write behind these bytes, of one each, fails, and these stay written.
+fn write_failure_is_told(alloc: Global, written: &[u8]) -> bool {
+    let out = Taken::failing(alloc, 1, written.len() as u64);
+    let after = verify(alloc, Bytes::whole(JUMP), accepted(), out);
+    after.status == 3 && after.written.as_slice() == written
+}
+
+/// Whether `verify` has status 3 and writes nothing where the ROM's read behind this many fails.
+fn rom_failure_is_told(alloc: Global, reads: u64) -> bool {
+    let (rom, cert) = (Bytes::failing(JUMP, 2, reads), accepted());
+    verify(alloc, rom, cert, Taken::new(alloc)).is(3, "")
+}
+
+/// The same of `run`, where the input's read behind this many, of a byte each, fails.
+fn input_failure_is_told(alloc: Global, reads: usize) -> bool {
+    let (rom, cert) = (Bytes::whole(JUMP), accepted());
+    let input = Bytes::failing(JUMP_INPUT, 1, reads as u64);
+    run(alloc, rom, cert, input, 3, Taken::new(alloc)).is(3, "")
+}
+
+/// Each device fails at each call in turn.
 #[test]
 fn device_failures_are_told(rt: HostRuntime) {
-    let alloc = rt.alloc();
-    let cert = JUMP_CERTIFICATE.as_bytes();
     let table = TABLE.as_bytes();
-    for calls in 0..table.len() {
-        let out = Taken::failing(alloc, 1, calls as u64);
-        let after = verify(alloc, Bytes::whole(JUMP), Bytes::whole(cert), out);
-        assert!(rt; after.status == 3 && after.written.as_slice() == &table[..calls]);
+    for writes in 0..table.len() {
+        assert!(rt; write_failure_is_told(rt.alloc(), &table[..writes]));
     }
-    for calls in 0..4 {
-        let rom = Bytes::failing(JUMP, 2, calls);
-        let after = verify(alloc, rom, Bytes::whole(cert), Taken::new(alloc));
-        assert!(rt; after.is(3, ""));
+    for reads in 0..4 {
+        assert!(rt; rom_failure_is_told(rt.alloc(), reads));
     }
-    let input = b"reset 0 00\n3 00 00 00 00 00 00 0\n";
-    for calls in 0..input.len() {
-        let (rom, cert) = (Bytes::whole(JUMP), Bytes::whole(cert));
-        let input = Bytes::failing(input, 1, calls as u64);
-        let after = run(alloc, rom, cert, input, 3, Taken::new(alloc));
-        assert!(rt; after.is(3, ""));
+    for reads in 0..JUMP_INPUT.len() {
+        assert!(rt; input_failure_is_told(rt.alloc(), reads));
     }
 }
 
