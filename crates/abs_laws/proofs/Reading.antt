@@ -1,5 +1,5 @@
 -- What data reads find on a board lies in what is known of them.
-use Rattle.std.proofs.Common.{◌≡◌, ◌<◌, ◌+◌, ◌-◌, ◌%◌, ℕ, zero, suc, Bool, true, false, cond, ltb, refl, sym, ◌∙◌, ap, subst, arith, rules, List, [], ◌∷◌, length, take, drop, get_or, Option, Some, None, inl, inr}
+use Rattle.std.proofs.Common.{◌≡◌, ◌≤◌, ◌<◌, ◌+◌, ◌-◌, ◌%◌, ℕ, zero, suc, Bool, true, false, cond, ltb, refl, sym, ◌∙◌, ap, subst, arith, rules, List, [], ◌∷◌, length, take, drop, get_or, Option, Some, None, inl, inr}
 use Rattle.std.proofs.Math.ListN.{length-take}
 use Rattle.std.proofs.lemmas.Bool.{cases_Bool, eqb-true}
 use Rattle.std.proofs.lemmas.List.{get_or-take, get_or-drop, length-drop}
@@ -22,30 +22,41 @@ use Rattle.z80_draft.proofs.RangeLemmas.{word_read_fits}
 use Rattle.z80_draft.specs.Draft.{word_read}
 use Rattle.z80_draft.specs.Outside.{Outside}
 use Rattle.intervals.specs.Logic.{is_single}
-use Rattle.intervals.specs.Range.{Interval, Within, full, hull, single}
+use Rattle.intervals.specs.Range.{Interval, Within, full}
 use Rattle.abs_state.specs.Cell.{HoldsCells}
 use Rattle.abs_state.specs.declared.cell.KeptCell.{KeptCell}
-use Rattle.abs_draft.specs.Ground.{Ground, bytes_at, cell_at, is_work_cell, read_one, read_range, rom_range, span, widened}
+use Rattle.abs_draft.specs.Ground.{Ground, bytes_at, cell_at, is_work_cell, read_one, read_range, rom_range, span, least_of, greatest_of}
 use Rattle.abs_laws.specs.Cells.{bytes_of_cells}
 use Rattle.abs_laws.specs.Fits.{ReadsFit}
 
 -- ---- the least to the greatest of some bytes holds each of them
 
-widened_keeps : (range : Interval) (bs : List ℕ) (v : ℕ) → Within range v → Within (widened range bs) v
-unfolding widened
-widened_keeps range [] v h = h
-widened_keeps range (b ∷ bs) v h = widened_keeps (hull range (single b)) bs v (omega arith)
+least_keeps : (least : ℕ) (bs : List ℕ) → least_of least bs ≤ least
+unfolding least_of
+least_keeps least [] = omega arith
+least_keeps least (b ∷ bs) = let h = least_keeps least bs in omega (arith, h)
 
-widened_holds : (range : Interval) (bs : List ℕ) (i : ℕ) → i < length bs → Within (widened range bs) (get_or bs i 0)
-unfolding widened
-widened_holds range [] i h = absurd (omega arith)
-widened_holds range (b ∷ bs) zero h = widened_keeps (hull range (single b)) bs b (omega arith)
-widened_holds range (b ∷ bs) (suc i) h = widened_holds (hull range (single b)) bs i (omega arith)
+least_holds : (least : ℕ) (bs : List ℕ) (i : ℕ) → i < length bs → least_of least bs ≤ get_or bs i 0
+unfolding least_of
+least_holds least [] i h = absurd (omega arith)
+least_holds least (b ∷ bs) zero h = omega arith
+least_holds least (b ∷ bs) (suc i) h = let k = least_holds least bs i (omega arith) in omega (arith, k)
+
+greatest_keeps : (greatest : ℕ) (bs : List ℕ) → greatest ≤ greatest_of greatest bs
+unfolding greatest_of
+greatest_keeps greatest [] = omega arith
+greatest_keeps greatest (b ∷ bs) = let h = greatest_keeps greatest bs in omega (arith, h)
+
+greatest_holds : (greatest : ℕ) (bs : List ℕ) (i : ℕ) → i < length bs → get_or bs i 0 ≤ greatest_of greatest bs
+unfolding greatest_of
+greatest_holds greatest [] i h = absurd (omega arith)
+greatest_holds greatest (b ∷ bs) zero h = omega arith
+greatest_holds greatest (b ∷ bs) (suc i) h = let k = greatest_holds greatest bs i (omega arith) in omega (arith, k)
 
 span_holds : (bs : List ℕ) (i : ℕ) → i < length bs → Within (span bs) (get_or bs i 0)
 span_holds [] i h = absurd (omega arith)
-span_holds (b ∷ bs) zero h = widened_keeps (single b) bs b (omega arith)
-span_holds (b ∷ bs) (suc i) h = widened_holds (single b) bs i (omega arith)
+span_holds (b ∷ bs) zero h = (least_keeps b bs, greatest_keeps b bs)
+span_holds (b ∷ bs) (suc i) h = (least_holds b bs i (omega arith), greatest_holds b bs i (omega arith))
 
 -- ---- armed cells
 

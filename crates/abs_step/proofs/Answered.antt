@@ -1,5 +1,5 @@
 -- What an answer tells, said of what stands at the address.
-use Rattle.std.proofs.Common.{Bool, ◌≡◌, sym, subst, drop, ℕ, List, Result, Ok, Err}
+use Rattle.std.proofs.Common.{Bool, subst, drop, ℕ, List, Result, Ok, Err}
 use Rattle.std.specs.Prelude.{IfOk, IfErr}
 use Rattle.board_step.proofs.DecodedLemmas.{decoded_once}
 use Rattle.board_step.specs.Decoded.{StandsAt}

@@ -1,6 +1,6 @@
 -- How an instruction goes on that does not use the stack: what is known at its end is true of its draft, and is that of one of
 -- its ways on.
-use Rattle.std.proofs.Common.{inl, inr, ◌≡◌, ◌≢◌, ◌≤◌, ◌<◌, ◌+◌, ◌∙◌, ℕ, Bool, true, false, not, cond, List, [], ◌∷◌, ◌++◌, length, Option, Some, None, Ok, IsSomeAnd, refl, sym, ap, subst, arith}
+use Rattle.std.proofs.Common.{inl, inr, ◌≡◌, ◌≢◌, ◌+◌, ◌∙◌, ℕ, Bool, true, false, not, List, ◌++◌, length, Option, Some, None, Ok, IsSomeAnd, refl, sym, ap, subst, arith}
 use Rattle.std.specs.Prelude.{◌||◌, ◌&&◌, option_map, if◌then◌else◌}
 use Rattle.std.specs.List.{Contains}
 use Rattle.std.proofs.lemmas.Bool.{cases_Bool}
@@ -11,10 +11,9 @@ use Rattle.t_states.specs.Costs.{cost_of}
 use Rattle.t_states.specs.Io.{is_io}
 use Rattle.z80_decode.specs.Spelling.{spelling}
 use Rattle.z80_decode.specs.declared.instr.Instr.{Instr}
-use Rattle.z80_draft.specs.Draft.{Draft, draft_on, past}
-use Rattle.z80_draft.specs.Room.{accesses_in, writes_in}
+use Rattle.z80_draft.specs.Draft.{draft_on, past}
+use Rattle.z80_draft.specs.Room.{accesses_in}
 use Rattle.z80_moves.specs.Moves.{moves_of}
-use Rattle.z80_moves.specs.declared.moves.Move.{Move}
 use Rattle.z80_moves.specs.declared.moves.Test.{Test}
 use Rattle.board_step.specs.Context.{Context}
 use Rattle.board_step.specs.Reads.{outside_of}
@@ -25,11 +24,11 @@ use Rattle.abs_draft.specs.Outcomes.{after_moves, before_test, behind_test, know
 use Rattle.abs_draft.specs.declared.data_write.DataWrite.{DataWrite}
 use Rattle.abs_draft.specs.declared.known.Known.{Known}
 use Rattle.abs_laws.specs.Fits.{Fits}
-use Rattle.abs_laws.specs.Lists.{IsParted, MayRun}
+use Rattle.abs_laws.specs.Lists.{MayRun}
 use Rattle.abs_laws.proofs.Lists.{parts_of_list}
 use Rattle.abs_laws.proofs.Short.{short}
 use Rattle.abs_laws.proofs.Ways.{goes_left, goes_straight, goes_taken}
-use Rattle.abs_step.specs.Successors.{is_call, is_empty, is_pop, is_push, is_return, kind_of, next_of, nexts_of, uses_stack, way_on, ways_on, writes_of}
+use Rattle.abs_step.specs.Successors.{is_call, is_empty, is_pop, is_push, is_return, kind_of, next_of, uses_stack, way_on, ways_on, writes_of}
 use Rattle.abs_step.specs.declared.next.Next.{Next}
 use Rattle.abs_step.specs.declared.next.NextKind.{NextKind}
 use Rattle.abs_step.specs.declared.next.NextKind.TheVariants as kinds

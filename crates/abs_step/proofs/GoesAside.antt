@@ -1,6 +1,5 @@
 -- An instruction that leaves SP and the stack alone goes on as its way on says.
-use Rattle.std.proofs.Common.{◌≡◌, ◌≢◌, ◌≤◌, ◌<◌, ◌+◌, ◌∙◌, ℕ, Bool, true, false, not, List, [], ◌∷◌, ◌++◌, length, Option, Some, None, Ok, refl, sym, ap, subst, arith}
-use Rattle.std.specs.List.{All, AllZip}
+use Rattle.std.proofs.Common.{◌≡◌, ◌≢◌, ◌≤◌, ◌∙◌, ℕ, Bool, true, false, List, [], ◌∷◌, sym, ap, subst}
 use Rattle.intervals.specs.Domain.{Entry}
 use Rattle.stack_shape.specs.Shape.{HoldsShape}
 use Rattle.stack_shape.specs.declared.slot.Slot.{Slot}
@@ -9,7 +8,7 @@ use Rattle.z80_draft.specs.declared.access.Write.{Write}
 use Rattle.address_map.specs.AddressMap.{AddressMap}
 use Rattle.address_map.specs.declared.region.Region.{Region}
 use Rattle.board_step.specs.State.{State}
-use Rattle.board_step.specs.Step.{done, instr_draft, t_of}
+use Rattle.board_step.specs.Step.{done, instr_draft}
 use Rattle.board_step.specs.declared.env.Env.{Env}
 use Rattle.stack_words.specs.Board.{HasWords}
 use Rattle.stack_words.specs.Region.{Misses, used}
@@ -22,14 +21,13 @@ use Rattle.stack_words.proofs.Laid.{placed}
 use Rattle.abs_state.specs.Cell.{HoldsCells}
 use Rattle.abs_state.specs.Holds.{Holds, HoldsMode}
 use Rattle.abs_state.specs.Variables.{value_in}
-use Rattle.abs_state.specs.declared.mode.Mode.{Mode}
 use Rattle.abs_state.specs.declared.mode.Mode.TheVariants.{Unset, Nmi}
 use Rattle.abs_state.specs.declared.state.AbsState.{AbsState}
 use Rattle.abs_draft.specs.Ground.{Ground}
 use Rattle.abs_draft.specs.declared.data_write.DataWrite.{DataWrite}
 use Rattle.abs_laws.specs.Cells.{bytes_of_cells}
 use Rattle.abs_laws.specs.Fits.{state_after_writes}
-use Rattle.abs_step.specs.Contained.{Goes, IsUnder, Lies, Running, Went, seen_of}
+use Rattle.abs_step.specs.Contained.{Goes, IsUnder, Running, seen_of}
 use Rattle.abs_step.specs.Successors.{next_of, stack_set, uses_stack}
 use Rattle.abs_step.specs.declared.next.Next.{Next}
 use Rattle.abs_step.specs.declared.next.NextKind.TheVariants as kinds

@@ -1,6 +1,6 @@
 -- How PUSH, POP and EX (SP) go on, and what calls and returns leave of what is known.
-use Rattle.std.proofs.Common.{◌≡◌, ◌≢◌, ◌≤◌, ◌<◌, ◌+◌, ◌∙◌, ℕ, suc, Bool, true, false, not, List, [], ◌∷◌, ◌++◌, length, Option, Some, None, Ok, refl, sym, ap, subst, arith}
-use Rattle.std.specs.List.{AllZip, Contains}
+use Rattle.std.proofs.Common.{◌≡◌, ◌≢◌, ◌≤◌, ◌<◌, ◌+◌, ◌∙◌, ℕ, suc, Bool, true, false, List, [], ◌∷◌, ◌++◌, length, Option, None, Ok, refl, sym, ap, subst, arith}
+use Rattle.std.specs.List.{Contains}
 use Rattle.std.specs.Prelude.{◌*◌, IsSomeAnd}
 use Rattle.std.proofs.lemmas.Bool.{eqb-true}
 use Rattle.intervals.specs.Logic.{is_single}
@@ -9,9 +9,8 @@ use Rattle.z80_decode.specs.declared.kinds.Condition.{Condition}
 use Rattle.z80_decode.specs.declared.kinds.RestartAddress.{RestartAddress}
 use Rattle.abs_draft.specs.Known.{last_slot}
 use Rattle.abs_laws.specs.Lists.{IsKept, MayRun, marked}
-use Rattle.abs_laws.proofs.Ways.{goes_held, goes_left}
+use Rattle.abs_laws.proofs.Ways.{goes_held}
 use Rattle.abs_step.specs.declared.next.NextKind.{NextKind}
-use Rattle.z80_moves.specs.declared.moves.Test.{Test}
 use Rattle.z80_moves.specs.declared.moves.Test.TheVariants as tests
 use Rattle.intervals.specs.Domain.{Entry}
 use Rattle.loop_bounds.specs.Effect.{Valuation}
@@ -35,7 +34,7 @@ use Rattle.z80_moves.specs.declared.moves.Move.{Move}
 use Rattle.z80_moves.specs.declared.moves.Move.TheVariants as moves
 use Rattle.board_step.specs.Context.{Context}
 use Rattle.board_step.specs.Reads.{outside_of}
-use Rattle.board_step.specs.Step.{instr_draft, t_of}
+use Rattle.board_step.specs.Step.{instr_draft}
 use Rattle.abs_state.specs.declared.state.AbsState.{AbsState}
 use Rattle.abs_draft.specs.Ground.{Ground}
 use Rattle.abs_draft.specs.AfterMove.{after_move}
@@ -43,8 +42,8 @@ use Rattle.abs_draft.specs.Outcomes.{after_moves, before_test, behind_test, know
 use Rattle.abs_draft.specs.declared.known.Known.{Known}
 use Rattle.abs_laws.specs.Fits.{Fits, ReadsFit}
 use Rattle.abs_laws.proofs.CalmMoves.{calm_fits}
-use Rattle.abs_laws.proofs.StackMoves.{call_fits, exchange_fits, pop_fits, push_fits, return_fits}
-use Rattle.abs_step.specs.Successors.{is_empty, kind_of, next_of, way_on, ways_on, writes_of}
+use Rattle.abs_laws.proofs.StackMoves.{call_fits, exchange_fits, pop_fits, push_fits}
+use Rattle.abs_step.specs.Successors.{is_empty, next_of, way_on, ways_on, writes_of}
 use Rattle.abs_step.specs.declared.next.Next.{Next}
 use Rattle.abs_step.specs.declared.next.NextKind.TheVariants as kinds
 use Rattle.abs_step.proofs.Asides.{End, Some_of, first_way, some_of, tested_leaves}
@@ -215,7 +214,7 @@ module _ (g : Ground) (c : Context) (a : AbsState) (main inline : Bool) (entry :
   -- CALL cc that is taken
   pub call_if_end : (condition : Condition) (nn : ℕ) (kind : NextKind) (after : List ℕ) → Runs (instrs.CallIf condition nn) → Begun (instrs.CallIf condition nn) → (instr_draft c (instrs.CallIf condition nn)).taken ≡ true
       → ((n : Known) → n.readable ≡ a.armed → IsKept (Known_of (instrs.CallIf condition nn)) n → Fits g a n entry before (marked (tests.Flag condition) (first (instrs.CallIf condition nn))) words
-          → Fits g a (after_moves g inline (call_moves nn) n) entry before (drafted (outside_of c) (call_moves nn) (marked (tests.Flag condition) (first (instrs.CallIf condition nn)))) after)
+      → Fits g a (after_moves g inline (call_moves nn) n) entry before (drafted (outside_of c) (call_moves nn) (marked (tests.Flag condition) (first (instrs.CallIf condition nn)))) after)
       → Out (instrs.CallIf condition nn) kind after
   unfolding test_of before_test behind_test after_moves after_move drafted
   call_if_end condition nn kind after run start out go =
@@ -255,7 +254,7 @@ module _ (g : Ground) (c : Context) (a : AbsState) (main inline : Bool) (entry :
   -- RET cc that is taken
   pub return_if_end : (condition : Condition) (kind : NextKind) (after : List ℕ) → Runs (instrs.ReturnIf condition) → Begun (instrs.ReturnIf condition) → (instr_draft c (instrs.ReturnIf condition)).taken ≡ true
       → ((n : Known) → Fits g a n entry before (marked (tests.Flag condition) (first (instrs.ReturnIf condition))) words
-          → Fits g a (after_move g inline (moves.Pop registers.Pc) n) entry before (drafted (outside_of c) (moves.Pop registers.Pc ∷ []) (marked (tests.Flag condition) (first (instrs.ReturnIf condition)))) after)
+      → Fits g a (after_move g inline (moves.Pop registers.Pc) n) entry before (drafted (outside_of c) (moves.Pop registers.Pc ∷ []) (marked (tests.Flag condition) (first (instrs.ReturnIf condition)))) after)
       → ((kind ≢ kinds.Exit) → is_single (last_slot a.shape).pair.word ≡ true)
       → Out (instrs.ReturnIf condition) kind after
   unfolding test_of before_test behind_test after_moves after_move drafted

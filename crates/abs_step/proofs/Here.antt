@@ -1,7 +1,5 @@
 -- An instruction at a row that holds of the board: what is known before its first move, and what a way on keeps.
-use Rattle.std.proofs.Common.{◌≡◌, ◌≢◌, ◌≤◌, ◌<◌, ◌+◌, ◌∙◌, ℕ, Bool, true, false, not, List, [], ◌∷◌, ◌++◌, length, Option, Some, None, Ok, refl, sym, ap, subst, arith, inl, inr}
-use Rattle.std.specs.Prelude.{◌%◌}
-use Rattle.std.specs.List.{All, AllZip}
+use Rattle.std.proofs.Common.{◌≡◌, ℕ, List, length, Ok, refl, sym, ap, subst, arith}
 use Rattle.intervals.specs.Range.{Within}
 use Rattle.loop_bounds.specs.Effect.{change_of}
 use Rattle.loop_bounds.specs.declared.variable.Variable.{Variable}
@@ -15,37 +13,28 @@ use Rattle.board_step.specs.Decoded.{StandsAt}
 use Rattle.board_step.specs.Hardware.{hardware_of}
 use Rattle.board_step.specs.Reads.{outside_of}
 use Rattle.board_step.specs.State.{State}
-use Rattle.board_step.specs.Step.{done, instr_draft, t_of}
+use Rattle.board_step.specs.Step.{done, instr_draft}
 use Rattle.board_step.specs.declared.env.Env.{Env}
-use Rattle.stack_words.specs.Board.{HasWords}
-use Rattle.stack_words.specs.Words.{on_top}
 use Rattle.stack_words.proofs.Brought.{reaches}
 use Rattle.abs_state.specs.Cell.{HoldsCells}
 use Rattle.abs_state.specs.Fact.{HoldsFact}
 use Rattle.abs_state.specs.Holds.{Holds, HoldsMode}
 use Rattle.abs_state.specs.Pairs.{HoldsPairs}
-use Rattle.abs_state.specs.Seen.{Seen}
 use Rattle.abs_state.specs.Variables.{value_in}
 use Rattle.abs_state.specs.declared.mode.Mode.{Mode}
-use Rattle.abs_state.specs.declared.mode.Mode.TheVariants.{Unset, Nmi}
 use Rattle.abs_state.specs.declared.state.AbsState.{AbsState}
 use Rattle.abs_draft.specs.Ground.{Ground}
 use Rattle.abs_draft.specs.Outcomes.{known_before, settled}
-use Rattle.abs_draft.specs.declared.data_write.DataWrite.{DataWrite}
 use Rattle.abs_draft.specs.declared.known.Known.{Known}
 use Rattle.abs_laws.specs.Cells.{bytes_of_cells}
-use Rattle.abs_laws.specs.Fits.{Fits, Follows, IsThere, LiesIn, ReadsFit, seen_by, state_after_writes}
+use Rattle.abs_laws.specs.Fits.{Fits, Follows, IsThere, ReadsFit, seen_by, state_after_writes}
 use Rattle.abs_laws.specs.Lists.{MayRun}
 use Rattle.abs_laws.proofs.FirstKnown.{first_fits}
 use Rattle.abs_laws.proofs.Ranges.{instruction_in_range}
 use Rattle.abs_laws.proofs.Reading.{outside_fits}
 use Rattle.abs_laws.proofs.Settled.{settled_follows}
 use Rattle.abs_laws.proofs.Short.{short}
-use Rattle.abs_step.specs.Contained.{Before, Goes, Lies, Running, Through, Went, seen_of}
-use Rattle.abs_step.specs.Successors.{next_of}
-use Rattle.abs_step.specs.declared.next.Next.{Next}
-use Rattle.abs_step.specs.declared.next.NextKind.TheVariants as kinds
-use Rattle.abs_step.proofs.Asides.{End}
+use Rattle.abs_step.specs.Contained.{Before, Running, seen_of}
 use Rattle.abs_step.proofs.TameMoves.{IsOne}
 use Rattle.abs_step.proofs.Uses.{value_same}
 

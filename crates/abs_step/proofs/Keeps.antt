@@ -1,6 +1,6 @@
 -- The instruction at a row keeps what the row says.
-use Rattle.std.proofs.Common.{◌≡◌, ◌≢◌, ◌≤◌, ◌<◌, ◌∙◌, ℕ, Bool, true, false, not, cond, List, [], ◌∷◌, length, Option, Some, None, Ok, refl, sym, ap, subst, arith, inl, inr}
-use Rattle.std.specs.Prelude.{◌&&◌, Result}
+use Rattle.std.proofs.Common.{◌≡◌, ◌≢◌, ◌≤◌, ◌∙◌, ℕ, Bool, true, false, cond, List, length, Option, Some, None, Ok, refl, sym, ap, subst, inl, inr}
+use Rattle.std.specs.Prelude.{◌&&◌}
 use Rattle.std.proofs.lemmas.Bool.{cases_Bool}
 use Rattle.z80_decode.specs.Spelling.{spelling}
 use Rattle.z80_decode.specs.declared.instr.Instr.{Instr}
@@ -15,14 +15,14 @@ use Rattle.board_step.specs.Context.{Context, context_of}
 use Rattle.board_step.specs.Decoded.{StandsAt}
 use Rattle.board_step.specs.Hardware.{Hardware, hardware_of}
 use Rattle.board_step.specs.State.{State}
-use Rattle.board_step.specs.Step.{done, instr_draft}
+use Rattle.board_step.specs.Step.{instr_draft}
 use Rattle.board_step.specs.declared.env.Env.{Env}
 use Rattle.stack_words.specs.Uses.{sets_sp}
 use Rattle.stack_words.proofs.Brought.{reaches}
 use Rattle.abs_state.specs.Mode.{is_unset}
 use Rattle.abs_state.specs.declared.state.AbsState.{AbsState}
 use Rattle.abs_draft.specs.Ground.{Ground}
-use Rattle.abs_step.specs.Contained.{After, Before, Goes, IsInOrder, Keeps, Running}
+use Rattle.abs_step.specs.Contained.{After, Before, IsInOrder, Keeps, Running}
 use Rattle.abs_step.specs.Successors.{answer_by, answer_of, has_no_shape, jumps_anywhere, nexts_of, refusal, uses_stack, writes_of}
 use Rattle.abs_step.specs.declared.next.Next.{Next}
 use Rattle.abs_step.specs.declared.reason.Reason.{Reason}
@@ -31,7 +31,7 @@ use Rattle.abs_step.proofs.Here.{here}
 use Rattle.abs_step.proofs.KeepsAside.{aside_goes}
 use Rattle.abs_step.proofs.KeepsEach.{call_goes, call_if_goes, call_if_not_taken, from_interrupt_is, from_non_maskable_is, inline_call_goes, inline_call_if_goes, inline_restart_goes, restart_goes, return_if_is, return_if_not_taken, return_is, returns_goes}
 use Rattle.abs_step.proofs.KeepsStack.{exchange_goes, load_sp_goes, pop_goes, push_goes}
-use Rattle.abs_step.proofs.Scenes.{Done, Reaches, Scene, StillRuns, is_clear, is_safe, tame_rest}
+use Rattle.abs_step.proofs.Scenes.{Done, Scene, is_clear, is_safe, tame_rest}
 use Rattle.abs_step.proofs.TameInstructions.{is_apart, tame_instr}
 
 missing : (P : Type 0) → (let b : Bool = false in b) ≡ true → P
@@ -139,9 +139,9 @@ i_kept c instr n =
     elim (cases_Bool (uses_stack instr)) [
       | inl u ↦ (stack_runs c instr u).i
       | inr u ↦ elim (cases_Bool (is_apart instr)) [
-          | inl e ↦ apart_i c instr e n
-          | inr e ↦ (tame_rest c instr (tame_instr instr u e)).i
-        ]
+        | inl e ↦ apart_i c instr e n
+        | inr e ↦ (tame_rest c instr (tame_instr instr u e)).i
+      ]
     ]
 
 halt_alone : (c : Context) (instr : Instr) → (instr_draft c instr).halts ≡ true → instr ≡ instrs.Halt
@@ -149,9 +149,9 @@ halt_alone c instr h =
     elim (cases_Bool (uses_stack instr)) [
       | inl u ↦ never _ _ h (stack_runs c instr u).halts
       | inr u ↦ elim (cases_Bool (is_apart instr)) [
-          | inl e ↦ apart_halts c instr e h
-          | inr e ↦ never _ _ h (tame_rest c instr (tame_instr instr u e)).halts
-        ]
+        | inl e ↦ apart_halts c instr e h
+        | inr e ↦ never _ _ h (tame_rest c instr (tame_instr instr u e)).halts
+      ]
     ]
 
 -- ---- what an instruction keeps
@@ -202,11 +202,18 @@ pub keeps : (g : Ground) (address : ℕ) (main inline : Bool) (a : AbsState) (in
 keeps g address main inline a instr nexts fits stands e region running c hardware at is_main before order =
     let t = answered main inline a instr (nexts_of g address main inline instr a) nexts e in
     let all : (h : Hardware) → h ≡ hardware_of g.rom g.map → Before g.cells region running a (context_of h c.state c.env) → After g.cells region running a instr (writes_of g address a (Ok instr)) nexts (context_of h c.state c.env) = λ h is.
-        subst (λ k. Before g.cells region running a (context_of k c.state c.env) → After g.cells region running a instr (writes_of g address a (Ok instr)) nexts (context_of k c.state c.env)) (sym is) (λ b.
-            subst (λ ns. After g.cells region running a instr (writes_of g address a (Ok instr)) ns (here g c.state c.env)) t.same
-            (after_here g address main inline a instr region running c.state c.env (record {
-              at = at; is_main = is_main; stands = stands; before = b;
-              order = subst (λ ns. IsInOrder g region running a instr (writes_of g address a (Ok instr)) ns) (sym t.same) order;
-              fits = fits; io = t.io; set = t.set; shape = t.shape; jumps = t.jumps;
-            }))) in
+    subst (λ k. Before g.cells region running a (context_of k c.state c.env) → After g.cells region running a instr (writes_of g address a (Ok instr)) nexts (context_of k c.state c.env)) (sym is) (λ b.
+    subst (λ ns. After g.cells region running a instr (writes_of g address a (Ok instr)) ns (here g c.state c.env)) t.same
+    (after_here g address main inline a instr region running c.state c.env (record {
+      at = at;
+      is_main = is_main;
+      stands = stands;
+      before = b;
+      order = subst (λ ns. IsInOrder g region running a instr (writes_of g address a (Ok instr)) ns) (sym t.same) order;
+      fits = fits;
+      io = t.io;
+      set = t.set;
+      shape = t.shape;
+      jumps = t.jumps;
+    }))) in
     all c.hardware hardware before

@@ -1,55 +1,33 @@
 -- What an instruction keeps that does not use the stack.
-use Rattle.std.proofs.Common.{◌≡◌, ◌≢◌, ◌≤◌, ◌<◌, ◌+◌, ◌∙◌, ℕ, Bool, true, false, not, List, [], ◌∷◌, ◌++◌, length, Option, Some, None, Ok, refl, sym, ap, subst, arith, inl, inr}
-use Rattle.std.specs.List.{All, AllZip, Contains}
+use Rattle.std.proofs.Common.{◌≡◌, ℕ, Bool, true, false, not, List, Ok, refl, sym, subst, inl, inr}
+use Rattle.std.specs.List.{AllZip}
 use Rattle.std.proofs.lemmas.Bool.{cases_Bool, eqb-true}
-use Rattle.intervals.specs.Logic.{is_single}
-use Rattle.loop_bounds.specs.Effect.{change_of}
-use Rattle.loop_bounds.specs.declared.variable.Variable.{Variable}
-use Rattle.loop_bounds.specs.declared.variable.Variable.TheVariants as variables
-use Rattle.z80_decode.specs.Spelling.{spelling}
 use Rattle.z80_decode.specs.declared.instr.Instr.{Instr}
 use Rattle.z80_decode.specs.declared.instr.Instr.TheVariants as instrs
-use Rattle.z80_decode.specs.declared.operands.Pointer.{Pointer}
 use Rattle.z80_decode.specs.declared.operands.Pointer.TheVariants as pointers
-use Rattle.z80_decode.specs.declared.operands.Register16.TheVariants.{Sp}
 use Rattle.z80_decode.specs.declared.operands.Special.TheVariants as specials
-use Rattle.z80_draft.specs.Draft.{Draft, draft_on, drafted, moved, past}
-use Rattle.z80_draft.specs.declared.access.Write.{Write}
 use Rattle.z80_moves.specs.Moves.{moves_of}
 use Rattle.address_map.specs.declared.region.Region.{Region}
-use Rattle.board_step.specs.Context.{Context}
-use Rattle.board_step.specs.Reads.{outside_of}
 use Rattle.board_step.specs.State.{State}
-use Rattle.board_step.specs.Step.{done, instr_draft}
-use Rattle.board_step.specs.Trap.{some_outside}
+use Rattle.board_step.specs.Step.{instr_draft}
 use Rattle.board_step.specs.declared.env.Env.{Env}
-use Rattle.stack_words.specs.Board.{HasWords}
-use Rattle.stack_words.specs.Region.{Misses}
 use Rattle.stack_words.specs.Uses.{sets_sp}
-use Rattle.stack_words.specs.Words.{on_top}
-use Rattle.stack_words.proofs.EachInstruction.{load_sp_done}
-use Rattle.abs_state.specs.Holds.{Holds, HoldsMode}
 use Rattle.abs_state.specs.Variables.{value_in}
-use Rattle.abs_state.specs.declared.mode.Mode.{Mode}
-use Rattle.abs_state.specs.declared.mode.Mode.TheVariants.{Unset, Set, Nmi}
 use Rattle.abs_state.specs.declared.state.AbsState.{AbsState}
 use Rattle.abs_draft.specs.Ground.{Ground}
 use Rattle.abs_draft.specs.AfterMove.{after_move}
-use Rattle.abs_draft.specs.Outcomes.{after_moves, before_test, known_before, settled, test_of}
-use Rattle.abs_draft.specs.declared.data_write.DataWrite.{DataWrite}
-use Rattle.abs_draft.specs.declared.known.Known.{Known}
-use Rattle.abs_laws.specs.Fits.{Follows, IsThere, LiesIn, state_after_writes}
+use Rattle.abs_draft.specs.Outcomes.{after_moves, before_test, known_before, test_of}
+use Rattle.abs_laws.specs.Fits.{LiesIn}
 use Rattle.abs_laws.proofs.KnownWrites.{known_miss}
-use Rattle.abs_step.specs.Contained.{Goes, IsUnder, Running, SetsTop, seen_of}
-use Rattle.abs_step.specs.Successors.{jumps_anywhere, kind_of, mode_set, next_of, nexts_of, stack_set, uses_stack, ways_on, writes_of}
+use Rattle.abs_step.specs.Contained.{Running, seen_of}
+use Rattle.abs_step.specs.Successors.{kind_of, nexts_of, uses_stack, ways_on, writes_of}
 use Rattle.abs_step.specs.declared.next.NextKind.{NextKind}
 use Rattle.abs_step.specs.declared.next.NextKind.TheVariants as kinds
 use Rattle.abs_step.proofs.Asides.{End, jump_kind, straight_end, tame_end}
-use Rattle.abs_step.proofs.GoesAside.{KeepsBoard, aside_keeps, goes_on}
-use Rattle.abs_step.proofs.Here.{address_after, begun, here, holds_after, through_after}
-use Rattle.abs_step.proofs.Scenes.{Done, Scene, StillRuns, aside_inside, keeps_board, tame_rest}
-use Rattle.abs_step.proofs.TameInstructions.{IsTame, is_apart, tame_instr}
-use Rattle.abs_step.proofs.TameMoves.{IsOne}
+use Rattle.abs_step.proofs.GoesAside.{aside_keeps, goes_on}
+use Rattle.abs_step.proofs.Here.{begun, here}
+use Rattle.abs_step.proofs.Scenes.{Done, Scene, aside_inside, keeps_board}
+use Rattle.abs_step.proofs.TameInstructions.{is_apart, tame_instr}
 
 never : (P : Type 0) (b : Bool) → b ≡ true → b ≡ false → P
 never P b e f = absurd (cc)
@@ -105,9 +83,8 @@ module _ (g : Ground) (address : ℕ) (main inline : Bool) (a : AbsState) (regio
   aside_goes instr u sets x =
       let e = aside_end instr u x in
       let zip = known_zip instr kinds.Jump running.words e in
-      let inside = aside_inside region (here g s env) instr u in
-      (
+      let inside = aside_inside region (here g s env) instr u in (
         goes_on g s env a instr main region running (writes_of g address a (Ok instr)) (nexts_of g address main inline instr a) running.words sets (keeps_board g address main inline a instr region running s env x zip inside)
-        (λ set. aside_keeps g s env a instr region running u sets x.before.holds.shape x.before.under (λ not. known_miss g.map region _ _ (x.order.overwrites not) zip) (x.before.laid set)) e,
+            (λ set. aside_keeps g s env a instr region running u sets x.before.holds.shape x.before.under (λ not. known_miss g.map region _ _ (x.order.overwrites not) zip) (x.before.laid set)) e,
         record { zip = zip; inside = inside },
       )

@@ -1,59 +1,40 @@
 -- What calls and returns keep.
-use Rattle.std.proofs.Common.{◌≡◌, ◌≢◌, ◌≤◌, ◌<◌, ◌+◌, ◌∙◌, ℕ, suc, Bool, true, false, not, cond, List, [], ◌∷◌, ◌++◌, length, length-append, Option, Some, None, Ok, refl, sym, ap, subst, arith, inl, inr}
-use Rattle.std.specs.Prelude.{◌&&◌, ◌||◌, ◌==◌, ◌%◌, ◌*◌}
-use Rattle.std.specs.List.{All, AllZip, Contains}
-use Rattle.std.proofs.lemmas.Bool.{cases_Bool, eqb-true}
-use Rattle.intervals.specs.Logic.{is_single}
-use Rattle.stack_shape.specs.declared.slot.Slot.{Slot}
-use Rattle.z80_alu.specs.declared.regs.Regs.{Regs}
-use Rattle.z80_decode.specs.Kinds.{restart}
+use Rattle.std.proofs.Common.{◌≡◌, ◌≢◌, ◌+◌, ◌∙◌, ℕ, Bool, true, false, List, [], ◌∷◌, length, Ok, refl, sym, ap, subst, arith}
+use Rattle.std.specs.Prelude.{◌%◌}
 use Rattle.z80_decode.specs.Spelling.{spelling}
 use Rattle.z80_decode.specs.declared.instr.Instr.{Instr}
-use Rattle.z80_decode.specs.declared.instr.Instr.TheVariants as instrs
-use Rattle.z80_decode.specs.declared.kinds.Condition.{Condition}
-use Rattle.z80_decode.specs.declared.kinds.RestartAddress.{RestartAddress}
-use Rattle.z80_draft.specs.Draft.{Draft, draft_on, drafted, moved, past, test_holds, word_in, word_read}
-use Rattle.z80_draft.specs.Outside.{Outside}
-use Rattle.z80_moves.specs.Moves.{moves_of}
-use Rattle.z80_moves.specs.declared.moves.Move.{Move}
-use Rattle.z80_moves.specs.declared.moves.Move.TheVariants as moves
-use Rattle.z80_moves.specs.declared.moves.Test.{Test}
-use Rattle.z80_moves.specs.declared.moves.Test.TheVariants as tests
+use Rattle.z80_draft.specs.Draft.{Draft, word_in}
 use Rattle.z80_moves.specs.declared.registers.WordRegister.TheVariants as registers
 use Rattle.address_map.specs.declared.region.Region.{Region}
 use Rattle.board_step.specs.Context.{Context}
-use Rattle.board_step.specs.Reads.{outside_of}
 use Rattle.board_step.specs.Run.{is_return}
 use Rattle.board_step.specs.State.{State}
 use Rattle.board_step.specs.Step.{done, instr_draft}
 use Rattle.board_step.specs.Trap.{some_outside}
 use Rattle.board_step.specs.declared.env.Env.{Env}
-use Rattle.stack_words.specs.Board.{HasWords, IsDoneWith}
+use Rattle.stack_words.specs.Board.{HasWords}
 use Rattle.stack_words.specs.Region.{HasRoom}
 use Rattle.stack_words.specs.Uses.{is_pop, is_push, popped_into, pushed_word, sets_sp}
 use Rattle.stack_words.specs.Words.{on_top}
 use Rattle.stack_words.proofs.Brought.{reaches}
-use Rattle.stack_words.proofs.EachInstruction.{aside_done, pop_done, push_done}
-use Rattle.stack_words.proofs.WordLaws.{on_top-length, on_top-push}
+use Rattle.stack_words.proofs.EachInstruction.{pop_done, push_done}
+use Rattle.stack_words.proofs.WordLaws.{on_top-length}
 use Rattle.abs_state.specs.Cell.{HoldsCells}
 use Rattle.abs_state.specs.Holds.{Holds, HoldsMode}
 use Rattle.abs_state.specs.Variables.{value_in}
 use Rattle.abs_state.specs.declared.mode.Mode.TheVariants.{Unset, Nmi}
 use Rattle.abs_state.specs.declared.state.AbsState.{AbsState}
 use Rattle.abs_draft.specs.Ground.{Ground}
-use Rattle.abs_draft.specs.Outcomes.{after_moves, before_test, behind_test, known_before, test_of}
-use Rattle.abs_draft.specs.declared.known.Known.{Known}
 use Rattle.abs_laws.specs.Cells.{bytes_of_cells}
-use Rattle.abs_laws.specs.Fits.{Fits, LiesIn, state_after_writes}
+use Rattle.abs_laws.specs.Fits.{state_after_writes}
 use Rattle.abs_laws.proofs.Enables.{enable_stays, set_stays}
-use Rattle.abs_step.specs.Contained.{Called, Ended, Goes, IsUnder, Running, SameRegs, seen_of}
-use Rattle.abs_step.specs.Successors.{is_empty, kind_of, next_of, nexts_of, returns_nowhere, stack_set, uses_stack, writes_of}
+use Rattle.abs_step.specs.Contained.{IsUnder, Running, SameRegs, seen_of}
+use Rattle.abs_step.specs.Successors.{next_of, nexts_of, stack_set, uses_stack, writes_of}
 use Rattle.abs_step.specs.declared.next.NextKind.{NextKind}
 use Rattle.abs_step.specs.declared.next.NextKind.TheVariants as kinds
 use Rattle.abs_step.proofs.Asides.{End}
-use Rattle.abs_step.proofs.GoesAside.{KeepsBoard}
 use Rattle.abs_step.proofs.GoesStack.{as_many}
-use Rattle.abs_step.proofs.Here.{address_after, begun, here, holds_after}
+use Rattle.abs_step.proofs.Here.{address_after, here, holds_after}
 use Rattle.abs_step.proofs.KeepsAside.{known_zip}
 use Rattle.abs_step.proofs.KeepsStack.{is_set}
 use Rattle.abs_step.proofs.Scenes.{Done, Scene, all_at, keeps_board, trap_inside}
@@ -124,23 +105,22 @@ module _ (g : Ground) (address : ℕ) (main inline : Bool) (a : AbsState) (regio
       let many : length running.words ≡ length e.known.state.shape = as_many _ _ _ e.fits.shape in
       let count = on_top-length running.words running.under in
       let d = push_done (here g s env) region instr (on_top running.words running.under) h (omega (arith, room, shape, many, count)) pushes in
-      let k = kept instr kinds.Call running.words sets x e (trap_inside region (here g s env) instr x.io d.trap) spared in
-      (
-      record {
-        next = n;
-        listed = e.listed;
-        cost = e.cost;
-        stays = k.nmi;
-        goes = record {
-          set = k.set set;
-          pc = address_after g s env a instr running e.known _ running.words e.fits (e.one (λ same. absurd (cc)));
-          same = k.same;
-          enable = k.enable;
-          holds = k.holds;
-          laid = subst (λ w. HasWords g.map region (done (here g s env) instr) (w ∷ on_top running.words running.under)) word d.has;
-        };
-      },
-      record { zip = known_zip g address main inline a region running s env instr _ _ e; inside = trap_inside region (here g s env) instr x.io d.trap },
+      let k = kept instr kinds.Call running.words sets x e (trap_inside region (here g s env) instr x.io d.trap) spared in (
+        record {
+          next = n;
+          listed = e.listed;
+          cost = e.cost;
+          stays = k.nmi;
+          goes = record {
+            set = k.set set;
+            pc = address_after g s env a instr running e.known _ running.words e.fits (e.one (λ same. absurd (cc)));
+            same = k.same;
+            enable = k.enable;
+            holds = k.holds;
+            laid = subst (λ w. HasWords g.map region (done (here g s env) instr) (w ∷ on_top running.words running.under)) word d.has;
+          };
+        },
+        record { zip = known_zip g address main inline a region running s env instr _ _ e; inside = trap_inside region (here g s env) instr x.io d.trap },
       )
 
   -- a return on an empty shape
@@ -157,25 +137,24 @@ module _ (g : Ground) (address : ℕ) (main inline : Bool) (a : AbsState) (regio
       let k = kept instr kinds.Exit [] sets x e (trap_inside region (here g s env) instr x.io p.0.trap) spared in
       let r = reaches g.map d s in
       let popped : d.regs.pc ≡ low.word = ap (λ w. word_in w d) (sym into) ∙ p.1 in
-      let pc : (done (here g s env) instr).regs.pc ≡ low.word = ap (λ y. y.pc) r.regs ∙ popped in
-      (
-      record {
-        next = next_of main instr e.taken kinds.Exit e.known;
-        listed = e.listed;
-        cost = e.cost;
-        stays = k.nmi;
-        goes = record {
-          set = k.set set;
-          main = x.is_main ∙ not_main;
-          none = none;
-          rest = low.rest;
-          under = low.is ∙ ap (λ w. w ∷ low.rest) (sym pc);
-          same = k.same;
-          enable = k.enable;
-          returns = returns;
-          holds = k.holds;
-          laid = p.0.has;
-        };
-      },
-      record { zip = known_zip g address main inline a region running s env instr _ _ e; inside = trap_inside region (here g s env) instr x.io p.0.trap },
+      let pc : (done (here g s env) instr).regs.pc ≡ low.word = ap (λ y. y.pc) r.regs ∙ popped in (
+        record {
+          next = next_of main instr e.taken kinds.Exit e.known;
+          listed = e.listed;
+          cost = e.cost;
+          stays = k.nmi;
+          goes = record {
+            set = k.set set;
+            main = x.is_main ∙ not_main;
+            none = none;
+            rest = low.rest;
+            under = low.is ∙ ap (λ w. w ∷ low.rest) (sym pc);
+            same = k.same;
+            enable = k.enable;
+            returns = returns;
+            holds = k.holds;
+            laid = p.0.has;
+          };
+        },
+        record { zip = known_zip g address main inline a region running s env instr _ _ e; inside = trap_inside region (here g s env) instr x.io p.0.trap },
       )

@@ -1,30 +1,27 @@
 -- What each call and each return keeps.
-use Rattle.std.proofs.Common.{◌≡◌, ◌≢◌, ◌≤◌, ◌<◌, ◌+◌, ◌∙◌, ℕ, suc, Bool, true, false, not, cond, List, [], ◌∷◌, ◌++◌, length, length-append, Option, Some, None, Ok, refl, sym, ap, subst, arith, inl, inr}
+use Rattle.std.proofs.Common.{◌≡◌, ◌<◌, ◌+◌, ◌∙◌, ℕ, Bool, true, false, not, cond, List, [], ◌∷◌, ◌++◌, length, length-append, Ok, refl, sym, ap, subst, arith, inl, inr}
 use Rattle.std.specs.Prelude.{◌&&◌, ◌||◌, ◌==◌, ◌%◌, ◌*◌}
-use Rattle.std.specs.List.{All, AllZip, Contains}
 use Rattle.std.proofs.lemmas.Bool.{cases_Bool, eqb-true}
 use Rattle.intervals.specs.Logic.{is_single}
-use Rattle.stack_shape.specs.declared.slot.Slot.{Slot}
 use Rattle.z80_decode.specs.Kinds.{restart}
 use Rattle.z80_decode.specs.Spelling.{spelling}
 use Rattle.z80_decode.specs.declared.instr.Instr.{Instr}
 use Rattle.z80_decode.specs.declared.instr.Instr.TheVariants as instrs
 use Rattle.z80_decode.specs.declared.kinds.Condition.{Condition}
 use Rattle.z80_decode.specs.declared.kinds.RestartAddress.{RestartAddress}
-use Rattle.z80_draft.specs.Draft.{Draft, draft_on, drafted, moved, past, test_holds, word_in, word_read}
+use Rattle.z80_draft.specs.Draft.{Draft, draft_on, drafted, moved, past, test_holds, word_read}
 use Rattle.z80_moves.specs.Moves.{moves_of}
 use Rattle.z80_moves.specs.declared.moves.Move.TheVariants as moves
 use Rattle.z80_moves.specs.declared.moves.Test.TheVariants as tests
 use Rattle.z80_moves.specs.declared.registers.WordRegister.TheVariants as registers
 use Rattle.address_map.specs.declared.region.Region.{Region}
-use Rattle.board_step.specs.Context.{Context}
 use Rattle.board_step.specs.Reads.{outside_of}
 use Rattle.board_step.specs.Run.{is_return}
 use Rattle.board_step.specs.State.{State}
-use Rattle.board_step.specs.Step.{done, instr_draft}
+use Rattle.board_step.specs.Step.{instr_draft}
 use Rattle.board_step.specs.Trap.{some_outside}
 use Rattle.board_step.specs.declared.env.Env.{Env}
-use Rattle.stack_words.specs.Board.{HasWords, IsDoneWith}
+use Rattle.stack_words.specs.Board.{IsDoneWith}
 use Rattle.stack_words.specs.Region.{HasRoom}
 use Rattle.stack_words.specs.Uses.{is_aside, is_pop, is_push, popped_into, pushed_word, sets_sp}
 use Rattle.stack_words.specs.Words.{on_top}
@@ -35,27 +32,26 @@ use Rattle.abs_state.specs.declared.state.AbsState.{AbsState}
 use Rattle.abs_draft.specs.AfterMove.{after_move}
 use Rattle.abs_draft.specs.Ground.{Ground}
 use Rattle.abs_draft.specs.Known.{last_slot}
-use Rattle.abs_draft.specs.Outcomes.{after_moves, before_test, behind_test, known_before, test_of}
+use Rattle.abs_draft.specs.Outcomes.{after_moves, before_test, known_before, test_of}
 use Rattle.abs_draft.specs.declared.known.Known.{Known}
-use Rattle.abs_laws.specs.Fits.{AreInRange, Fits, LiesIn, ReadsFit}
-use Rattle.abs_laws.specs.Lists.{IsKept, marked}
+use Rattle.abs_laws.specs.Fits.{AreInRange, Fits, ReadsFit}
+use Rattle.abs_laws.specs.Lists.{marked}
 use Rattle.abs_laws.proofs.CalmMoves.{calm_fits}
 use Rattle.abs_laws.proofs.KnownWrites.{known_miss}
 use Rattle.abs_laws.proofs.Reading.{word_is_read}
 use Rattle.abs_laws.proofs.StackMoves.{pop_fits, return_fits}
-use Rattle.abs_step.specs.Contained.{Goes, Running, SameRegs, seen_of}
+use Rattle.abs_step.specs.Contained.{Running, seen_of}
 use Rattle.abs_step.specs.Successors.{is_empty, kind_of, nexts_of, returns_nowhere, uses_stack, ways_on, writes_of}
 use Rattle.abs_step.specs.declared.next.NextKind.{NextKind}
 use Rattle.abs_step.specs.declared.next.NextKind.TheVariants as kinds
 use Rattle.abs_step.proofs.Asides.{End, left_end}
 use Rattle.abs_step.proofs.GoesAside.{goes_on, misses_used}
-use Rattle.abs_step.proofs.GoesStack.{call_end, call_if_end, call_moves, called_fits, from_interrupt_end, from_non_maskable_end, inlined_fits, no_words, restart_end, return_end, return_if_end}
-use Rattle.abs_step.proofs.Here.{IsBegun, begun, here}
+use Rattle.abs_step.proofs.GoesStack.{call_end, call_if_end, called_fits, from_interrupt_end, from_non_maskable_end, inlined_fits, no_words, restart_end, return_end, return_if_end}
+use Rattle.abs_step.proofs.Here.{begun, here}
 use Rattle.abs_step.proofs.KeepsAside.{known_zip}
 use Rattle.abs_step.proofs.KeepsCalls.{Spared, called_goes, ended_goes}
-use Rattle.abs_step.proofs.KeepsStack.{Tops, and_true, has_room, is_set, jump_room, or_false, stack_goes, tops}
+use Rattle.abs_step.proofs.KeepsStack.{and_true, has_room, is_set, jump_room, or_false, stack_goes, tops}
 use Rattle.abs_step.proofs.Scenes.{Done, Scene, keeps_board}
-use Rattle.abs_step.proofs.TameMoves.{IsOne}
 
 last_or : (p q r : Bool) → (p || (q || r)) ≡ false → r ≡ false
 last_or p q r e = (or_false q r (or_false p (q || r) e).1).1
@@ -137,7 +133,7 @@ module _ (g : Ground) (address : ℕ) (main : Bool) (a : AbsState) (region : Reg
       let b = begun g address a instr region running s env x.at x.stands x.before in
       let e : End g (here g s env) a instr main kinds.Call running.entry (value_in (seen_of g.cells running.words s)) running.words (writes_of g address a (Ok instr)) (nexts_of g address main false instr a) =
       call_if_end g (here g s env) a main false running.entry (value_in (seen_of g.cells running.words s)) running.words address condition nn kinds.Call running.words b.run b.start out
-          (λ n readable kept f. called_fits g a (outside_of (here g s env)) n running.entry (value_in (seen_of g.cells running.words s)) _ running.words nn b.run.in_range.1.1.0 (omega arith) (subst (ReadsFit g (outside_of (here g s env))) (sym readable) b.run.reads) f) in
+      (λ n readable kept f. called_fits g a (outside_of (here g s env)) n running.entry (value_in (seen_of g.cells running.words s)) _ running.words nn b.run.in_range.1.1.0 (omega arith) (subst (ReadsFit g (outside_of (here g s env))) (sym readable) b.run.reads) f) in
       called_goes g address main false a region running s env instr refl refl x e out refl (call_if_spares condition nn)
 
   pub inline_call_if_goes : (condition : Condition) (nn : ℕ) → Scene_of true (instrs.CallIf condition nn) → (instr_draft (here g s env) (instrs.CallIf condition nn)).taken ≡ true → GoesAt true (instrs.CallIf condition nn)
@@ -149,7 +145,7 @@ module _ (g : Ground) (address : ℕ) (main : Bool) (a : AbsState) (region : Reg
       let word = (s.regs.pc + length (spelling instr)) % 65536 in
       let e : End g (here g s env) a instr main kinds.Jump running.entry (value_in (seen_of g.cells running.words s)) (running.words ++ word ∷ []) (writes_of g address a (Ok instr)) (nexts_of g address main true instr a) =
       call_if_end g (here g s env) a main true running.entry (value_in (seen_of g.cells running.words s)) running.words address condition nn kinds.Jump (running.words ++ word ∷ []) b.run b.start out
-          (λ n readable kept f. inlined_fits g a (outside_of (here g s env)) n running.entry (value_in (seen_of g.cells running.words s)) _ running.words nn b.run.in_range.1.1.0 (omega arith) (subst (ReadsFit g (outside_of (here g s env))) (sym readable) b.run.reads) f (ap (λ y. y.slot) kept.0) (subst (λ slots. length slots < 64) (sym kept.1) few)) in
+      (λ n readable kept f. inlined_fits g a (outside_of (here g s env)) n running.entry (value_in (seen_of g.cells running.words s)) _ running.words nn b.run.in_range.1.1.0 (omega arith) (subst (ReadsFit g (outside_of (here g s env))) (sym readable) b.run.reads) f (ap (λ y. y.slot) kept.0) (subst (λ slots. length slots < 64) (sym kept.1) few)) in
       inline_goes instr word refl refl x e out refl
 
   -- CALL cc and RET cc that are not taken: the words stay
@@ -233,8 +229,13 @@ module _ (g : Ground) (address : ℕ) (main : Bool) (a : AbsState) (region : Reg
       let k = known_before address instr a in
       let d = draft_on (past (length (spelling instr)) s.regs) in
       record {
-        sets = refl; uses = refl; kind = λ empty e. ap (λ (y : Bool). cond y kinds.Exit kinds.Jump) e;
-        nowhere = last_or (length a.shape == 64 && false) false (returns_nowhere main a.shape) x.shape; into = refl; pops = refl; returns = refl;
+        sets = refl;
+        uses = refl;
+        kind = λ empty e. ap (λ (y : Bool). cond y kinds.Exit kinds.Jump) e;
+        nowhere = last_or (length a.shape == 64 && false) false (returns_nowhere main a.shape) x.shape;
+        into = refl;
+        pops = refl;
+        returns = refl;
         spared = record { same = record { main = refl; alternate = refl; ix = refl; iy = refl; i = refl }; writes = refl };
         slot = λ rest word is small found single. return_end g (here g s env) a main inline running.entry (value_in (seen_of g.cells running.words s)) running.words address kinds.Jump rest (pop_fits g a o k running.entry (value_in (seen_of g.cells running.words s)) d inline rest word registers.Pc small found (subst (StartsWith instr) is b.start)) (λ on. eqb-true _ _ single);
         out = λ none. return_end g (here g s env) a main inline running.entry (value_in (seen_of g.cells running.words s)) running.words address kinds.Exit [] (return_fits g a o inline k running.entry (value_in (seen_of g.cells running.words s)) d (word_is_read g o a.armed false s.regs.sp b.run.reads) (subst (StartsWith instr) none b.start)) (λ on. absurd (on refl));
@@ -249,8 +250,13 @@ module _ (g : Ground) (address : ℕ) (main : Bool) (a : AbsState) (region : Reg
       let k = known_before address instr a in
       let d = draft_on (past (length (spelling instr)) s.regs) in
       record {
-        sets = refl; uses = refl; kind = λ empty e. ap (λ (y : Bool). cond y kinds.Exit kinds.Jump) e;
-        nowhere = last_or (length a.shape == 64 && false) false (returns_nowhere main a.shape) x.shape; into = refl; pops = refl; returns = refl;
+        sets = refl;
+        uses = refl;
+        kind = λ empty e. ap (λ (y : Bool). cond y kinds.Exit kinds.Jump) e;
+        nowhere = last_or (length a.shape == 64 && false) false (returns_nowhere main a.shape) x.shape;
+        into = refl;
+        pops = refl;
+        returns = refl;
         spared = record { same = record { main = refl; alternate = refl; ix = refl; iy = refl; i = refl }; writes = refl };
         slot = λ rest word is small found single. from_interrupt_end g (here g s env) a main inline running.entry (value_in (seen_of g.cells running.words s)) running.words address kinds.Jump rest (pop_fits g a o k running.entry (value_in (seen_of g.cells running.words s)) d inline rest word registers.Pc small found (subst (StartsWith instr) is b.start)) (λ on. eqb-true _ _ single);
         out = λ none. from_interrupt_end g (here g s env) a main inline running.entry (value_in (seen_of g.cells running.words s)) running.words address kinds.Exit [] (return_fits g a o inline k running.entry (value_in (seen_of g.cells running.words s)) d (word_is_read g o a.armed false s.regs.sp b.run.reads) (subst (StartsWith instr) none b.start)) (λ on. absurd (on refl));
@@ -273,8 +279,13 @@ module _ (g : Ground) (address : ℕ) (main : Bool) (a : AbsState) (region : Reg
       let k = known_before address instr a in
       let d = draft_on (past (length (spelling instr)) s.regs) in
       record {
-        sets = refl; uses = refl; kind = λ empty e. ap (λ (y : Bool). cond y kinds.Exit kinds.Jump) e;
-        nowhere = last_or (length a.shape == 64 && false) false (returns_nowhere main a.shape) x.shape; into = refl; pops = refl; returns = refl;
+        sets = refl;
+        uses = refl;
+        kind = λ empty e. ap (λ (y : Bool). cond y kinds.Exit kinds.Jump) e;
+        nowhere = last_or (length a.shape == 64 && false) false (returns_nowhere main a.shape) x.shape;
+        into = refl;
+        pops = refl;
+        returns = refl;
         spared = record { same = record { main = refl; alternate = refl; ix = refl; iy = refl; i = refl }; writes = refl };
         slot = λ rest word is small found single. from_non_maskable_end g (here g s env) a main inline running.entry (value_in (seen_of g.cells running.words s)) running.words address kinds.Jump rest (restored inline k d rest refl b.run.reads (pop_fits g a o k running.entry (value_in (seen_of g.cells running.words s)) d inline rest word registers.Pc small found (subst (StartsWith instr) is b.start))) (λ on. eqb-true _ _ single);
         out = λ none. from_non_maskable_end g (here g s env) a main inline running.entry (value_in (seen_of g.cells running.words s)) running.words address kinds.Exit [] (restored inline k d [] refl b.run.reads (return_fits g a o inline k running.entry (value_in (seen_of g.cells running.words s)) d (word_is_read g o a.armed false s.regs.sp b.run.reads) (subst (StartsWith instr) none b.start))) (λ on. absurd (on refl));
@@ -294,8 +305,13 @@ module _ (g : Ground) (address : ℕ) (main : Bool) (a : AbsState) (region : Reg
       let b = begun g address a instr region running s env x.at x.stands x.before in
       let d = marked (tests.Flag condition) (draft_on (past (length (spelling instr)) s.regs)) in
       record {
-        sets = refl; uses = refl; kind = λ empty e. ap (λ (y : Bool). cond y kinds.Exit kinds.Jump) e;
-        nowhere = last_or (length a.shape == 64 && false) false (returns_nowhere main a.shape) x.shape; into = refl; pops = taken; returns = taken;
+        sets = refl;
+        uses = refl;
+        kind = λ empty e. ap (λ (y : Bool). cond y kinds.Exit kinds.Jump) e;
+        nowhere = last_or (length a.shape == 64 && false) false (returns_nowhere main a.shape) x.shape;
+        into = refl;
+        pops = taken;
+        returns = taken;
         spared = return_if_spares condition;
         slot = λ rest word is small found single. return_if_end g (here g s env) a main inline running.entry (value_in (seen_of g.cells running.words s)) running.words address condition kinds.Jump rest b.run b.start taken
             (λ n f. pop_fits g a o n running.entry (value_in (seen_of g.cells running.words s)) d inline rest word registers.Pc small found (subst (λ ws. Fits g a n running.entry (value_in (seen_of g.cells running.words s)) d ws) is f)) (λ on. single);

@@ -1,14 +1,11 @@
 -- What LD SP, PUSH, POP and EX (SP) keep.
-use Rattle.std.proofs.Common.{◌≡◌, ◌≢◌, ◌≤◌, ◌<◌, ◌+◌, ◌∙◌, ℕ, Bool, true, false, not, List, [], ◌∷◌, ◌++◌, length, length-append, Option, Some, None, Ok, refl, sym, ap, subst, arith, inl, inr}
+use Rattle.std.proofs.Common.{◌≡◌, ◌≢◌, ◌≤◌, ◌<◌, ◌+◌, ◌∙◌, ℕ, Bool, true, false, List, [], ◌∷◌, ◌++◌, length, length-append, Ok, refl, sym, ap, subst, arith}
 use Rattle.std.specs.Prelude.{◌&&◌, ◌||◌, ◌==◌}
-use Rattle.std.specs.List.{All, AllZip, Contains}
-use Rattle.std.proofs.lemmas.Bool.{cases_Bool, eqb-true}
 use Rattle.std.proofs.lemmas.Grind.{common_steps}
 use Rattle.loop_bounds.specs.Effect.{Valuation, change_of}
 use Rattle.loop_bounds.specs.declared.effect.Effect.{Effect}
 use Rattle.loop_bounds.specs.declared.variable.Variable.{Variable}
 use Rattle.loop_bounds.specs.declared.variable.Variable.TheVariants as variables
-use Rattle.stack_shape.specs.declared.slot.Slot.{Slot}
 use Rattle.z80_decode.specs.Spelling.{spelling}
 use Rattle.z80_decode.specs.declared.instr.Instr.{Instr}
 use Rattle.z80_decode.specs.declared.instr.Instr.TheVariants as instrs
@@ -18,15 +15,12 @@ use Rattle.z80_decode.specs.declared.operands.Register16.TheVariants.{Sp}
 use Rattle.z80_decode.specs.declared.operands.StackPair.{StackPair}
 use Rattle.z80_decode.specs.declared.operands.StackPair.TheVariants as stack_pairs
 use Rattle.z80_alu.specs.declared.regs.Regs.{Regs}
-use Rattle.z80_draft.specs.Draft.{Draft, draft_on, past, word_in, word_read}
-use Rattle.z80_moves.specs.Moves.{moves_of}
+use Rattle.z80_draft.specs.Draft.{draft_on, past, word_in, word_read}
 use Rattle.z80_moves.specs.Operands.{pointer_register, stack_register}
 use Rattle.address_map.specs.declared.region.Region.{Region}
-use Rattle.board_step.specs.Context.{Context}
 use Rattle.board_step.specs.Reads.{outside_of}
 use Rattle.board_step.specs.State.{State}
-use Rattle.board_step.specs.Step.{done, instr_draft}
-use Rattle.board_step.specs.Trap.{some_outside}
+use Rattle.board_step.specs.Step.{done}
 use Rattle.board_step.specs.declared.env.Env.{Env}
 use Rattle.stack_words.specs.Board.{HasWords, IsDoneWith}
 use Rattle.stack_words.specs.Region.{HasRoom}
@@ -45,17 +39,15 @@ use Rattle.abs_state.specs.declared.mode.Mode.TheVariants.{Unset, Set, Nmi}
 use Rattle.abs_state.specs.declared.state.AbsState.{AbsState}
 use Rattle.abs_draft.specs.Ground.{Ground}
 use Rattle.abs_draft.specs.Outcomes.{known_before, settled}
-use Rattle.abs_draft.specs.declared.data_write.DataWrite.{DataWrite}
-use Rattle.abs_draft.specs.declared.known.Known.{Known}
 use Rattle.abs_laws.specs.Cells.{bytes_of_cells}
-use Rattle.abs_laws.specs.Fits.{Fits, Follows, IsThere, LiesIn, state_after_writes}
+use Rattle.abs_laws.specs.Fits.{Fits, Follows, IsThere, state_after_writes}
 use Rattle.abs_laws.proofs.Reading.{word_is_read}
-use Rattle.abs_step.specs.Contained.{Goes, IsUnder, Running, SetsTop, seen_of}
-use Rattle.abs_step.specs.Successors.{has_no_shape, is_empty, is_push, kind_of, mode_set, next_of, nexts_of, stack_set, uses_stack, writes_of}
+use Rattle.abs_step.specs.Contained.{IsUnder, Running, seen_of}
+use Rattle.abs_step.specs.Successors.{is_empty, mode_set, next_of, nexts_of, stack_set, uses_stack, writes_of}
 use Rattle.abs_step.specs.declared.next.NextKind.{NextKind}
 use Rattle.abs_step.specs.declared.next.NextKind.TheVariants as kinds
 use Rattle.abs_step.proofs.Asides.{End}
-use Rattle.abs_step.proofs.GoesAside.{KeepsBoard, goes_on}
+use Rattle.abs_step.proofs.GoesAside.{goes_on}
 use Rattle.abs_step.proofs.GoesStack.{EndsIn, as_many, ends_in, exchange_end, pop_end, push_end}
 use Rattle.abs_step.proofs.Here.{IsBegun, address_after, begun, here, holds_after, through_after}
 use Rattle.abs_step.proofs.KeepsAside.{aside_end, known_zip}
@@ -109,22 +101,21 @@ module _ (g : Ground) (address : ℕ) (main inline : Bool) (a : AbsState) (regio
       let h = holds_after g s env a instr running e.known _ running.words f mode cells in
       let under : running.under ≡ [] = none_under running.main running.under (x.is_main ∙ is_main) x.before.under in
       let held : Holds (record e.known.state { mode = mode_set e.known.state.mode; shape = [] }) g.cells running.entry (seen_of g.cells [] new) =
-      record { mode = set_holds e.known.state.mode new.enable new.line new.latched h.mode; cells_hold = h.cells_hold; pairs = h.pairs; flag = h.flag; shape = tt } in
-      (
-      record {
-        next = next_of main instr e.taken kinds.Jump e.known;
-        listed = e.listed;
-        cost = e.cost;
-        stays = λ n. ap (λ (y : AbsState). y.mode) set ∙ set_nmi e.known.state.mode (f.mode ∙ (ap (λ ws. (state_after_writes g ws a).mode) e.writes ∙ k.nmi n));
-        goes = record {
-          words = [];
-          pc = address_after g s env a instr running e.known _ running.words f (e.one (λ same. absurd (cc)));
-          holds = subst (λ y. Holds y g.cells running.entry (seen_of g.cells [] new)) (sym set) held;
-          laid = λ is_set. subst (λ ws. HasWords g.map region new ws) (sym under) (load_sp_done (here g s env) region x.before.is_region x.before.numbers.work.size);
-          through = by_registers (settled e.known.state e.known.effect) (value_in (seen_of g.cells running.words s)) (seen_of g.cells running.words new) (seen_of g.cells [] new) (length running.words) refl (through_after g s env a instr running e.known running.words f);
-        };
-      },
-      record { zip = zip; inside = aside_inside region (here g s env) instr refl },
+      record { mode = set_holds e.known.state.mode new.enable new.line new.latched h.mode; cells_hold = h.cells_hold; pairs = h.pairs; flag = h.flag; shape = tt } in (
+        record {
+          next = next_of main instr e.taken kinds.Jump e.known;
+          listed = e.listed;
+          cost = e.cost;
+          stays = λ n. ap (λ (y : AbsState). y.mode) set ∙ set_nmi e.known.state.mode (f.mode ∙ (ap (λ ws. (state_after_writes g ws a).mode) e.writes ∙ k.nmi n));
+          goes = record {
+            words = [];
+            pc = address_after g s env a instr running e.known _ running.words f (e.one (λ same. absurd (cc)));
+            holds = subst (λ y. Holds y g.cells running.entry (seen_of g.cells [] new)) (sym set) held;
+            laid = λ is_set. subst (λ ws. HasWords g.map region new ws) (sym under) (load_sp_done (here g s env) region x.before.is_region x.before.numbers.work.size);
+            through = by_registers (settled e.known.state e.known.effect) (value_in (seen_of g.cells running.words s)) (seen_of g.cells running.words new) (seen_of g.cells [] new) (length running.words) refl (through_after g s env a instr running e.known running.words f);
+          };
+        },
+        record { zip = zip; inside = aside_inside region (here g s env) instr refl },
       )
 
 -- ---- PUSH, POP and EX (SP)

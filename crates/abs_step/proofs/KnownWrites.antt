@@ -1,7 +1,7 @@
 -- What moves make of the known data writes: those that make none leave them; and whether a call is inline matters to its push
 -- alone.
-use Rattle.std.proofs.Common.{◌≡◌, ◌∙◌, ℕ, ◌+◌, Bool, true, false, not, cond, List, [], ◌∷◌, length, Option, Some, None, refl, sym, ap, arith}
-use Rattle.std.specs.Prelude.{nat_lt, option_map}
+use Rattle.std.proofs.Common.{◌≡◌, ◌∙◌, Bool, true, false, not, cond, List, [], ◌∷◌, length, refl, ap, arith}
+use Rattle.std.specs.Prelude.{nat_lt}
 use Rattle.std.proofs.lemmas.Bool.{and_parts}
 use Rattle.intervals.specs.Range.{Interval}
 use Rattle.intervals.specs.declared.pair.Pair.{Pair}
@@ -15,12 +15,10 @@ use Rattle.z80_moves.specs.declared.registers.WordRegister.{WordRegister}
 use Rattle.z80_moves.specs.declared.registers.WordRegister.TheVariants as words
 use Rattle.z80_moves.specs.declared.moves.Move.{Move}
 use Rattle.z80_moves.specs.declared.moves.Move.TheVariants.{SetByte, SetWord, CopyByte, CopyWord, Displace, ReadByte, WriteByte, ReadWord, WriteWord, Push, Pop, ExchangeStack, Arithmetic, Increment, Decrement, CountDown, Shift, AddWord, AddCarryWord, SubtractCarryWord, IncrementWord, DecrementWord, SetBit, ResetBit}
-use Rattle.z80_moves.specs.declared.moves.Test.{Test}
-use Rattle.z80_moves.specs.declared.moves.Test.TheVariants as tests
 use Rattle.abs_draft.specs.AfterMove.{after_move, operated}
 use Rattle.abs_draft.specs.Ground.{Ground}
-use Rattle.abs_draft.specs.Known.{put_byte, put_pair, push_pair, with_shape, with_slot_parts}
-use Rattle.abs_draft.specs.Outcomes.{after_moves, tested}
+use Rattle.abs_draft.specs.Known.{put_byte, put_pair, push_pair}
+use Rattle.abs_draft.specs.Outcomes.{after_moves}
 use Rattle.abs_draft.specs.declared.known.Known.{Known}
 use Rattle.abs_step.proofs.TameMoves.{are_tame, is_wild, not_wild}
 

@@ -1,5 +1,5 @@
 -- An instruction without a test has one cost.
-use Rattle.std.proofs.Common.{◌≡◌, ℕ, Bool, true, false, Option, Some, None, refl}
+use Rattle.std.proofs.Common.{◌≡◌, Bool, true, false, Some, None, refl}
 use Rattle.t_states.specs.Costs.{cost_of}
 use Rattle.t_states.specs.Io.{is_io}
 use Rattle.z80_decode.specs.declared.instr.Instr.{Instr}

@@ -1,6 +1,6 @@
 -- A row at an instruction, and the board that it holds of: what its data writes leave, and no trap.
-use Rattle.std.proofs.Common.{◌≡◌, ◌≢◌, ◌≤◌, ◌<◌, ◌+◌, ◌∙◌, ℕ, Bool, true, false, not, cond, List, [], ◌∷◌, ◌++◌, length, Option, Some, None, Ok, refl, sym, ap, subst, arith, inl, inr}
-use Rattle.std.specs.Prelude.{◌&&◌, ◌||◌}
+use Rattle.std.proofs.Common.{◌≡◌, ◌≤◌, ◌+◌, ◌∙◌, ℕ, Bool, true, false, cond, List, length, Option, Some, None, Ok, refl, ap, subst, arith, inl, inr}
+use Rattle.std.specs.Prelude.{◌&&◌}
 use Rattle.std.specs.List.{All, AllZip, Contains}
 use Rattle.std.proofs.lemmas.Bool.{cases_Bool}
 use Rattle.t_states.specs.Io.{is_io}
@@ -8,12 +8,10 @@ use Rattle.z80_decode.specs.Spelling.{spelling}
 use Rattle.z80_decode.specs.declared.instr.Instr.{Instr}
 use Rattle.z80_decode.specs.declared.instr.Instr.TheVariants as instrs
 use Rattle.z80_decode.specs.declared.operands.Special.TheVariants as specials
-use Rattle.z80_draft.specs.Draft.{Draft, draft_on, drafted, moved, past, test_holds}
+use Rattle.z80_draft.specs.Draft.{Draft, draft_on, drafted, past, test_holds}
 use Rattle.z80_draft.specs.Room.{accesses_in}
-use Rattle.z80_draft.specs.declared.access.Write.{Write}
 use Rattle.z80_moves.specs.Moves.{moves_of}
 use Rattle.z80_moves.specs.declared.moves.Test.{Test}
-use Rattle.address_map.specs.AddressMap.{AddressMap}
 use Rattle.address_map.specs.declared.region.Region.{Region}
 use Rattle.board_step.specs.Context.{Context}
 use Rattle.board_step.specs.Decoded.{StandsAt}
@@ -24,15 +22,12 @@ use Rattle.board_step.specs.Trap.{is_rom, is_unmapped, some_outside, some_write,
 use Rattle.board_step.specs.declared.env.Env.{Env}
 use Rattle.board_step.specs.declared.profile.Trap.{Trap}
 use Rattle.board_step.specs.declared.profile.Trap.TheVariants.{IoSpace}
-use Rattle.stack_words.proofs.Brought.{reaches}
 use Rattle.stack_words.proofs.CalmMoves.{moves_keep_accesses}
 use Rattle.stack_words.proofs.Traps.{no_trap}
 use Rattle.abs_state.specs.Mode.{is_unset}
-use Rattle.abs_state.specs.Variables.{value_in}
 use Rattle.abs_state.specs.declared.state.AbsState.{AbsState}
 use Rattle.abs_draft.specs.Ground.{Ground}
 use Rattle.abs_draft.specs.Outcomes.{before_test, behind_test, test_of}
-use Rattle.abs_draft.specs.declared.data_write.DataWrite.{DataWrite}
 use Rattle.abs_laws.specs.Fits.{LiesIn}
 use Rattle.abs_laws.specs.Lists.{marked}
 use Rattle.abs_laws.specs.Writes.{NeverEnables, TakesData}
@@ -40,11 +35,8 @@ use Rattle.abs_laws.proofs.CellsAfter.{cells_hold}
 use Rattle.abs_laws.proofs.Enables.{enable_stays_clear, mode_holds, nmi_stays, unset_stays}
 use Rattle.abs_laws.proofs.KnownWrites.{known_taken}
 use Rattle.abs_laws.proofs.Lists.{parts_of_list, with_test, without_test}
-use Rattle.abs_step.specs.Contained.{Before, Goes, IsInOrder, Running, seen_of}
+use Rattle.abs_step.specs.Contained.{Before, Goes, IsInOrder, Running}
 use Rattle.abs_step.specs.Successors.{has_no_shape, jumps_anywhere, nexts_of, uses_stack, writes_of}
-use Rattle.abs_step.specs.declared.next.Next.{Next}
-use Rattle.abs_step.specs.declared.next.NextKind.{NextKind}
-use Rattle.abs_step.proofs.Asides.{End}
 use Rattle.abs_step.proofs.GoesAside.{KeepsBoard}
 use Rattle.abs_step.proofs.Here.{here}
 use Rattle.abs_step.proofs.TameInstructions.{IsTame, is_apart, tame_instr}
@@ -157,10 +149,13 @@ tame_rest c instr t = by (test_of (moves_of instr)) refl
   where
     begin : Draft
     begin = draft_on (past (length (spelling instr)) c.state.regs)
+
     P : Draft → Type 0
     P d = (d.regs.i ≡ c.state.regs.i) × (d.halts ≡ false)
+
     first : Rest begin (drafted (outside_of c) (before_test (moves_of instr)) begin)
     first = moves_rest (outside_of c) (before_test (moves_of instr)) begin t.before
+
     by : (o : Option Test) → test_of (moves_of instr) ≡ o → StillRuns c instr
     by None is =
         let e = without_test (outside_of c) (moves_of instr) begin is in

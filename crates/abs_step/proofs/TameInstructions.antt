@@ -1,5 +1,5 @@
 -- The moves of an instruction that does not use the stack are tame before its test and behind it.
-use Rattle.std.proofs.Common.{◌≡◌, ◌≤◌, ◌+◌, ◌∙◌, ℕ, Bool, true, false, not, ◌&&◌, List, [], ◌∷◌, refl, ap, arith}
+use Rattle.std.proofs.Common.{◌≡◌, ◌∙◌, Bool, true, false, not, List, refl, ap}
 use Rattle.std.proofs.lemmas.Bool.{and_from}
 use Rattle.z80_decode.specs.declared.instr.Instr.{Instr}
 use Rattle.z80_decode.specs.declared.instr.Instr.TheVariants as instrs
@@ -16,7 +16,6 @@ use Rattle.z80_decode.specs.declared.operands.Register16.TheVariants as words
 use Rattle.z80_decode.specs.declared.operands.Register8.{Register8}
 use Rattle.z80_decode.specs.declared.operands.Register8.TheVariants as registers
 use Rattle.z80_decode.specs.declared.operands.Special.TheVariants as specials
-use Rattle.z80_draft.specs.Room.{writes_by, writes_in}
 use Rattle.z80_moves.specs.Moves.{at_memory, changing, moves_of, reading}
 use Rattle.z80_moves.specs.Operands.{byte_register, worked_at}
 use Rattle.z80_moves.specs.declared.moves.Move.{Move}
@@ -24,7 +23,7 @@ use Rattle.abs_draft.specs.Outcomes.{before_test, behind_test}
 use Rattle.abs_step.specs.Successors.{uses_stack}
 use Rattle.abs_step.proofs.TameMoves.{are_tame, is_i, is_wild, tame}
 
--- the moves of an instruction: at most two data writes, and tame before the test and behind it
+-- the moves of an instruction are tame before the test and behind it
 pub record IsTame (instr : Instr) : Type 0 where
   pub before : are_tame (before_test (moves_of instr)) ≡ true
   pub behind : are_tame (behind_test (moves_of instr)) ≡ true
@@ -149,54 +148,3 @@ tame_instr (instrs.DecrementPair words.Ix) u a = told (instrs.DecrementPair word
 tame_instr (instrs.IncrementPair words.Iy) u a = told (instrs.IncrementPair words.Iy) refl
 tame_instr (instrs.DecrementPair words.Iy) u a = told (instrs.DecrementPair words.Iy) refl
 tame_instr _ u a = record { before = refl; behind = refl }
-
--- ---- data writes
-
-memory_writes : (m : Memory) (then : List Move) → writes_in (at_memory m then) ≡ writes_in then
-memory_writes memories.AtHl then = omega arith
-memory_writes (memories.At indexes.Ix d) then = omega arith
-memory_writes (memories.At indexes.Iy d) then = omega arith
-
-at_most : (m : Memory) (then : List Move) → writes_in then ≤ 2 → writes_in (at_memory m then) ≤ 2
-at_most m then h = omega (arith, memory_writes m then)
-
-reading_writes : (p : Place) (move : Move) → writes_by move ≡ 0 → writes_in (reading p move) ≤ 2
-reading_writes (places.Register r) move h = omega arith
-reading_writes (places.Memory m) move h = at_most m _ (omega arith)
-
-changing_writes : (p : Place) (move : Move) → writes_by move ≡ 0 → writes_in (changing p move) ≤ 2
-changing_writes (places.Register r) move h = omega arith
-changing_writes (places.Memory m) move h = at_most m _ (omega arith)
-
--- an instruction makes at most two
-pub few_writes : (instr : Instr) → writes_in (moves_of instr) ≤ 2
-few_writes (instrs.LoadRegister r (places.Register s)) = omega arith
-few_writes (instrs.LoadRegister r (places.Memory m)) = at_most m _ (omega arith)
-few_writes (instrs.LoadImmediate (places.Register r) n) = omega arith
-few_writes (instrs.LoadImmediate (places.Memory m) n) = at_most m _ (omega arith)
-few_writes (instrs.Store m r) = at_most m _ (omega arith)
-few_writes (instrs.LoadA addresses.Bc) = omega arith
-few_writes (instrs.LoadA addresses.De) = omega arith
-few_writes (instrs.LoadA (addresses.Direct nn)) = omega arith
-few_writes (instrs.StoreA addresses.Bc) = omega arith
-few_writes (instrs.StoreA addresses.De) = omega arith
-few_writes (instrs.StoreA (addresses.Direct nn)) = omega arith
-few_writes (instrs.StoreASpecial specials.I) = omega arith
-few_writes (instrs.StoreASpecial specials.R) = omega arith
-few_writes (instrs.BlockLoad blocks.Increment) = omega arith
-few_writes (instrs.BlockCompare blocks.Increment) = omega arith
-few_writes (instrs.BlockLoad blocks.Decrement) = omega arith
-few_writes (instrs.BlockCompare blocks.Decrement) = omega arith
-few_writes (instrs.BlockLoad blocks.IncrementRepeat) = omega arith
-few_writes (instrs.BlockCompare blocks.IncrementRepeat) = omega arith
-few_writes (instrs.BlockLoad blocks.DecrementRepeat) = omega arith
-few_writes (instrs.BlockCompare blocks.DecrementRepeat) = omega arith
-few_writes (instrs.Arithmetic kind (operands.Place s)) = reading_writes s _ refl
-few_writes (instrs.Arithmetic kind (operands.Immediate n)) = omega arith
-few_writes (instrs.Increment p) = changing_writes p _ refl
-few_writes (instrs.Decrement p) = changing_writes p _ refl
-few_writes (instrs.Shift kind p) = changing_writes p _ refl
-few_writes (instrs.SetBit b p) = changing_writes p _ refl
-few_writes (instrs.ResetBit b p) = changing_writes p _ refl
-few_writes (instrs.TestBit b p) = reading_writes p _ refl
-few_writes _ = omega arith

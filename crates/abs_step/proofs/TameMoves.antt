@@ -1,10 +1,10 @@
 -- Tame moves: they make no access of the stack, and neither tell an outcome, halt nor write I; and the program counter, where
 -- one address is known of it, goes to one.
-use Rattle.std.proofs.Common.{◌≡◌, ◌∙◌, ℕ, Bool, true, false, not, ◌&&◌, ◌||◌, List, [], ◌∷◌, Option, Some, None, refl, sym, ap, subst, arith}
-use Rattle.std.specs.Prelude.{◌==◌, ◌+◌, ◌/◌, nat_lt, length}
+use Rattle.std.proofs.Common.{◌≡◌, ◌∙◌, ℕ, Bool, true, false, not, ◌&&◌, List, [], ◌∷◌, None, refl, sym, ap, subst, arith}
+use Rattle.std.specs.Prelude.{◌==◌, ◌/◌, nat_lt, length}
 use Rattle.std.proofs.lemmas.Grind.{common_steps}
 use Rattle.std.proofs.Math.Bool.{cond}
-use Rattle.std.proofs.lemmas.Bool.{and_parts, eqb-true}
+use Rattle.std.proofs.lemmas.Bool.{and_parts}
 use Rattle.intervals.specs.Range.{Interval}
 use Rattle.intervals.specs.Sums.{displacement, window}
 use Rattle.intervals.specs.declared.pair.Pair.{Pair}
@@ -19,7 +19,7 @@ use Rattle.z80_moves.specs.declared.registers.ByteRegister.TheVariants as bytes
 use Rattle.z80_moves.specs.declared.registers.WordRegister.{WordRegister}
 use Rattle.z80_moves.specs.declared.registers.WordRegister.TheVariants as words
 use Rattle.z80_moves.specs.declared.moves.Move.{Move}
-use Rattle.z80_moves.specs.declared.moves.Move.TheVariants.{SetByte, SetWord, CopyByte, CopyWord, Displace, ReadByte, WriteByte, ReadWord, WriteWord, Push, Pop, ExchangeStack, Arithmetic, Increment, Decrement, CountDown, Shift, RotateA, DecimalAdjust, Complement, Negate, AddWord, AddCarryWord, SubtractCarryWord, IncrementWord, DecrementWord, SetBit, ResetBit, RotateDigitsLeft, RotateDigitsRight, LoadASpecial, Halt, OnlyIf}
+use Rattle.z80_moves.specs.declared.moves.Move.TheVariants.{SetByte, SetWord, CopyByte, CopyWord, Displace, ReadByte, ReadWord, Push, Pop, ExchangeStack, Arithmetic, Increment, Decrement, CountDown, Shift, AddWord, AddCarryWord, SubtractCarryWord, IncrementWord, DecrementWord, SetBit, ResetBit, Halt, OnlyIf}
 use Rattle.abs_draft.specs.AfterMove.{after_move, operated}
 use Rattle.abs_draft.specs.Ground.{Ground}
 use Rattle.abs_draft.specs.Known.{push_pair, put_byte, put_pair}

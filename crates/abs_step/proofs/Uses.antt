@@ -1,10 +1,8 @@
 -- What an instruction that does not use the stack is not; and the values of variables, by the registers and the words.
-use Rattle.std.proofs.Common.{◌≡◌, ◌≢◌, ℕ, Bool, true, false, List, [], refl, ap}
+use Rattle.std.proofs.Common.{◌≡◌, ℕ, Bool, true, false, List, refl, ap}
 use Rattle.std.specs.Prelude.{slice_index}
-use Rattle.loop_bounds.specs.declared.variable.Part.{Part}
 use Rattle.loop_bounds.specs.declared.variable.Variable.{Variable}
 use Rattle.loop_bounds.specs.declared.variable.Variable.TheVariants as variables
-use Rattle.z80_alu.specs.declared.regs.Regs.{Regs}
 use Rattle.z80_decode.specs.declared.instr.Instr.{Instr}
 use Rattle.z80_decode.specs.declared.instr.Instr.TheVariants as instrs
 use Rattle.z80_decode.specs.declared.operands.Register16.TheVariants as words
