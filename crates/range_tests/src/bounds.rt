@@ -290,8 +290,18 @@ const B_IS_FIVE: Bounds = ((5, 5), (0, 255));
 
 /// What a step leaves, what is known before it, a fact, and whether the fact holds behind the step by itself.
 const VANISHING: &[(Lefts, Bounds, Sum, bool)] = &[
-    ((Left::Constant(5), Left::OldC, Left::OldBc), BYTES, FIVE, true),
-    ((Left::Constant(4), Left::OldC, Left::OldBc), BYTES, FIVE, false),
+    (
+        (Left::Constant(5), Left::OldC, Left::OldBc),
+        BYTES,
+        FIVE,
+        true,
+    ),
+    (
+        (Left::Constant(4), Left::OldC, Left::OldBc),
+        BYTES,
+        FIVE,
+        false,
+    ),
     (UNKNOWN, BYTES, FIVE, false),
     (MOVES, BYTES, APART, true),
     (KEEPS, BYTES, APART, false),
@@ -316,7 +326,13 @@ const BECOMING: &[(Lefts, Bounds, Sum, Sum, bool)] = &[
     (LOWERS, BYTES, FIVE, MINUS_SIX, true),
     (LOWERS, BYTES, FIVE, FIVE, false),
     (KEEPS, BYTES, FIVE, SIX, false),
-    ((Left::OldC, Left::OldB, Left::OldBc), BYTES, APART, APART, true),
+    (
+        (Left::OldC, Left::OldB, Left::OldBc),
+        BYTES,
+        APART,
+        APART,
+        true,
+    ),
     (UNKNOWN, BYTES, APART, APART, false),
     // B - C where B is left 5 is 5 - C, which is the negation of C - 5, and no longer B - C.
     (KEEPS, B_IS_FIVE, APART, C_IS_FIVE, true),

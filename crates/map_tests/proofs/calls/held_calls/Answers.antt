@@ -1,6 +1,6 @@
 use Rattle.std.proofs.Common.{zero, suc, ◌≡◌, ℕ, ◌<◌, arith, subst, get_or, [], ◌∷◌}
 use Rattle.call_graph.specs.declared.depth.Held.{Held}
-use Rattle.range_tests.proofs.calls.held_calls.Goals as goal
+use Rattle.map_tests.proofs.calls.held_calls.Goals as goal
 
 abbrev Fits : Held → Type 0
 Fits call = (call.caller < 4) × (call.callee < 4)
