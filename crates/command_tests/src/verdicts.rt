@@ -107,6 +107,13 @@ const VERDICTS: &[(&[u8], &str, u8, &str)] = &[
         "refused 0003 12 NotCovered\n",
     ),
     (JUMP, ROW_MISSING, 1, "refused 0000 12 NotCovered\n"),
+    // A row of mode n covers, and is refused itself: what an NMI does is not judged yet
+    (
+        JUMP,
+        certificate_text!(6, "4380 4400", "0000 u", "0003 n"),
+        1,
+        "refused 0003 12 NotCovered\n",
+    ),
     // LD SP,4200H
     (
         b"\x31\x00\x42",
