@@ -8,7 +8,8 @@ use Rattle.std.proofs.lemmas.List.Splits.{slice_split_none, slice_split_at}
 use Rattle.std.proofs.lemmas.List.Elements.{All-from_recursion}
 use Rattle.std.proofs.lemmas.Str.Parse.{digit_from_value}
 use Rattle.std.proofs.lemmas.Fmt.{decimal_is_IsNumeral}
-use Rattle.certificate.specs.Fields.{fields_in, hex_digit, hex2, hex4, flag_digit}
+use Rattle.texts.specs.Fields.{fields_in}
+use Rattle.texts.specs.Numbers.{hex_digit, hex2, hex4, flag_digit}
 
 -- each byte is above the space
 abbrev pub IsPlain : List ℕ → Type 0

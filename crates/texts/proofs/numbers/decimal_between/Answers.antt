@@ -1,7 +1,7 @@
 use Rattle.std.proofs.Common.{arith}
-use Rattle.certificate.proofs.FieldLemmas.{out_of_bounds}
-use Rattle.certificate.proofs.fields.decimal_between.Goals as goal
-use Rattle.certificate.proofs.fields.decimal_between.Goals.{else-least-number-via-then-least-number+else-number-most, else-least-number-via-else-least-number}
+use Rattle.texts.proofs.FieldLemmas.{out_of_bounds}
+use Rattle.texts.proofs.numbers.decimal_between.Goals as goal
+use Rattle.texts.proofs.numbers.decimal_between.Goals.{else-least-number-via-then-least-number+else-number-most, else-least-number-via-else-least-number}
 
 pub returns-else-least-number : goal.returns-else-least-number
 returns-else-least-number c =

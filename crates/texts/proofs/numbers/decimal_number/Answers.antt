@@ -1,7 +1,7 @@
 use Rattle.std.proofs.Common.{refl}
 use Rattle.std.proofs.lemmas.Bool.{false≢true}
-use Rattle.certificate.proofs.FieldLemmas.{decimal_begins, decimal_is_text, decimal_from_parse}
-use Rattle.certificate.proofs.fields.decimal_number.Goals as goal
+use Rattle.texts.proofs.FieldLemmas.{decimal_begins, decimal_is_text, decimal_from_parse}
+use Rattle.texts.proofs.numbers.decimal_number.Goals as goal
 
 pub returns-then-not-begins_decimal : goal.returns-then-not-begins_decimal
 returns-then-not-begins_decimal c n small same = false≢true (c.if-not-begins_decimal.ensures.1 (decimal_begins _ n small same))

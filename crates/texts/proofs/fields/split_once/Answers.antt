@@ -1,7 +1,7 @@
 use Rattle.std.proofs.Common.{sym, ◌∙◌, ◌+◌}
 use Rattle.std.proofs.lemmas.List.{take_rest}
-use Rattle.certificate.proofs.FieldLemmas.{slice_split_nowhere, slice_split_position, cut_position}
-use Rattle.certificate.proofs.fields.split_once.Goals as goal
+use Rattle.texts.proofs.FieldLemmas.{slice_split_nowhere, slice_split_position, cut_position}
+use Rattle.texts.proofs.fields.split_once.Goals as goal
 
 pub returns-in_err-at-clause-cut : goal.returns-in_err-at-clause-cut
 returns-in_err-at-clause-cut c =

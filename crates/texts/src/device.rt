@@ -1,7 +1,7 @@
 // The devices that texts come from and go to.
 
 ghost use Rattle.std.specs.Prelude.{◌≡◌, ◌<◌, ◌≤◌, ℕ, List, Option, Ok, IfOk, IfSome, OnErr, length, take, []};
-ghost use Rattle.certificate.specs.Device.{HasGrown, Gives, Takes, TakesPart};
+ghost use Rattle.texts.specs.Device.{HasGrown, Gives, Takes, TakesPart};
 
 /// A device failed. Its count of failures tells that it did.
 #[derive(Clone, Copy, Debug, PartialEq, Eq)]

@@ -1,5 +1,5 @@
-use Rattle.certificate.proofs.FieldLemmas.{replicate_stops}
-use Rattle.certificate.proofs.fields.Fields.skip_all.Goals as goal
+use Rattle.texts.proofs.FieldLemmas.{replicate_stops}
+use Rattle.texts.proofs.fields.Fields.skip_all.Goals as goal
 
 pub returns-then-not-skip : goal.returns-then-not-skip
 returns-then-not-skip c =

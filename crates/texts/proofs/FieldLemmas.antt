@@ -13,7 +13,8 @@ use Rattle.std.proofs.lemmas.Str.{IsUtf8-from_ascii}
 use Rattle.std.proofs.lemmas.Str.Parse.{IsNumeralModel, numerals_by_value, tells_digits, parse_plain}
 use Rattle.std.proofs.lemmas.Fmt.{decimal_injective, first_decimal, decimal_digit, decimal-digits_value, parse-decimal, IsAscii-decimal, decimal_nonempty}
 use Rattle.std.proofs.lemmas.Bool.{ltb-true, ltb-false, eqb-true}
-use Rattle.certificate.specs.Fields.{BeginsDecimal, fields_left, Reads}
+use Rattle.texts.specs.Fields.{fields_left}
+use Rattle.texts.specs.Numbers.{BeginsDecimal, Reads}
 
 -- a text has at least one part
 pub slice_split_some : (p : ℕ → Bool) (xs : List ℕ) → slice_split p xs ≡ [] → ⊥
@@ -93,11 +94,11 @@ out_of_bounds bs least most n small bound is out = λ m within same.
     out (omega (arith, within.0), omega (arith, within.1))
 
 -- no field is left where no text is left
-pub nothing_left : (rest : Option (Bor (List ℕ))) (b : Bool) (fields : List (List ℕ)) → is_some rest ≡ not b → fields_left rest ≡ fields → IsTrue b ↔ (fields ≡ [])
-nothing_left None true fields e view = (λ _. sym view, λ _. refl)
-nothing_left None false fields e view = cc
-nothing_left (Some text) true fields e view = cc
-nothing_left (Some text) false fields e view = (λ t. cc, λ same. absurd (slice_split_some (λ b. b == 32) text.now (view ∙ same)))
+pub nothing_left : (mark : ℕ) (rest : Option (Bor (List ℕ))) (b : Bool) (fields : List (List ℕ)) → is_some rest ≡ not b → fields_left mark rest ≡ fields → IsTrue b ↔ (fields ≡ [])
+nothing_left mark None true fields e view = (λ _. sym view, λ _. refl)
+nothing_left mark None false fields e view = cc
+nothing_left mark (Some text) true fields e view = cc
+nothing_left mark (Some text) false fields e view = (λ t. cc, λ same. absurd (slice_split_some (λ b. b == mark) text.now (view ∙ same)))
 
 -- a field that is another ends them
 pub replicate_stops : (k count : ℕ) (word : List ℕ) (old now : List (List ℕ)) → k < count → old ≡ replicate k word ++ now → ((rest : List (List ℕ)) → now ≢ word ∷ rest) → (rest : List (List ℕ)) → old ≢ replicate count word ++ rest

@@ -1,0 +1,4 @@
+-- The definitions of texts and of devices.
+pub mod Device
+pub mod Fields
+pub mod Numbers

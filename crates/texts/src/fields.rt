@@ -1,0 +1,104 @@
+// The parts of a text, as the fields of a line: what stands between the marks that part them.
+
+ghost use Rattle.std.specs.Prelude.{◌≡◌, ◌∷◌, ◌==◌, ◌↔◌, [], ◌++◌, IsTrue, MatchOption, replicate};
+ghost use Rattle.std.specs.List.{slice_split, position};
+ghost use Rattle.texts.specs.Fields.{TakesField, TakesWord, TakesFields, fields_in, parts_of};
+
+use std::marker::Model;
+
+/// Where the first byte of this kind stands.
+fn position_of(bytes: &[u8], mark: u8) -> Option<usize>
+    ensures { result ≡ position (λ b. b == mark) bytes.now }
+{
+    bytes.iter().position(|b| *b == mark)
+}
+
+/// What stands before the first byte of this kind, and what stands behind it.
+pub fn split_once(bytes: &[u8], mark: u8) -> Option<(&[u8], &[u8])>
+    ensures cut { MatchOption result (slice_split (λ b. b == mark) bytes.now ≡ bytes.now ∷ []) (λ x. bytes.now ≡ x.0.now ++ mark ∷ x.1.now) }
+    ensures parts { MatchOption result (slice_split (λ b. b == mark) bytes.now ≡ bytes.now ∷ []) (λ x. slice_split (λ b. b == mark) bytes.now ≡ x.0.now ∷ slice_split (λ b. b == mark) x.1.now) }
+{
+    let at = position_of(bytes, mark)?;
+    Some((&bytes[..at], &bytes[at + 1..]))
+}
+
+/// The parts of a text that are still to be read.
+#[derive(Drop)]
+pub struct Fields<'a> {
+    rest: Option<&'a [u8]>,
+    mark: u8,
+}
+
+impl<'a> Model for Fields<'a> {
+    ghost use Rattle.std.specs.Prelude.{List, ℕ};
+    ghost use Rattle.texts.specs.Fields.{fields_left};
+
+    ghost Value = { List (List ℕ) };
+
+    ghost view = { λ f. fields_left f.mark f.rest };
+}
+
+impl<'a> Fields<'a> {
+    /// All fields of a line: single spaces part them.
+    pub fn of(line: &'a [u8]) -> Fields<'a>
+        ensures { result ≡ fields_in line.now }
+    {
+        Fields::parted(line, b' ')
+    }
+
+    /// All parts of a text that this mark parts. The text without any mark is one part, also where it is empty.
+    pub fn parted(text: &'a [u8], mark: u8) -> Fields<'a>
+        ensures { result ≡ parts_of mark text.now }
+    {
+        Fields {
+            rest: Some(text),
+            mark,
+        }
+    }
+
+    /// The next field, if there is one.
+    pub fn next(&mut self) -> Option<&'a [u8]>
+        ensures { TakesField self.old result self.new }
+    {
+        let rest = self.rest?;
+        match split_once(rest, self.mark) {
+            Some((field, after)) => {
+                self.rest = Some(after);
+                Some(field)
+            }
+            None => {
+                self.rest = None;
+                Some(rest)
+            }
+        }
+    }
+
+    /// Takes off the next field, if it is this word.
+    pub fn skip(&mut self, word: &[u8]) -> bool
+        ensures { TakesWord word.now self.old result self.new }
+    {
+        match self.next() {
+            Some(field) => field == word,
+            None => false,
+        }
+    }
+
+    /// Takes off the next fields, if they are all this word.
+    pub fn skip_all(&mut self, word: &[u8], count: usize) -> bool
+        ensures { TakesFields (replicate count word.now) self.old result self.new }
+    {
+        for _ in 0..count {
+            if !self.skip(word) {
+                return false;
+            }
+        }
+        true
+    }
+
+    /// Whether no field is left.
+    pub fn is_empty(&self) -> bool
+        ensures { IsTrue result ↔ (self.now ≡ []) }
+    {
+        self.rest.is_none()
+    }
+}
