@@ -11,7 +11,7 @@ use Rattle.certificate.specs.declared.line.Keyword.{Keyword}
 use Rattle.certificate.specs.declared.line.Keyword.TheVariants as keywords
 use Rattle.certificate.specs.declared.line.Line.{Line}
 use Rattle.certificate.specs.declared.line.Line.TheVariants as lines
-use Rattle.certificate.specs.Fields.{IsWord, hex_digit, hex4}
+use Rattle.texts.specs.Numbers.{IsWord, hex_digit, hex4}
 use Rattle.certificate.specs.Line.{fields_of, keyword_text, mode_letter, IsInRange}
 
 -- each line's first field is a keyword
