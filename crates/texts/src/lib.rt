@@ -7,4 +7,6 @@ mod numbers;
 
 pub use device::{DeviceFault, Sink, Source};
 pub use fields::{Fields, split_once};
-pub use numbers::{decimal_between, decimal_field, flag_field, hex2_field, hex4_field};
+pub use numbers::{
+    decimal_between, decimal_field, flag_field, hex2_field, hex4_field, spell_hex2, spell_hex4,
+};
