@@ -1,4 +1,5 @@
 pub mod DeviceLemmas
 pub mod FieldLemmas
+pub mod IncomingLemmas
 pub mod NumberLemmas
 pub mod PlainLemmas

@@ -1,8 +1,8 @@
 -- Numbers as they are spelled: how long they are, and that no two are spelled alike.
-use Rattle.std.proofs.Common.{◌≡◌, ◌≤◌, ◌<◌, ◌^◌, ◌/◌, ◌%◌, ℕ, length, refl, arith}
+use Rattle.std.proofs.Common.{◌≡◌, ◌≤◌, ◌<◌, ◌+◌, ◌^◌, ◌/◌, ◌%◌, ℕ, [], ◌∷◌, length, refl, arith, length-append}
 use Rattle.std.specs.Fmt.{decimal}
 use Rattle.std.proofs.lemmas.Bool.Decides.{nat_tests}
-use Rattle.std.proofs.lemmas.Fmt.{decimal_nonempty, length-decimal-le, length-decimal-le_wide}
+use Rattle.std.proofs.lemmas.Fmt.{decimal_by_steps_wide, length-decimal-le, length-decimal-le_wide}
 use Rattle.texts.specs.Numbers.{IsByte, IsWord, hex_digit, hex2, hex4}
 
 pub length_hex2 : (n : ℕ) → length (hex2 n) ≡ 2
@@ -23,9 +23,14 @@ length_decimal_32 n small = length-decimal-le 10 n (omega arith) (omega (arith, 
 pub length_decimal_128 : (n : ℕ) → n < 2 ^ 128 → length (decimal n) ≤ 39
 length_decimal_128 n small = length-decimal-le_wide 39 n (omega arith) (omega (arith, small)) (omega (arith, small))
 
+-- no more digits than a number below a power of ten has
+pub length_decimal_below : (digits n : ℕ) → 0 < digits → n < 10 ^ digits → n < 2 ^ 128 → length (decimal n) ≤ digits
+length_decimal_below digits n some below small = length-decimal-le_wide digits n some below (omega (arith, small))
+
 -- and one at least
-pub decimal_some : (n : ℕ) → n < 2 ^ 64 → 0 < length (decimal n)
-decimal_some = decimal_nonempty
+pub decimal_some : (n : ℕ) → n < 2 ^ 128 → 0 < length (decimal n)
+decimal_some n small =
+    decimal_by_steps_wide (λ m digits. 0 < length digits) (λ m low. omega arith) (λ m digits high some. omega (arith, length-append digits ((48 + m % 10) ∷ []))) n (omega (arith, small))
 
 hex_digit_injective : (m n : ℕ) → m < 16 → n < 16 → hex_digit m ≡ hex_digit n → m ≡ n
 hex_digit_injective m n low_m low_n same = grind (arith, nat_tests)

@@ -1,5 +1,6 @@
 -- The definitions of texts and of devices.
 pub mod Device
 pub mod Fields
+pub mod Incoming
 pub mod Made
 pub mod Numbers

@@ -1,6 +1,6 @@
 // A line that is made before it is written.
 
-ghost use Rattle.std.specs.Prelude.{◌≡◌, ◌≤◌, ◌<◌, ◌+◌, [], ◌∷◌, ◌++◌, length, decimal};
+ghost use Rattle.std.specs.Prelude.{ℕ, ◌≡◌, ◌≤◌, ◌<◌, ◌+◌, ◌^◌, [], ◌∷◌, ◌++◌, length, decimal};
 ghost use Rattle.texts.specs.Made.{MADE_LEN};
 ghost use Rattle.texts.specs.Numbers.{hex2, hex4};
 
@@ -68,6 +68,7 @@ impl MadeLine {
         requires { length self.old + 39 ≤ MADE_LEN }
         ensures value { self.new ≡ self.old ++ decimal number }
         ensures grown { length self.new ≤ length self.old + 39 }
+        ensures digits { (n : ℕ) → 0 < n → number < 10 ^ n → length self.new ≤ length self.old + n }
     {
         let mut buffer = Buffer::new();
         self.add(buffer.format(number).as_bytes());
