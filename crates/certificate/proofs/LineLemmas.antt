@@ -10,7 +10,7 @@ use Rattle.certificate.specs.declared.line.Keyword.{Keyword}
 use Rattle.certificate.specs.declared.line.Keyword.TheVariants as keywords
 use Rattle.certificate.specs.declared.line.Line.{Line}
 use Rattle.certificate.specs.declared.line.Line.TheVariants as lines
-use Rattle.texts.specs.Numbers.{IsWord, hex4}
+use Rattle.texts.specs.Numbers.{IsWord}
 use Rattle.texts.proofs.NumberLemmas.{hex4_injective}
 use Rattle.certificate.specs.Line.{fields_of, keyword_text, mode_letter, IsInRange}
 
