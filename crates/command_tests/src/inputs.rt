@@ -1,11 +1,10 @@
 // The lines of an input, field by field, and what a summary tells; worked by hand from docs/PROGRAM.md.
 
-use crate::memory_devices::Taken;
 use crate::samples::{JUMP, JUMP_CERTIFICATE};
 use board_step::{Env, Inputs, Reset};
 use cert_checker::check;
 use certificate::read;
-use runner::{EnvLine, Machine, ResetLine, Summary, put_summary};
+use runner::{EnvLine, Machine, ResetLine, Summary, summary_lines};
 use std::alloc::Global;
 use z80_alu::{RegisterSet, Regs};
 
@@ -160,7 +159,5 @@ fn a_summary_is_written(rt: HostRuntime) {
     };
     let text =
         "done 4294967295 98784247785 00AF 43FE\nregs 0102 0304 0506 0708 090A 0B0C\nsum 261120 7 65280\n";
-    let mut out = Taken::new(rt.alloc());
-    assert!(rt; put_summary(&mut out, &summary).is_ok());
-    assert!(rt; out.bytes.as_slice() == text.as_bytes());
+    assert!(rt; summary_lines(&summary).bytes() == text.as_bytes());
 }

@@ -41,9 +41,7 @@ impl<'a> Bytes<'a> {
 }
 
 impl<'a> Source for Bytes<'a> {
-    ghost rest = { λ s. Some s.rest.now };
-
-    ghost failure_count = { λ s. s.failures };
+    ghost state = { λ s. record { bytes = Some s.rest.now; failures = s.failures } };
 
     fn read(&mut self, buffer: &mut [u8]) -> Result<usize, DeviceFault> {
         self.asked = self.asked.saturating_add(1);
@@ -96,9 +94,7 @@ impl Taken {
 }
 
 impl Sink for Taken {
-    ghost taken = { λ s. Some s.bytes.items };
-
-    ghost failure_count = { λ s. s.failures };
+    ghost state = { λ s. record { bytes = Some s.bytes.items; failures = s.failures } };
 
     fn write(&mut self, bytes: &[u8]) -> Result<usize, DeviceFault> {
         self.asked = self.asked.saturating_add(1);

@@ -7,14 +7,14 @@ use Rattle.board_step.specs.Safe.{Safe}
 use Rattle.cert_checker.specs.Accepts.{Accepts}
 use Rattle.cert_checker.specs.Profile.{certified_profile, hardware_for, nmi_time}
 use Rattle.certificate.specs.Contents.{Contents}
-use Rattle.texts.specs.Device.{Gives, Takes}
+use Rattle.texts.specs.Device.{DeviceState, GivesBytes, Takes}
 use Rattle.certificate.specs.Text.{IsInForm, text_of}
 use Rattle.commands.specs.Judging.{HoldAccepted, IsAccepted, OnAccepted, TellsAccepted, TellsRefusal, WritesRefusal}
 use Rattle.commands.specs.Reading.{AllBytes, FirstBytes, OfFiles, ROM_READ_LEN}
 use Rattle.commands.specs.Running.{PlaysTo, PlaysToBadLine, TellsBadInput, TellsRun}
 use Rattle.commands.specs.Verdict.{accepted_text}
 
-first_of : (file after : Option (List ℕ)) (most len : ℕ) (items : List ℕ) → len ≡ length items → len ≤ most → (len < most → IfSome file (λ all. items ≡ all)) → Gives file items after → IfSome file (λ all. items ≡ take most all)
+first_of : (file after : Option (List ℕ)) (most len : ℕ) (items : List ℕ) → len ≡ length items → len ≤ most → (len < most → IfSome file (λ all. items ≡ all)) → GivesBytes file items after → IfSome file (λ all. items ≡ take most all)
 first_of None after most len items same within whole given = tt
 first_of (Some all) after most len items same within whole (left, is, parts) =
     elim (cases_lt len most) [
@@ -25,7 +25,7 @@ first_of (Some all) after most len items same within whole (left, is, parts) =
     ]
 
 -- the first bytes of a file, from what was read of it
-pub first_bytes : (file after : Option (List ℕ)) (most len : ℕ) (items : List ℕ) → len ≡ length items → len ≤ most → (len < most → IfSome file (λ all. items ≡ all)) → Gives file items after → FirstBytes most file items
+pub first_bytes : (file after : Option (List ℕ)) (most len : ℕ) (items : List ℕ) → len ≡ length items → len ≤ most → (len < most → IfSome file (λ all. items ≡ all)) → GivesBytes file items after → FirstBytes most file items
 first_bytes file after most len items same within whole given = record {
   within = omega (arith, same, within);
   first = first_of file after most len items same within whole given;
@@ -82,28 +82,28 @@ was_read rom text items line_items bytes lines same same_lines first all = recor
   all = subst (AllBytes text) (sym same_lines) all;
 }
 
-pub tells_refusal : (rom text old new : Option (List ℕ)) (bytes lines : List ℕ) → WasRead rom text bytes lines → WritesRefusal bytes lines old new → TellsRefusal rom text old new
+pub tells_refusal : (rom text : Option (List ℕ)) (old new : DeviceState) (bytes lines : List ℕ) → WasRead rom text bytes lines → WritesRefusal bytes lines old new → TellsRefusal rom text old new
 tells_refusal rom text old new bytes lines was writes = of_first rom text bytes lines (λ b l. WritesRefusal b l old new) was.first was.all writes
 
 pub hold_accepted : (rom text : Option (List ℕ)) (bytes lines : List ℕ) (certificate : Contents) → WasRead rom text bytes lines → IsAccepted bytes lines certificate → HoldAccepted rom text
 hold_accepted rom text bytes lines certificate was accepted = on_accepted rom text bytes lines certificate (λ _ _. Unit {0}) was.first was.all accepted tt
 
 -- the same from a sink that is the same
-pub tells_accepted : {X : Type 0} (taken : X → Option (List ℕ)) (rom text new : Option (List ℕ)) (bytes lines : List ℕ) (certificate shown : Contents) (before same : X) →
-    WasRead rom text bytes lines → IsAccepted bytes lines certificate → shown ≡ certificate → before ≡ same → Takes (taken before) (accepted_text shown) new → TellsAccepted rom text (taken same) new
-tells_accepted {X} taken rom text new bytes lines certificate shown before same was accepted is kept takes =
-    on_accepted rom text bytes lines certificate (λ _ c. Takes (taken same) (accepted_text c) new) was.first was.all accepted
-    (subst (λ (x : X). Takes (taken x) (accepted_text certificate) new) kept (subst (λ (c : Contents). Takes (taken before) (accepted_text c) new) is takes))
+pub tells_accepted : {X : Type 0} (state : X → DeviceState) (rom text : Option (List ℕ)) (new : DeviceState) (bytes lines : List ℕ) (certificate shown : Contents) (before same : X) →
+    WasRead rom text bytes lines → IsAccepted bytes lines certificate → shown ≡ certificate → before ≡ same → Takes (state before) (accepted_text shown) new → TellsAccepted rom text (state same) new
+tells_accepted {X} state rom text new bytes lines certificate shown before same was accepted is kept takes =
+    on_accepted rom text bytes lines certificate (λ _ c. Takes (state same) (accepted_text c) new) was.first was.all accepted
+    (subst (λ (x : X). Takes (state x) (accepted_text certificate) new) kept (subst (λ (c : Contents). Takes (state before) (accepted_text c) new) is takes))
 
-pub tells_run : {X : Type 0} (taken : X → Option (List ℕ)) (steps : ℕ) (rom text input new : Option (List ℕ)) (bytes lines own : List ℕ) (certificate : Contents) (before same : X) →
-    WasRead rom text bytes lines → IsAccepted bytes lines certificate → own ≡ bytes → before ≡ same → PlaysTo (hardware_for own certificate) steps input (taken before) new →
-    TellsRun steps rom text input (taken same) new
-tells_run {X} taken steps rom text input new bytes lines own certificate before same was accepted is kept plays =
-    on_accepted rom text bytes lines certificate (λ b c. PlaysTo (hardware_for b c) steps input (taken same) new) was.first was.all accepted
-    (subst (λ (x : X). PlaysTo (hardware_for bytes certificate) steps input (taken x) new) kept (subst (λ (b : List ℕ). PlaysTo (hardware_for b certificate) steps input (taken before) new) is plays))
+pub tells_run : {X : Type 0} (state : X → DeviceState) (steps : ℕ) (rom text input : Option (List ℕ)) (new : DeviceState) (bytes lines own : List ℕ) (certificate : Contents) (before same : X) →
+    WasRead rom text bytes lines → IsAccepted bytes lines certificate → own ≡ bytes → before ≡ same → PlaysTo (hardware_for own certificate) steps input (state before) new →
+    TellsRun steps rom text input (state same) new
+tells_run {X} state steps rom text input new bytes lines own certificate before same was accepted is kept plays =
+    on_accepted rom text bytes lines certificate (λ b c. PlaysTo (hardware_for b c) steps input (state same) new) was.first was.all accepted
+    (subst (λ (x : X). PlaysTo (hardware_for bytes certificate) steps input (state x) new) kept (subst (λ (b : List ℕ). PlaysTo (hardware_for b certificate) steps input (state before) new) is plays))
 
-pub tells_bad_input : {X : Type 0} (taken : X → Option (List ℕ)) (steps : ℕ) (rom text input new : Option (List ℕ)) (bytes lines : List ℕ) (certificate : Contents) (before same : X) →
-    WasRead rom text bytes lines → IsAccepted bytes lines certificate → before ≡ same → PlaysToBadLine steps input (taken before) new → TellsBadInput steps rom text input (taken same) new
-tells_bad_input {X} taken steps rom text input new bytes lines certificate before same was accepted kept plays =
-    on_accepted rom text bytes lines certificate (λ _ _. PlaysToBadLine steps input (taken same) new) was.first was.all accepted
-    (subst (λ (x : X). PlaysToBadLine steps input (taken x) new) kept plays)
+pub tells_bad_input : {X : Type 0} (state : X → DeviceState) (steps : ℕ) (rom text input : Option (List ℕ)) (new : DeviceState) (bytes lines : List ℕ) (certificate : Contents) (before same : X) →
+    WasRead rom text bytes lines → IsAccepted bytes lines certificate → before ≡ same → PlaysToBadLine steps input (state before) new → TellsBadInput steps rom text input (state same) new
+tells_bad_input {X} state steps rom text input new bytes lines certificate before same was accepted kept plays =
+    on_accepted rom text bytes lines certificate (λ _ _. PlaysToBadLine steps input (state same) new) was.first was.all accepted
+    (subst (λ (x : X). PlaysToBadLine steps input (state x) new) kept plays)

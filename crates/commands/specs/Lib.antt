@@ -1,5 +1,4 @@
 -- The definitions of the commands.
-pub mod Devices
 pub mod Judging
 pub mod Reading
 pub mod Running

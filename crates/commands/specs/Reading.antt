@@ -1,6 +1,6 @@
 -- What is read of a file.
 use Rattle.std.specs.Prelude.{ℕ, ◌≤◌, ◌≡◌, List, length, take, Option, IfSome}
-use Rattle.texts.specs.Device.{Gives}
+use Rattle.texts.specs.Device.{DeviceState, Gives}
 use Rattle.runner.specs.Playing.{OfBytes}
 
 -- of a ROM's file no more is read: one byte more than a ROM may have
@@ -8,7 +8,7 @@ abbrev pub ROM_READ_LEN : ℕ
 ROM_READ_LEN = 16385
 
 -- so many bytes at most were taken from a source
-abbrev pub GivesUpTo : ℕ → Option (List ℕ) → Option (List ℕ) → Type 0
+abbrev pub GivesUpTo : ℕ → DeviceState → DeviceState → Type 0
 GivesUpTo most old new = (given : List ℕ) × (length given ≤ most) × Gives old given new
 
 -- the first bytes of a file, so many at most

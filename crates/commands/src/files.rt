@@ -37,9 +37,7 @@ impl<'a, R: Files> FileSource<'a, R> {
 }
 
 impl<'a, R: Files> Source for FileSource<'a, R> {
-    ghost rest = { λ _. None };
-
-    ghost failure_count = { λ s. s.failures };
+    ghost state = { λ s. record { bytes = None; failures = s.failures } };
 
     fn read(&mut self, buffer: &mut [u8]) -> Result<usize, DeviceFault> {
         if self.file.is_none() {
@@ -87,9 +85,7 @@ impl<W: Write> WriterSink<W> {
 }
 
 impl<W: Write> Sink for WriterSink<W> {
-    ghost taken = { λ _. None };
-
-    ghost failure_count = { λ s. s.failures };
+    ghost state = { λ s. record { bytes = None; failures = s.failures } };
 
     fn write(&mut self, bytes: &[u8]) -> Result<usize, DeviceFault> {
         match self.writer.write(bytes) {

@@ -1,16 +1,15 @@
 // Whether a certificate's text is accepted for a ROM.
 
 ghost use Rattle.std.specs.Prelude.{◌≡◌, ◌≢◌, IfOk, OnOk};
-ghost use Rattle.commands.specs.Devices.{HasFailed, IsQuiet};
 ghost use Rattle.commands.specs.Judging.{IsAccepted, WritesRefusal};
+ghost use Rattle.texts.specs.Device.{HasFailed, IsQuiet};
 
 use crate::stop::Stop;
-use crate::verdict::{write_bad_line, write_refused};
+use crate::verdict::{bad_line, refused_line};
 use cert_checker::{Accepted, CheckFault, check};
 use certificate::{CertFault, read};
-use runner::put;
 use std::alloc::Global;
-use texts::Sink;
+use texts::{Sink, put};
 
 /// Checks a certificate's text for a ROM. Where it is not accepted, the line that says why is written.
 pub fn judge<'r, W: Sink>(
@@ -21,15 +20,15 @@ pub fn judge<'r, W: Sink>(
 ) -> Result<Accepted<'r>, Stop>
     ensures accepted { IfOk result (λ accepted. (accepted.rom ≡ rom.now) × IsAccepted rom.now text.now accepted.certificate) }
     ensures kept { OnOk result (out.new ≡ out.old) }
-    ensures refused { result ≡ Err Stop.Refused → WritesRefusal rom.now text.now (W.taken out.old) (W.taken out.new) }
-    ensures device { result ≡ Err Stop.Device → HasFailed W.failure_count out.old out.new }
-    ensures told { result ≢ Err Stop.Device → IsQuiet W.failure_count out.old out.new }
+    ensures refused { result ≡ Err Stop.Refused → WritesRefusal rom.now text.now (W.state out.old) (W.state out.new) }
+    ensures device { result ≡ Err Stop.Device → HasFailed (W.state out.old) (W.state out.new) }
+    ensures told { result ≢ Err Stop.Device → IsQuiet (W.state out.old) (W.state out.new) }
     ensures memory { result ≡ Err Stop.OutOfMemory → out.new ≡ out.old }
 {
     let certificate = match read(alloc, text) {
         Ok(certificate) => certificate,
         Err(CertFault::Line(line)) => {
-            write_bad_line(b"bad certificate", line, out)?;
+            put(out, bad_line(b"bad certificate", line).bytes())?;
             return Err(Stop::Refused);
         }
         Err(CertFault::Limit) => {
@@ -41,7 +40,7 @@ pub fn judge<'r, W: Sink>(
     match check(rom, certificate) {
         Ok(accepted) => Ok(accepted),
         Err(CheckFault::Refused(refused)) => {
-            write_refused(&refused, out)?;
+            put(out, refused_line(&refused).bytes())?;
             Err(Stop::Refused)
         }
         Err(CheckFault::NoMemory) => Err(Stop::OutOfMemory),

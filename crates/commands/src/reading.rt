@@ -1,8 +1,7 @@
 // The files of a ROM and of a certificate.
 
 ghost use Rattle.std.specs.Prelude.{◌≡◌, ◌≢◌, ◌≤◌, ◌<◌, ◌⊎◌, vec_len, IfOk, IfSome};
-ghost use Rattle.texts.specs.Device.{Gives};
-ghost use Rattle.commands.specs.Devices.{HasFailed, IsQuiet};
+ghost use Rattle.texts.specs.Device.{Gives, HasFailed, IsQuiet};
 ghost use Rattle.commands.specs.Reading.{AllBytes, FirstBytes, GivesUpTo};
 
 use crate::stop::Stop;
@@ -21,12 +20,12 @@ pub fn read_files<A: Source, B: Source>(
     rom: &mut A,
     cert: &mut B,
 ) -> Result<(Vec<u8>, Vec<u8>), Stop>
-    ensures rom { IfOk result (λ read. FirstBytes 16385 (A.rest rom.old) read.0.items) }
-    ensures cert { IfOk result (λ read. AllBytes (B.rest cert.old) read.1.items) }
-    ensures device { result ≡ Err Stop.Device → HasFailed A.failure_count rom.old rom.new ⊎ HasFailed B.failure_count cert.old cert.new }
-    ensures told { result ≢ Err Stop.Device → IsQuiet A.failure_count rom.old rom.new × IsQuiet B.failure_count cert.old cert.new }
-    ensures order { IsQuiet A.failure_count rom.old rom.new ⊎ (cert.new ≡ cert.old) }
-    ensures limit { HasFailed A.failure_count rom.old rom.new ⊎ GivesUpTo 16385 (A.rest rom.old) (A.rest rom.new) }
+    ensures rom { IfOk result (λ read. FirstBytes 16385 (A.state rom.old).bytes read.0.items) }
+    ensures cert { IfOk result (λ read. AllBytes (B.state cert.old).bytes read.1.items) }
+    ensures device { result ≡ Err Stop.Device → HasFailed (A.state rom.old) (A.state rom.new) ⊎ HasFailed (B.state cert.old) (B.state cert.new) }
+    ensures told { result ≢ Err Stop.Device → IsQuiet (A.state rom.old) (A.state rom.new) × IsQuiet (B.state cert.old) (B.state cert.new) }
+    ensures order { IsQuiet (A.state rom.old) (A.state rom.new) ⊎ (cert.new ≡ cert.old) }
+    ensures limit { HasFailed (A.state rom.old) (A.state rom.new) ⊎ GivesUpTo 16385 (A.state rom.old) (A.state rom.new) }
     ensures never { result ≢ Err Stop.Refused }
 {
     let bytes = match read_up_to(alloc, rom, ROM_READ_LEN) {
@@ -41,12 +40,12 @@ pub fn read_files<A: Source, B: Source>(
 
 /// Reads a source to its end, or up to `most` bytes if there are more.
 fn read_up_to<R: Source>(alloc: Global, source: &mut R, most: usize) -> Result<Vec<u8>, Stop>
-    ensures given { IfOk result (λ bytes. Gives (R.rest source.old) bytes.items (R.rest source.new)) }
+    ensures given { IfOk result (λ bytes. Gives (R.state source.old) bytes.items (R.state source.new)) }
     ensures within { IfOk result (λ bytes. vec_len bytes ≤ most) }
-    ensures whole { IfOk result (λ bytes. vec_len bytes < most → IfSome (R.rest source.old) (λ all. bytes.items ≡ all)) }
-    ensures device { result ≡ Err Stop.Device → HasFailed R.failure_count source.old source.new }
-    ensures told { result ≢ Err Stop.Device → IsQuiet R.failure_count source.old source.new }
-    ensures limit { HasFailed R.failure_count source.old source.new ⊎ GivesUpTo most (R.rest source.old) (R.rest source.new) }
+    ensures whole { IfOk result (λ bytes. vec_len bytes < most → IfSome (R.state source.old).bytes (λ all. bytes.items ≡ all)) }
+    ensures device { result ≡ Err Stop.Device → HasFailed (R.state source.old) (R.state source.new) }
+    ensures told { result ≢ Err Stop.Device → IsQuiet (R.state source.old) (R.state source.new) }
+    ensures limit { HasFailed (R.state source.old) (R.state source.new) ⊎ GivesUpTo most (R.state source.old) (R.state source.new) }
     ensures never { result ≢ Err Stop.Refused }
 {
     let mut bytes = Vec::new(alloc);

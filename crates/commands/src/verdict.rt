@@ -1,66 +1,67 @@
 // The lines of a verdict.
 
-ghost use Rattle.std.specs.Prelude.{◌≡◌, OnErr, OnOk};
-ghost use Rattle.texts.specs.Device.{HasGrown, Takes};
+ghost use Rattle.std.specs.Prelude.{◌≡◌, ◌≤◌, ◌+◌, ◌++◌, length};
 ghost use Rattle.commands.specs.Verdict.{accepted_text, bad_line_text, detail_of, gap_before, refused_text, right_in_5};
+ghost use Rattle.texts.specs.Made.{MADE_LEN};
 
 use cert_checker::{Reason, Refused};
 use certificate::Certificate;
 use itoa::Buffer;
-use runner::{put, put_decimal, put_hex4};
-use texts::{DeviceFault, Sink};
+use texts::MadeLine;
 use z80_decode::DecodeFault;
 
-/// Writes the table of an accepted certificate (docs/PROGRAM.md).
-pub fn write_accepted<W: Sink>(certificate: &Certificate, out: &mut W) -> Result<(), DeviceFault>
-    ensures written { OnOk result (Takes (W.taken out.old) (accepted_text certificate.now) (W.taken out.new)) }
-    ensures kept { OnOk result (W.failure_count out.new ≡ W.failure_count out.old) }
-    ensures failed { OnErr result (HasGrown (W.failure_count out.old) (W.failure_count out.new)) }
+/// The table of an accepted certificate (docs/PROGRAM.md).
+pub fn accepted_table(certificate: &Certificate) -> MadeLine
+    ensures { result ≡ accepted_text certificate.now }
 {
     let depth = certificate.main().depth;
     let region = certificate.region();
-    put(out, b"accepted\nmain 0000 depth ")?;
-    put_right(out, depth)?;
-    put(out, b" time      -\nstack ")?;
-    put_decimal(out, u128::from(depth))?;
-    put(out, b" of ")?;
-    put_decimal(out, u128::from(region.top.saturating_sub(region.low)))?;
-    put(out, b"\nnmi none\n")
+    let mut table = MadeLine::new();
+    table.add(b"accepted\nmain 0000 depth ");
+    add_right(&mut table, depth);
+    table.add(b" time      -\nstack ");
+    table.add_decimal(u128::from(depth));
+    table.add(b" of ");
+    table.add_decimal(u128::from(region.top.saturating_sub(region.low)));
+    table.add(b"\nnmi none\n");
+    table
 }
 
-/// Writes a number in decimal, right in five places.
-fn put_right<W: Sink>(out: &mut W, number: u16) -> Result<(), DeviceFault>
-    ensures written { OnOk result (Takes (W.taken out.old) (right_in_5 number) (W.taken out.new)) }
-    ensures kept { OnOk result (W.failure_count out.new ≡ W.failure_count out.old) }
-    ensures failed { OnErr result (HasGrown (W.failure_count out.old) (W.failure_count out.new)) }
+/// Adds a number in decimal, right in five places.
+fn add_right(line: &mut MadeLine, number: u16)
+    requires { length line.old + 45 ≤ MADE_LEN }
+    ensures value { line.new ≡ line.old ++ right_in_5 number }
+    ensures grown { length line.new ≤ length line.old + 45 }
 {
     let mut buffer = Buffer::new();
     let digits = buffer.format(number).as_bytes();
     let gap = 5 - digits.len().min(5);
-    put(out, &[b' '; 5][..gap])?;
-    put(out, digits)
+    line.add(&[b' '; 5][..gap]);
+    line.add(digits);
 }
 
-/// Writes the line of a refused certificate (docs/PROGRAM.md).
-pub fn write_refused<W: Sink>(refused: &Refused, out: &mut W) -> Result<(), DeviceFault>
-    ensures written { OnOk result (Takes (W.taken out.old) (refused_text refused.now) (W.taken out.new)) }
-    ensures kept { OnOk result (W.failure_count out.new ≡ W.failure_count out.old) }
-    ensures failed { OnErr result (HasGrown (W.failure_count out.old) (W.failure_count out.new)) }
+/// The line of a refused certificate (docs/PROGRAM.md).
+pub fn refused_line(refused: &Refused) -> MadeLine
+    ensures { result ≡ refused_text refused.now }
 {
-    put(out, b"refused ")?;
-    put_hex4(out, refused.address)?;
-    put(out, b" ")?;
-    put_decimal(out, u128::from(refused.reason.number()))?;
-    put(out, b" ")?;
-    put(out, refused.reason.name())?;
+    let name = refused.reason.name();
     let detail = detail(refused.reason);
-    put(out, gap_before(detail))?;
-    put(out, detail)?;
-    put(out, b"\n")
+    let mut line = MadeLine::new();
+    line.add(b"refused ");
+    line.add_hex4(refused.address);
+    line.add(b" ");
+    line.add_decimal(u128::from(refused.reason.number()));
+    line.add(b" ");
+    line.add(name);
+    line.add(gap_before(detail));
+    line.add(detail);
+    line.add(b"\n");
+    line
 }
 
 fn detail(reason: Reason) -> &'static [u8]
-    ensures { result.now ≡ detail_of reason }
+    ensures value { result.now ≡ detail_of reason }
+    ensures short { length result.now ≤ 12 }
 {
     match reason {
         Reason::Decode(DecodeFault::Truncated) => b"Truncated",
@@ -72,19 +73,21 @@ fn detail(reason: Reason) -> &'static [u8]
 
 /// The space that stands before a word, if there is one.
 fn gap_before(word: &[u8]) -> &'static [u8]
-    ensures { result.now ≡ gap_before word.now }
+    ensures value { result.now ≡ gap_before word.now }
+    ensures short { length result.now ≤ 1 }
 {
     if word.is_empty() { b"" } else { b" " }
 }
 
-/// Writes a line that ends in a line's number, as `bad certificate line 3`.
-pub fn write_bad_line<W: Sink>(what: &[u8], line: u64, out: &mut W) -> Result<(), DeviceFault>
-    ensures written { OnOk result (Takes (W.taken out.old) (bad_line_text what.now line) (W.taken out.new)) }
-    ensures kept { OnOk result (W.failure_count out.new ≡ W.failure_count out.old) }
-    ensures failed { OnErr result (HasGrown (W.failure_count out.old) (W.failure_count out.new)) }
+/// A line that ends in a line's number, as `bad certificate line 3`.
+pub fn bad_line(what: &[u8], number: u64) -> MadeLine
+    requires { length what.now ≤ 100 }
+    ensures { result ≡ bad_line_text what.now number }
 {
-    put(out, what)?;
-    put(out, b" line ")?;
-    put_decimal(out, u128::from(line))?;
-    put(out, b"\n")
+    let mut line = MadeLine::new();
+    line.add(what);
+    line.add(b" line ");
+    line.add_decimal(u128::from(number));
+    line.add(b"\n");
+    line
 }

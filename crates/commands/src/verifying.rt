@@ -1,17 +1,17 @@
 // `galcert verify`.
 
 ghost use Rattle.std.specs.Prelude.{◌≡◌, ◌≢◌, ◌⊎◌};
-ghost use Rattle.commands.specs.Devices.{HasFailed, IsQuiet};
 ghost use Rattle.commands.specs.Judging.{TellsAccepted, TellsRefusal};
 ghost use Rattle.commands.specs.Reading.{GivesUpTo};
 ghost use Rattle.commands.specs.Status.{IsStatus};
+ghost use Rattle.texts.specs.Device.{HasFailed, IsQuiet};
 
 use crate::judging::judge;
 use crate::reading::read_files;
 use crate::stop::{DONE, Stop};
-use crate::verdict::write_accepted;
+use crate::verdict::accepted_table;
 use std::alloc::Global;
-use texts::{DeviceFault, Sink, Source};
+use texts::{DeviceFault, Sink, Source, put};
 
 /// `galcert verify ROM CERT`: checks a certificate for a ROM, and writes the table or the refusal
 /// (docs/PROGRAM.md). The ROM is read first, up to its 16,385th byte, then the certificate; both are read before
@@ -27,15 +27,15 @@ pub fn verify_on<A: Source, B: Source, W: Sink>(
 ) -> u8
     // What each status says, and of which bytes.
     ensures known { IsStatus result }
-    ensures accepted { result ≡ 0 → TellsAccepted (A.rest rom.old) (B.rest cert.old) (W.taken out.old) (W.taken out.new) }
-    ensures refused { result ≡ 1 → TellsRefusal (A.rest rom.old) (B.rest cert.old) (W.taken out.old) (W.taken out.new) }
-    ensures device { result ≡ 3 → HasFailed A.failure_count rom.old rom.new ⊎ (HasFailed B.failure_count cert.old cert.new ⊎ HasFailed W.failure_count out.old out.new) }
-    ensures told { result ≢ 3 → IsQuiet A.failure_count rom.old rom.new × IsQuiet B.failure_count cert.old cert.new × IsQuiet W.failure_count out.old out.new }
+    ensures accepted { result ≡ 0 → TellsAccepted (A.state rom.old).bytes (B.state cert.old).bytes (W.state out.old) (W.state out.new) }
+    ensures refused { result ≡ 1 → TellsRefusal (A.state rom.old).bytes (B.state cert.old).bytes (W.state out.old) (W.state out.new) }
+    ensures device { result ≡ 3 → HasFailed (A.state rom.old) (A.state rom.new) ⊎ (HasFailed (B.state cert.old) (B.state cert.new) ⊎ HasFailed (W.state out.old) (W.state out.new)) }
+    ensures told { result ≢ 3 → IsQuiet (A.state rom.old) (A.state rom.new) × IsQuiet (B.state cert.old) (B.state cert.new) × IsQuiet (W.state out.old) (W.state out.new) }
     ensures memory { result ≡ 4 → out.new ≡ out.old }
     // The order of the devices: behind one that failed none is asked.
-    ensures rom_first { IsQuiet A.failure_count rom.old rom.new ⊎ ((cert.new ≡ cert.old) × (out.new ≡ out.old)) }
-    ensures cert_next { IsQuiet B.failure_count cert.old cert.new ⊎ (out.new ≡ out.old) }
-    ensures rom_limit { HasFailed A.failure_count rom.old rom.new ⊎ GivesUpTo 16385 (A.rest rom.old) (A.rest rom.new) }
+    ensures rom_first { IsQuiet (A.state rom.old) (A.state rom.new) ⊎ ((cert.new ≡ cert.old) × (out.new ≡ out.old)) }
+    ensures cert_next { IsQuiet (B.state cert.old) (B.state cert.new) ⊎ (out.new ≡ out.old) }
+    ensures rom_limit { HasFailed (A.state rom.old) (A.state rom.new) ⊎ GivesUpTo 16385 (A.state rom.old) (A.state rom.new) }
 {
     let (bytes, text) = match read_files(alloc, rom, cert) {
         Ok(files) => files,
@@ -45,7 +45,7 @@ pub fn verify_on<A: Source, B: Source, W: Sink>(
         Ok(accepted) => accepted,
         Err(stop) => return stop.status(),
     };
-    match write_accepted(accepted.certificate(), out) {
+    match put(out, accepted_table(accepted.certificate()).bytes()) {
         Ok(()) => DONE,
         Err(DeviceFault) => Stop::Device.status(),
     }

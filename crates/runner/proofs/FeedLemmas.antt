@@ -1,10 +1,9 @@
-use Rattle.std.proofs.Common.{◌≡◌, ◌≢◌, ◌<◌, ◌≤◌, ◌⊎◌, inl, inr, ℕ, Bool, false, if◌then◌else◌, List, [], ◌∷◌, ◌++◌, Option, Some, None, IfSome, length, get_or, drop, refl, sym, ap, ◌∙◌, arith, length-append}
+use Rattle.std.proofs.Common.{◌≡◌, ◌≢◌, ◌<◌, ◌≤◌, ◌⊎◌, inl, inr, ℕ, List, [], ◌∷◌, ◌++◌, Option, Some, None, IfSome, length, get_or, drop, refl, sym, ap, ◌∙◌, arith, length-append, append_assoc}
 use Rattle.std.proofs.lemmas.List.{append-nil}
-use Rattle.arrayvec.specs.ArrayVec.{ArrayVec}
 use Rattle.texts.specs.Numbers.{Reads}
-use Rattle.runner.specs.Pending.{Unused, left_of, HasNoFeed, IsLine, IsTooLong, IsUnended, GivesLine}
 use Rattle.runner.specs.Playing.{BeginsWithNo}
-use Rattle.runner.specs.declared.pending.Line.TheVariants.{Text, Bad}
+use Rattle.texts.specs.Device.{DeviceState, GivesBytes}
+use Rattle.texts.specs.Incoming.{HasNoFeed, IsLine, IsTooLong, IsUnended}
 
 heads_same : (x y : ℕ) (xs ys : List ℕ) → x ∷ xs ≡ y ∷ ys → x ≡ y
 heads_same x y xs ys e = ap (λ (l : List ℕ). get_or l 0 0) e
@@ -25,35 +24,55 @@ feed_within (c ∷ a) (d ∷ b) x y none less e = feed_within a b x y none.1 (om
 
 module _ {X : Type 0} (text : X → List ℕ) (InForm : X → Type 0) where
   -- a line that reads as none of a kind begins the bytes, so no line of this kind does
-  pub none_in_line : ((x : X) → InForm x → HasNoFeed (text x)) → (bytes line left : List ℕ) → IsLine bytes line left → Reads text InForm line None → BeginsWithNo text InForm bytes
-  none_in_line feedless bytes line left is none = λ x rest form e.
-      none x form (first_feed line (text x) left rest is.no_feed (feedless x form) (sym is.parts ∙ e))
+  pub none_in_line : ((x : X) → InForm x → HasNoFeed (text x)) → (bytes line left : List ℕ) → HasNoFeed line → bytes ≡ (line ++ 10 ∷ []) ++ left → Reads text InForm line None → BeginsWithNo text InForm bytes
+  none_in_line feedless bytes line left no_feed parts none = λ x rest form e.
+      none x form (first_feed line (text x) left rest no_feed (feedless x form) (sym (parts ∙ append_assoc line (10 ∷ []) left) ∙ e))
 
-  -- nor does one begin a text that is too long, or that no line feed ends
-  none_in_bad : ((x : X) → InForm x → length (text x) ≤ 30) → (bytes left : List ℕ) → IsTooLong bytes left ⊎ IsUnended bytes left → BeginsWithNo text InForm bytes
-  none_in_bad short bytes left (inl bad) = λ x rest form e.
-      feed_within bad.text (text x) left rest bad.no_feed (omega (arith, short x form, bad.long)) (sym bad.parts ∙ e)
-  none_in_bad short bytes left (inr bad) = λ x rest form e.
-      feed_within bytes (text x) [] rest bad.no_feed (omega (arith, ap length e, length-append (text x) (10 ∷ rest))) (append-nil bytes ∙ e)
+  in_line : ((x : X) → InForm x → HasNoFeed (text x)) → (old new : Option (List ℕ)) (line : List ℕ) → HasNoFeed line → GivesBytes old (line ++ 10 ∷ []) new → Reads text InForm line None →
+      IfSome old (BeginsWithNo text InForm)
+  in_line feedless None new line no_feed given none = tt
+  in_line feedless (Some bytes) new line no_feed (left, is, parts) none = none_in_line feedless bytes line left no_feed parts none
 
-  pub none_at_end : (bytes : List ℕ) → bytes ≡ [] → BeginsWithNo text InForm bytes
-  none_at_end bytes empty = λ x rest form e. absurd (omega (arith, ap length (sym empty ∙ e), length-append (text x) (10 ∷ rest)))
+  pub no_line : ((x : X) → InForm x → HasNoFeed (text x)) → (old new : DeviceState) (line : List ℕ) → IsLine 30 old line new → Reads text InForm line None → IfSome old.bytes (BeginsWithNo text InForm)
+  no_line feedless old new line is none = in_line feedless old.bytes new.bytes line is.no_feed is.given.given none
 
-  pub no_line : ((x : X) → InForm x → HasNoFeed (text x)) → (old new : Option (List ℕ)) (line : ArrayVec ℕ) → GivesLine old (Text line) new → Reads text InForm line.items None → IfSome old (BeginsWithNo text InForm)
-  no_line feedless None new line gives none = tt
-  no_line feedless (Some bytes) new line (left, is, parts) none = none_in_line feedless bytes line.items left parts none
+  -- nor does one begin a text that is too long
+  in_long : ((x : X) → InForm x → length (text x) ≤ 30) → (old new : Option (List ℕ)) (line : List ℕ) → length line ≡ 31 → HasNoFeed line → GivesBytes old line new → IfSome old (BeginsWithNo text InForm)
+  in_long short None new line long no_feed given = tt
+  in_long short (Some bytes) new line long no_feed (left, is, parts) = λ x rest form e.
+      feed_within line (text x) left rest no_feed (omega (arith, short x form, long)) (sym parts ∙ e)
 
-  pub no_line_bad : ((x : X) → InForm x → length (text x) ≤ 30) → (old new : Option (List ℕ)) → GivesLine old Bad new → IfSome old (BeginsWithNo text InForm)
-  no_line_bad short None new gives = tt
-  no_line_bad short (Some bytes) new (left, is, bad) = none_in_bad short bytes left bad
+  -- or that no line feed ends
+  in_unended : (old : Option (List ℕ)) (line : List ℕ) → HasNoFeed line → IfSome old (λ bytes. line ≡ bytes) → IfSome old (BeginsWithNo text InForm)
+  in_unended None line no_feed all = tt
+  in_unended (Some bytes) line no_feed all = λ x rest form e.
+      feed_within line (text x) [] rest no_feed (omega (arith, ap length (all ∙ e), length-append (text x) (10 ∷ rest))) (append-nil line ∙ all ∙ e)
 
--- where a bad line stands, something is left
-pub bad_some : (old new : Option (List ℕ)) → GivesLine old Bad new → IfSome old (λ bytes. bytes ≢ [])
-bad_some None new gives = tt
-bad_some (Some bytes) new (left, is, inl bad) = λ empty. absurd (omega (arith, ap length (sym empty ∙ bad.parts), bad.long, length-append bad.text left))
-bad_some (Some bytes) new (left, is, inr bad) = λ empty. absurd (omega (arith, ap length empty, bad.some))
+  pub no_line_bad : ((x : X) → InForm x → length (text x) ≤ 30) → (old new : DeviceState) → IsTooLong 30 old new ⊎ IsUnended 30 old new → IfSome old.bytes (BeginsWithNo text InForm)
+  no_line_bad short old new (inl bad) = in_long short old.bytes new.bytes bad.text bad.long bad.no_feed bad.given.given
+  no_line_bad short old new (inr bad) = in_unended old.bytes bad.text bad.no_feed bad.all
 
--- of an input of which nothing was read all is left
-pub fresh : (unused : Unused) (rest : Option (List ℕ)) → unused.bytes ≡ [] → unused.ended ≡ false → left_of unused rest ≡ rest
-fresh unused None empty going = refl
-fresh unused (Some rest) empty going = ap (λ (bytes : List ℕ). Some (bytes ++ (if unused.ended then [] else rest))) empty ∙ ap (λ (b : Bool). Some (if b then [] else rest)) going
+given_some : (old new : Option (List ℕ)) (line : List ℕ) → 0 < length line → GivesBytes old line new → IfSome old (λ bytes. bytes ≢ [])
+given_some None new line some given = tt
+given_some (Some bytes) new line some (left, is, parts) = λ empty. absurd (omega (arith, some, ap length (sym empty ∙ parts), length-append line left))
+
+-- where a line stands, something is left
+pub line_some : (old new : DeviceState) (line : List ℕ) → IsLine 30 old line new → IfSome old.bytes (λ bytes. bytes ≢ [])
+line_some old new line is = given_some old.bytes new.bytes (line ++ 10 ∷ []) (omega (arith, length-append line (10 ∷ []))) is.given.given
+
+pub bad_some : (old new : DeviceState) → IsTooLong 30 old new ⊎ IsUnended 30 old new → IfSome old.bytes (λ bytes. bytes ≢ [])
+bad_some old new (inl bad) = given_some old.bytes new.bytes bad.text (omega (arith, bad.long)) bad.given.given
+bad_some old new (inr bad) = given_some old.bytes new.bytes bad.text bad.some bad.given.given
+
+-- both hold of what a source tells
+pub both : (o : Option (List ℕ)) (P Q : List ℕ → Type 0) → IfSome o P → IfSome o Q → IfSome o (λ bytes. P bytes × Q bytes)
+both None P Q p q = tt
+both (Some bytes) P Q p q = (p, q)
+
+pub first_holds : (o : Option (List ℕ)) (P Q : List ℕ → Type 0) → IfSome o (λ bytes. P bytes × Q bytes) → IfSome o P
+first_holds None P Q p = tt
+first_holds (Some bytes) P Q p = p.0
+
+pub second_holds : (o : Option (List ℕ)) (P Q : List ℕ → Type 0) → IfSome o (λ bytes. P bytes × Q bytes) → IfSome o Q
+second_holds None P Q p = tt
+second_holds (Some bytes) P Q p = p.1

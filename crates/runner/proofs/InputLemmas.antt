@@ -6,9 +6,10 @@ use Rattle.std.proofs.lemmas.List.Splits.{join_with_byte-slice_split}
 use Rattle.std.proofs.lemmas.Fmt.{length-decimal-le, decimal_nonempty}
 use Rattle.texts.specs.Fields.{fields_in}
 use Rattle.texts.specs.Numbers.{Reads, hex2, flag_digit}
+use Rattle.texts.proofs.NumberLemmas.{length_hex2}
 use Rattle.texts.proofs.PlainLemmas.{ArePlain, plain_from_test, plain_decimal, plain_hex2, plain_flag, fields_in_line, no_lf_in_join}
 use Rattle.runner.specs.Input.{IsResetLine, IsEnvLine, reset_fields, reset_text, env_fields, env_text}
-use Rattle.runner.specs.Pending.{HasNoFeed}
+use Rattle.texts.specs.Incoming.{HasNoFeed}
 use Rattle.runner.specs.declared.input.EnvLine.{EnvLine}
 use Rattle.runner.specs.declared.input.ResetLine.{ResetLine}
 
@@ -55,10 +56,6 @@ length_joined field (next ∷ fields) =
     let one : length (32 ∷ rest) ≡ suc (length rest) = refl in
     let sum : widths (field ∷ next ∷ fields) ≡ length field + 1 + widths (next ∷ fields) = refl in
     omega (arith, split, one, sum, length_joined next fields)
-
-length_hex2 : (n : ℕ) → length (hex2 n) ≡ 2
-unfolding hex2
-length_hex2 n = refl
 
 length_flag : (b : Bool) → length (flag_digit b) ≡ 1
 length_flag false = refl

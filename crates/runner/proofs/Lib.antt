@@ -4,5 +4,5 @@ pub mod JudgedLemmas
 pub mod LeadsLemmas
 pub mod MachineLemmas
 pub mod OutputLemmas
-pub mod PendingLemmas
 pub mod PlayLemmas
+pub mod StopLemmas

@@ -10,8 +10,8 @@ use Rattle.runner.specs.Leads.{LeadsTo, TakesTime, time_of}
 use Rattle.board_step.specs.State.{State}
 use Rattle.board_step.specs.declared.env.Env.{Env}
 use Rattle.board_step.specs.declared.event.Event.{Event}
-use Rattle.texts.specs.Device.{Gives}
-use Rattle.texts.proofs.DeviceLemmas.{gives_both}
+use Rattle.texts.specs.Device.{DeviceState, GivesBytes}
+use Rattle.texts.proofs.DeviceLemmas.{gives_bytes}
 use Rattle.runner.specs.Input.{IsResetLine, IsEnvLine, reset_of, reset_text, env_text, env_of}
 use Rattle.runner.specs.Machine.{Summarizes}
 use Rattle.runner.specs.Playing.{BeginsWithNo, IsBadLine, OfBytes, Played, TakesEnv, TakesReset, envs_of, text_of}
@@ -28,7 +28,7 @@ pub record Sofar (hardware : Hardware) (steps : ℕ) (old now : Option (List ℕ
   pub reset_form : IsResetLine reset
   pub lines : List EnvLine
   pub lines_form : AllByRecursion IsEnvLine lines
-  pub given : Gives old (reset_text reset ++ 10 ∷ text_of lines) now
+  pub given : GivesBytes old (reset_text reset ++ 10 ∷ text_of lines) now
   pub number_is : number ≡ length lines + 1
   pub events : List Event
   pub leads : LeadsTo hardware (reset_state (reset_of reset)) (take steps (envs_of lines)) events state
@@ -37,7 +37,7 @@ pub record Sofar (hardware : Hardware) (steps : ℕ) (old now : Option (List ℕ
   pub timed : time ≡ time_of events
 
 -- only the first line was read
-pub sofar_start : (hardware : Hardware) (steps : ℕ) (old now : Option (List ℕ)) (reset : ResetLine) → TakesReset old reset now → Sofar hardware steps old now 1 steps 0 (reset_state (reset_of reset))
+pub sofar_start : (hardware : Hardware) (steps : ℕ) (old now : DeviceState) (reset : ResetLine) → TakesReset old reset now → Sofar hardware steps old.bytes now.bytes 1 steps 0 (reset_state (reset_of reset))
 sofar_start hardware steps old now reset takes =
     let start = reset_state (reset_of reset) in
     record {
@@ -45,7 +45,7 @@ sofar_start hardware steps old now reset takes =
       reset_form = takes.0;
       lines = [];
       lines_form = tt;
-      given = takes.1;
+      given = takes.1.given;
       number_is = refl;
       events = [];
       leads = subst (λ (envs : List Env). LeadsTo hardware start envs [] start) (sym (take_all steps [] (omega arith))) refl;
@@ -92,9 +92,9 @@ take_push steps left n envs env some is =
     ∙ ap (λ (es : List Env). es ++ replicate (min n left) env) (sym (take_all steps envs (omega (arith, whole))))
 
 -- a line more was read and its events done
-pub sofar_more : (hardware : Hardware) (steps : ℕ) (old mid now : Option (List ℕ)) (number left time : ℕ) (state new : State) (line : EnvLine) (count t : ℕ) →
-    Sofar hardware steps old mid number left time state → 0 < left → TakesEnv mid (Some line) now → count ≡ min line.count left → TakesTime hardware state (replicate count (env_of line)) t new →
-    Sofar hardware steps old now (number + 1) (left - count) (time + t) new
+pub sofar_more : (hardware : Hardware) (steps : ℕ) (old : Option (List ℕ)) (mid now : DeviceState) (number left time : ℕ) (state new : State) (line : EnvLine) (count t : ℕ) →
+    Sofar hardware steps old mid.bytes number left time state → 0 < left → TakesEnv mid (Some line) now → count ≡ min line.count left → TakesTime hardware state (replicate count (env_of line)) t new →
+    Sofar hardware steps old now.bytes (number + 1) (left - count) (time + t) new
 sofar_more hardware steps old mid now number left time state new line count t far some takes is ran =
     let copies = replicate count (env_of line) in
     let envs : take steps (envs_of (far.lines ++ line ∷ [])) ≡ take steps (envs_of far.lines) ++ copies =
@@ -108,7 +108,7 @@ sofar_more hardware steps old mid now number left time state new line count t fa
       reset_form = far.reset_form;
       lines = far.lines ++ line ∷ [];
       lines_form = all_form far.lines line far.lines_form takes.0;
-      given = subst (λ (bytes : List ℕ). Gives old bytes now) text (gives_both old mid now _ _ far.given takes.1);
+      given = subst (λ (bytes : List ℕ). GivesBytes old bytes now.bytes) text (gives_bytes old mid.bytes now.bytes _ _ far.given takes.1.given);
       number_is = omega (arith, far.number_is, length-append far.lines (line ∷ []));
       events = far.events ++ ran.events;
       leads = subst (λ (es : List Env). LeadsTo hardware (reset_state (reset_of far.reset)) es (far.events ++ ran.events) new) (sym envs) both;
@@ -149,7 +149,7 @@ sofar_ends hardware steps (Some bytes) now number left time state summary n far 
 
 -- a line feed alone is no line of environments
 no_env_at_feed : BeginsWithNo env_text IsEnvLine (10 ∷ [])
-no_env_at_feed = none_in_line env_text IsEnvLine no_feed_env (10 ∷ []) [] [] record { short = omega arith; no_feed = tt; parts = refl }
+no_env_at_feed = none_in_line env_text IsEnvLine no_feed_env (10 ∷ []) [] [] tt refl
     (λ line form e. absurd (omega (arith, env_some line form, ap length e)))
 
 -- the next line is needed and out of form

@@ -3,5 +3,4 @@ pub mod Input
 pub mod Leads
 pub mod Machine
 pub mod Output
-pub mod Pending
 pub mod Playing

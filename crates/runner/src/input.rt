@@ -9,6 +9,9 @@ use t_states::FRAME;
 use texts::{Fields, decimal_between, flag_field, hex2_field};
 use z80_alu::{RegisterSet, Regs, Word};
 
+/// The longest line of an input, without its line feed.
+pub(crate) const LINE_LEN: usize = 30;
+
 /// The first line of an input, `reset PHASE FILL`.
 #[derive(Clone, Copy)]
 pub struct ResetLine {

@@ -6,11 +6,10 @@ mod fault;
 mod input;
 mod machine;
 mod output;
-mod pending;
 mod playing;
 
 pub use fault::PlayFault;
 pub use input::{EnvLine, ResetLine};
 pub use machine::{Machine, Summary};
-pub use output::{put, put_decimal, put_hex4, put_summary};
+pub use output::summary_lines;
 pub use playing::play;

@@ -1,147 +1,85 @@
-// The lines of a summary, written to a device.
+// The lines of a summary.
 
-ghost use Rattle.std.specs.Prelude.{◌≡◌, ◌<◌, ◌∷◌, OnOk, OnErr, decimal};
-ghost use Rattle.texts.specs.Device.{HasGrown, Takes, TakesPart};
-ghost use Rattle.texts.specs.Numbers.{hex_digit, hex4};
+ghost use Rattle.std.specs.Prelude.{◌≡◌, ◌≤◌, ◌+◌, ◌∷◌, ◌++◌, length, decimal};
+ghost use Rattle.texts.specs.Made.{MADE_LEN};
+ghost use Rattle.texts.specs.Numbers.{hex4};
 ghost use Rattle.runner.specs.Output.{done_line, regs_line, sum_line, summary_text};
 
 use crate::machine::Summary;
-use itoa::Buffer;
-use texts::{DeviceFault, Sink};
+use texts::MadeLine;
 
-/// Writes all of the bytes.
-pub fn put<W: Sink>(out: &mut W, bytes: &[u8]) -> Result<(), DeviceFault>
-    ensures written { OnOk result (Takes (W.taken out.old) bytes.now (W.taken out.new)) }
-    ensures part { OnErr result (TakesPart (W.taken out.old) bytes.now (W.taken out.new)) }
-    ensures kept { OnOk result (W.failure_count out.new ≡ W.failure_count out.old) }
-    ensures failed { OnErr result (HasGrown (W.failure_count out.old) (W.failure_count out.new)) }
+/// The lines of a summary (docs/PROGRAM.md, "A run's lines").
+pub fn summary_lines(summary: &Summary) -> MadeLine
+    ensures { result ≡ summary_text summary.now }
 {
-    let mut rest = bytes;
-    while !rest.is_empty() {
-        let Ok(count) = out.write(rest) else {
-            return Err(DeviceFault);
-        };
-        if count == 0 {
-            return Err(DeviceFault);
-        }
-        let (_, left) = rest.split_at(count);
-        rest = left;
-    }
-    Ok(())
+    let mut lines = MadeLine::new();
+    add_done(&mut lines, summary);
+    add_regs(&mut lines, &summary.pairs);
+    add_sums(&mut lines, &summary.sums);
+    lines
 }
 
-/// Writes a number in decimal.
-pub fn put_decimal<W: Sink>(out: &mut W, number: u128) -> Result<(), DeviceFault>
-    ensures written { OnOk result (Takes (W.taken out.old) (decimal number) (W.taken out.new)) }
-    ensures part { OnErr result (TakesPart (W.taken out.old) (decimal number) (W.taken out.new)) }
-    ensures kept { OnOk result (W.failure_count out.new ≡ W.failure_count out.old) }
-    ensures failed { OnErr result (HasGrown (W.failure_count out.old) (W.failure_count out.new)) }
+/// Adds the line of a summary's events, T-states, program counter and stack pointer.
+fn add_done(lines: &mut MadeLine, summary: &Summary)
+    requires { length lines.old + 95 ≤ MADE_LEN }
+    ensures value { lines.new ≡ lines.old ++ done_line summary.now }
+    ensures grown { length lines.new ≤ length lines.old + 95 }
 {
-    let mut buffer = Buffer::new();
-    put(out, buffer.format(number).as_bytes())
+    lines.add(b"done");
+    add_decimal_field(lines, u128::from(summary.events));
+    add_decimal_field(lines, summary.time);
+    add_hex4_field(lines, summary.pc);
+    add_hex4_field(lines, summary.sp);
+    lines.add_byte(b'\n');
 }
 
-/// Writes a word as four upper-case hexadecimal digits.
-#[tactic(auto, unfolding(texts::specs::Numbers::hex4))]
-pub fn put_hex4<W: Sink>(out: &mut W, word: u16) -> Result<(), DeviceFault>
-    ensures written { OnOk result (Takes (W.taken out.old) (hex4 word) (W.taken out.new)) }
-    ensures part { OnErr result (TakesPart (W.taken out.old) (hex4 word) (W.taken out.new)) }
-    ensures kept { OnOk result (W.failure_count out.new ≡ W.failure_count out.old) }
-    ensures failed { OnErr result (HasGrown (W.failure_count out.old) (W.failure_count out.new)) }
+/// Adds the line of a summary's register pairs.
+fn add_regs(lines: &mut MadeLine, pairs: &[u16; 6])
+    requires { length lines.old + 35 ≤ MADE_LEN }
+    ensures value { lines.new ≡ lines.old ++ regs_line pairs.now }
+    ensures grown { length lines.new ≤ length lines.old + 35 }
 {
-    let digits = [
-        digit_of(word / 0x1000),
-        digit_of(word / 0x100 % 16),
-        digit_of(word / 0x10 % 16),
-        digit_of(word % 16),
-    ];
-    put(out, &digits)
+    let [af, bc, de, hl, ix, iy] = *pairs;
+    lines.add(b"regs");
+    add_hex4_field(lines, af);
+    add_hex4_field(lines, bc);
+    add_hex4_field(lines, de);
+    add_hex4_field(lines, hl);
+    add_hex4_field(lines, ix);
+    add_hex4_field(lines, iy);
+    lines.add_byte(b'\n');
 }
 
-fn digit_of(value: u16) -> u8
-    requires { value < 16 }
-    ensures { result ≡ hex_digit value }
+/// Adds the line of a summary's sums.
+fn add_sums(lines: &mut MadeLine, sums: &[u32; 3])
+    requires { length lines.old + 124 ≤ MADE_LEN }
+    ensures value { lines.new ≡ lines.old ++ sum_line sums.now }
+    ensures grown { length lines.new ≤ length lines.old + 124 }
 {
-    if value < 10 {
-        b'0' + value as u8
-    } else {
-        b'A' + (value as u8 - 10)
-    }
+    let [work, video, object] = *sums;
+    lines.add(b"sum");
+    add_decimal_field(lines, u128::from(work));
+    add_decimal_field(lines, u128::from(video));
+    add_decimal_field(lines, u128::from(object));
+    lines.add_byte(b'\n');
 }
 
-/// Writes a space and a number in decimal.
-fn put_decimal_field<W: Sink>(out: &mut W, number: u128) -> Result<(), DeviceFault>
-    ensures written { OnOk result (Takes (W.taken out.old) (32 ∷ decimal number) (W.taken out.new)) }
-    ensures part { OnErr result (TakesPart (W.taken out.old) (32 ∷ decimal number) (W.taken out.new)) }
-    ensures kept { OnOk result (W.failure_count out.new ≡ W.failure_count out.old) }
-    ensures failed { OnErr result (HasGrown (W.failure_count out.old) (W.failure_count out.new)) }
+/// Adds a space and a number in decimal.
+fn add_decimal_field(lines: &mut MadeLine, number: u128)
+    requires { length lines.old + 40 ≤ MADE_LEN }
+    ensures value { lines.new ≡ lines.old ++ 32 ∷ decimal number }
+    ensures grown { length lines.new ≤ length lines.old + 40 }
 {
-    put(out, b" ")?;
-    put_decimal(out, number)
+    lines.add_byte(b' ');
+    lines.add_decimal(number);
 }
 
-/// Writes a space and a word as four upper-case hexadecimal digits.
-fn put_hex4_field<W: Sink>(out: &mut W, word: u16) -> Result<(), DeviceFault>
-    ensures written { OnOk result (Takes (W.taken out.old) (32 ∷ hex4 word) (W.taken out.new)) }
-    ensures part { OnErr result (TakesPart (W.taken out.old) (32 ∷ hex4 word) (W.taken out.new)) }
-    ensures kept { OnOk result (W.failure_count out.new ≡ W.failure_count out.old) }
-    ensures failed { OnErr result (HasGrown (W.failure_count out.old) (W.failure_count out.new)) }
+/// Adds a space and a word as four upper-case hexadecimal digits.
+fn add_hex4_field(lines: &mut MadeLine, word: u16)
+    requires { length lines.old + 5 ≤ MADE_LEN }
+    ensures value { lines.new ≡ lines.old ++ 32 ∷ hex4 word }
+    ensures grown { length lines.new ≤ length lines.old + 5 }
 {
-    put(out, b" ")?;
-    put_hex4(out, word)
-}
-
-/// Writes the line of a summary's events, T-states, program counter and stack pointer.
-fn put_done<W: Sink>(out: &mut W, summary: &Summary) -> Result<(), DeviceFault>
-    ensures written { OnOk result (Takes (W.taken out.old) (done_line summary.now) (W.taken out.new)) }
-    ensures part { OnErr result (TakesPart (W.taken out.old) (done_line summary.now) (W.taken out.new)) }
-    ensures kept { OnOk result (W.failure_count out.new ≡ W.failure_count out.old) }
-    ensures failed { OnErr result (HasGrown (W.failure_count out.old) (W.failure_count out.new)) }
-{
-    put(out, b"done")?;
-    put_decimal_field(out, u128::from(summary.events))?;
-    put_decimal_field(out, summary.time)?;
-    put_hex4_field(out, summary.pc)?;
-    put_hex4_field(out, summary.sp)?;
-    put(out, b"\n")
-}
-
-/// Writes the line of a summary's register pairs.
-fn put_regs<W: Sink>(out: &mut W, pairs: &[u16]) -> Result<(), DeviceFault>
-    ensures written { OnOk result (Takes (W.taken out.old) (regs_line pairs.now) (W.taken out.new)) }
-    ensures part { OnErr result (TakesPart (W.taken out.old) (regs_line pairs.now) (W.taken out.new)) }
-    ensures kept { OnOk result (W.failure_count out.new ≡ W.failure_count out.old) }
-    ensures failed { OnErr result (HasGrown (W.failure_count out.old) (W.failure_count out.new)) }
-{
-    put(out, b"regs")?;
-    for pair in pairs {
-        put_hex4_field(out, *pair)?;
-    }
-    put(out, b"\n")
-}
-
-/// Writes the line of a summary's sums.
-fn put_sums<W: Sink>(out: &mut W, sums: &[u32]) -> Result<(), DeviceFault>
-    ensures written { OnOk result (Takes (W.taken out.old) (sum_line sums.now) (W.taken out.new)) }
-    ensures part { OnErr result (TakesPart (W.taken out.old) (sum_line sums.now) (W.taken out.new)) }
-    ensures kept { OnOk result (W.failure_count out.new ≡ W.failure_count out.old) }
-    ensures failed { OnErr result (HasGrown (W.failure_count out.old) (W.failure_count out.new)) }
-{
-    put(out, b"sum")?;
-    for sum in sums {
-        put_decimal_field(out, u128::from(*sum))?;
-    }
-    put(out, b"\n")
-}
-
-/// Writes the lines of a summary (docs/PROGRAM.md, "A run's lines").
-pub fn put_summary<W: Sink>(out: &mut W, summary: &Summary) -> Result<(), DeviceFault>
-    ensures written { OnOk result (Takes (W.taken out.old) (summary_text summary.now) (W.taken out.new)) }
-    ensures part { OnErr result (TakesPart (W.taken out.old) (summary_text summary.now) (W.taken out.new)) }
-    ensures kept { OnOk result (W.failure_count out.new ≡ W.failure_count out.old) }
-    ensures failed { OnErr result (HasGrown (W.failure_count out.old) (W.failure_count out.new)) }
-{
-    put_done(out, summary)?;
-    put_regs(out, &summary.pairs)?;
-    put_sums(out, &summary.sums)
+    lines.add_byte(b' ');
+    lines.add_hex4(word);
 }

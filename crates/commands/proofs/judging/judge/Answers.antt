@@ -1,12 +1,12 @@
-use Rattle.std.proofs.Common.{inl, inr, refl}
+use Rattle.std.proofs.Common.{inl, inr, refl, ◌∙◌}
 use Rattle.commands.proofs.FileLemmas.{accepted_of}
 use Rattle.commands.proofs.judging.judge.Goals as goal
 
 pub returns-in-Err-Line-clause-refused : goal.returns-in-Err-Line-clause-refused
 returns-in-Err-Line-clause-refused g c = λ _. (
-  _,
-  c.in_ok-write_bad_line-in-Err-Line.ensures.written,
-  inr (inl (record { line = c.in-Err-Line.line; bad = c.in-Err-Line.ensures.line _ (cc); printed_is = refl })),
+  c.bytes.result.now,
+  c.in_ok-put-in-Err-Line.ensures,
+  inr (inl (record { line = c.in-Err-Line.line; bad = c.in-Err-Line.ensures.line _ (cc); printed_is = c.bytes.ensures.value ∙ c.bad_line.ensures })),
 )
 
 pub returns-in-Ok-check-clause-accepted : goal.returns-in-Ok-check-clause-accepted

@@ -11,7 +11,7 @@ returns-in-Err-judge-clause-refused g c = λ e. inl (
 
 pub returns-in-Ok-play_on-clause-run : goal.returns-in-Ok-play_on-clause-run
 returns-in-Ok-play_on-clause-run g c = λ _.
-    tells_run g.W.Sink.taken _ _ _ _ _ _ _ _ _ _ _ (was_read _ _ _ _ _ _ c.as_slice.ensures.value c.as_slice-2.ensures.value c.in-Ok.ensures.rom c.in-Ok.ensures.cert)
+    tells_run g.W.Sink.state _ _ _ _ _ _ _ _ _ _ _ (was_read _ _ _ _ _ _ c.as_slice.ensures.value c.as_slice-2.ensures.value c.in-Ok.ensures.rom c.in-Ok.ensures.cert)
     c.in-Ok-judge.ensures.accepted.1 c.in-Ok-judge.ensures.accepted.0 c.in-Ok-judge.ensures.kept c.in-Ok-play_on.ensures.run
 
 pub returns-in-Ok-play_on-clause-input_next : goal.returns-in-Ok-play_on-clause-input_next
@@ -20,7 +20,7 @@ returns-in-Ok-play_on-clause-input_next g c =
 
 pub returns-clause-refused : goal.returns-clause-refused
 returns-clause-refused g c = λ e. inr (
-    tells_bad_input g.W.Sink.taken _ _ _ _ _ _ _ _ _ _ (was_read _ _ _ _ _ _ c.as_slice.ensures.value c.as_slice-2.ensures.value c.in-Ok.ensures.rom c.in-Ok.ensures.cert)
+    tells_bad_input g.W.Sink.state _ _ _ _ _ _ _ _ _ _ (was_read _ _ _ _ _ _ c.as_slice.ensures.value c.as_slice-2.ensures.value c.in-Ok.ensures.rom c.in-Ok.ensures.cert)
     c.in-Ok-judge.ensures.accepted.1 c.in-Ok-judge.ensures.kept (c.in-Err-play_on.ensures.bad (cc (c.status-in-Err-play_on.ensures.refused e)))
     )
 

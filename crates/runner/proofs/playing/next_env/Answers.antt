@@ -1,46 +1,25 @@
-use Rattle.std.proofs.Common.{◌≡◌, None}
+use Rattle.std.proofs.Common.{◌⊎◌, None, refl}
+use Rattle.texts.specs.Incoming.{IsLine, IsTooLong, IsUnended, left_of}
 use Rattle.texts.specs.Numbers.{Reads}
+use Rattle.texts.specs.declared.incoming.LineEnd.TheVariants.{Feed, Bad}
+use Rattle.texts.proofs.IncomingLemmas.{enough}
 use Rattle.runner.specs.Input.{IsEnvLine, env_text}
-use Rattle.runner.specs.Pending.{GivesLine, left_of}
-use Rattle.runner.specs.declared.pending.Line.TheVariants.{Text, Bad}
-use Rattle.runner.proofs.JudgedLemmas.{text_enough, bad_enough}
-use Rattle.runner.proofs.FeedLemmas.{no_line, no_line_bad, bad_some}
+use Rattle.runner.proofs.FeedLemmas.{both, bad_some, line_some, no_line, no_line_bad}
 use Rattle.runner.proofs.InputLemmas.{no_feed_env, short_env}
 use Rattle.runner.proofs.playing.next_env.Goals as goal
 
-pub returns-in-None-clause-bad : goal.returns-in-None-clause-bad
-returns-in-None-clause-bad g c line e =
-    let old = left_of c.args.pending.now (g.R.Source.rest c.args.input.now) in
-    let new = left_of c.next_line.new.self (g.R.Source.rest c.next_line.new.input) in
-    let gives : GivesLine old (Text c.in-Text.text) new = rw c.in-Text.is at c.in_ok-text.ensures.line in
-    let none : Reads env_text IsEnvLine c.in-Text.text.items None = rw c.as_slice.ensures.value at c.in-None.ensures in
-    no_line env_text IsEnvLine no_feed_env old new c.in-Text.text gives none
+pub returns-in-None-clause-line : goal.returns-in-None-clause-line
+returns-in-None-clause-line g c =
+    let old = left_of c.args.incoming.now (g.R.Source.state c.args.input.now) in
+    let new = left_of c.next_line.new.self (g.R.Source.state c.next_line.new.input) in
+    let text = c.next_line.new.line.items in
+    let line : IsLine 30 old text new = rw c.in-Ok-Feed.field-0-is at c.in-Ok-Feed.ensures.line in
+    let none : Reads env_text IsEnvLine text None = rw c.as_slice.ensures.value at c.in-None.ensures in
+    (refl, both (left_of c.args.incoming.now (g.R.Source.state c.args.input.now)).bytes _ _ (line_some old new text line) (no_line env_text IsEnvLine no_feed_env old new text line none), enough 30 old new text Feed line)
 
-pub returns-in-Bad-clause-some : goal.returns-in-Bad-clause-some
-returns-in-Bad-clause-some g c line e =
-    let old = left_of c.args.pending.now (g.R.Source.rest c.args.input.now) in
-    let new = left_of c.next_line.new.self (g.R.Source.rest c.next_line.new.input) in
-    let gives : GivesLine old Bad new = rw c.in-Bad.is at c.in_ok-text.ensures.line in
-    let same : line ≡ c.args.number = cc in
-    (same, bad_some old new gives)
-
-pub returns-in-Bad-clause-bad : goal.returns-in-Bad-clause-bad
-returns-in-Bad-clause-bad g c line e =
-    let old = left_of c.args.pending.now (g.R.Source.rest c.args.input.now) in
-    let new = left_of c.next_line.new.self (g.R.Source.rest c.next_line.new.input) in
-    let gives : GivesLine old Bad new = rw c.in-Bad.is at c.in_ok-text.ensures.line in
-    no_line_bad env_text IsEnvLine short_env old new gives
-
-pub returns-in-None-clause-judged : goal.returns-in-None-clause-judged
-returns-in-None-clause-judged g c line e =
-    let old = left_of c.args.pending.now (g.R.Source.rest c.args.input.now) in
-    let new = left_of c.next_line.new.self (g.R.Source.rest c.next_line.new.input) in
-    let gives : GivesLine old (Text c.in-Text.text) new = rw c.in-Text.is at c.in_ok-text.ensures.line in
-    text_enough old new c.in-Text.text gives
-
-pub returns-in-Bad-clause-judged : goal.returns-in-Bad-clause-judged
-returns-in-Bad-clause-judged g c line e =
-    let old = left_of c.args.pending.now (g.R.Source.rest c.args.input.now) in
-    let new = left_of c.next_line.new.self (g.R.Source.rest c.next_line.new.input) in
-    let gives : GivesLine old Bad new = rw c.in-Bad.is at c.in_ok-text.ensures.line in
-    bad_enough old new gives
+pub returns-in-Ok-Bad-clause-line : goal.returns-in-Ok-Bad-clause-line
+returns-in-Ok-Bad-clause-line g c =
+    let old = left_of c.args.incoming.now (g.R.Source.state c.args.input.now) in
+    let new = left_of c.next_line.new.self (g.R.Source.state c.next_line.new.input) in
+    let bad : IsTooLong 30 old new ⊎ IsUnended 30 old new = rw c.in-Ok-Bad.field-0-is at c.in-Ok-Bad.ensures.line in
+    (refl, both (left_of c.args.incoming.now (g.R.Source.state c.args.input.now)).bytes _ _ (bad_some old new bad) (no_line_bad env_text IsEnvLine short_env old new bad), enough 30 old new c.next_line.new.line.items Bad bad)
