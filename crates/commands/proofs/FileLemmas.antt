@@ -7,7 +7,7 @@ use Rattle.board_step.specs.Safe.{Safe}
 use Rattle.cert_checker.specs.Accepts.{Accepts}
 use Rattle.cert_checker.specs.Profile.{certified_profile, hardware_for, nmi_time}
 use Rattle.certificate.specs.Contents.{Contents}
-use Rattle.texts.specs.Device.{DeviceState, GivesBytes, Takes}
+use Rattle.texts.specs.Device.{DeviceState, GivesBytes}
 use Rattle.certificate.specs.Text.{IsInForm, text_of}
 use Rattle.commands.specs.Judging.{HoldAccepted, IsAccepted, OnAccepted, TellsAccepted, TellsRefusal, WritesRefusal}
 use Rattle.commands.specs.Reading.{AllBytes, FirstBytes, OfFiles, ROM_READ_LEN}
@@ -82,28 +82,28 @@ was_read rom text items line_items bytes lines same same_lines first all = recor
   all = subst (AllBytes text) (sym same_lines) all;
 }
 
-pub tells_refusal : (rom text : Option (List ℕ)) (old new : DeviceState) (bytes lines : List ℕ) → WasRead rom text bytes lines → WritesRefusal bytes lines old new → TellsRefusal rom text old new
-tells_refusal rom text old new bytes lines was writes = of_first rom text bytes lines (λ b l. WritesRefusal b l old new) was.first was.all writes
+pub tells_refusal : (Writes : DeviceState → List ℕ → DeviceState → Type 0) (rom text : Option (List ℕ)) (old new : DeviceState) (bytes lines : List ℕ) → WasRead rom text bytes lines → WritesRefusal Writes bytes lines old new → TellsRefusal Writes rom text old new
+tells_refusal Writes rom text old new bytes lines was writes = of_first rom text bytes lines (λ b l. WritesRefusal Writes b l old new) was.first was.all writes
 
 pub hold_accepted : (rom text : Option (List ℕ)) (bytes lines : List ℕ) (certificate : Contents) → WasRead rom text bytes lines → IsAccepted bytes lines certificate → HoldAccepted rom text
 hold_accepted rom text bytes lines certificate was accepted = on_accepted rom text bytes lines certificate (λ _ _. Unit {0}) was.first was.all accepted tt
 
 -- the same from a sink that is the same
-pub tells_accepted : {X : Type 0} (state : X → DeviceState) (rom text : Option (List ℕ)) (new : DeviceState) (bytes lines : List ℕ) (certificate shown : Contents) (before same : X) →
-    WasRead rom text bytes lines → IsAccepted bytes lines certificate → shown ≡ certificate → before ≡ same → Takes (state before) (accepted_text shown) new → TellsAccepted rom text (state same) new
-tells_accepted {X} state rom text new bytes lines certificate shown before same was accepted is kept takes =
-    on_accepted rom text bytes lines certificate (λ _ c. Takes (state same) (accepted_text c) new) was.first was.all accepted
-    (subst (λ (x : X). Takes (state x) (accepted_text certificate) new) kept (subst (λ (c : Contents). Takes (state before) (accepted_text c) new) is takes))
+pub tells_accepted : {X : Type 0} (Writes : DeviceState → List ℕ → DeviceState → Type 0) (state : X → DeviceState) (rom text : Option (List ℕ)) (new : DeviceState) (bytes lines : List ℕ) (certificate shown : Contents) (before same : X) →
+    WasRead rom text bytes lines → IsAccepted bytes lines certificate → shown ≡ certificate → before ≡ same → Writes (state before) (accepted_text shown) new → TellsAccepted Writes rom text (state same) new
+tells_accepted {X} Writes state rom text new bytes lines certificate shown before same was accepted is kept takes =
+    on_accepted rom text bytes lines certificate (λ _ c. Writes (state same) (accepted_text c) new) was.first was.all accepted
+    (subst (λ (x : X). Writes (state x) (accepted_text certificate) new) kept (subst (λ (c : Contents). Writes (state before) (accepted_text c) new) is takes))
 
-pub tells_run : {X : Type 0} (state : X → DeviceState) (steps : ℕ) (rom text input : Option (List ℕ)) (new : DeviceState) (bytes lines own : List ℕ) (certificate : Contents) (before same : X) →
-    WasRead rom text bytes lines → IsAccepted bytes lines certificate → own ≡ bytes → before ≡ same → PlaysTo (hardware_for own certificate) steps input (state before) new →
-    TellsRun steps rom text input (state same) new
-tells_run {X} state steps rom text input new bytes lines own certificate before same was accepted is kept plays =
-    on_accepted rom text bytes lines certificate (λ b c. PlaysTo (hardware_for b c) steps input (state same) new) was.first was.all accepted
-    (subst (λ (x : X). PlaysTo (hardware_for bytes certificate) steps input (state x) new) kept (subst (λ (b : List ℕ). PlaysTo (hardware_for b certificate) steps input (state before) new) is plays))
+pub tells_run : {X : Type 0} (Writes : DeviceState → List ℕ → DeviceState → Type 0) (state : X → DeviceState) (steps : ℕ) (rom text input : Option (List ℕ)) (new : DeviceState) (bytes lines own : List ℕ) (certificate : Contents) (before same : X) →
+    WasRead rom text bytes lines → IsAccepted bytes lines certificate → own ≡ bytes → before ≡ same → PlaysTo Writes (hardware_for own certificate) steps input (state before) new →
+    TellsRun Writes steps rom text input (state same) new
+tells_run {X} Writes state steps rom text input new bytes lines own certificate before same was accepted is kept plays =
+    on_accepted rom text bytes lines certificate (λ b c. PlaysTo Writes (hardware_for b c) steps input (state same) new) was.first was.all accepted
+    (subst (λ (x : X). PlaysTo Writes (hardware_for bytes certificate) steps input (state x) new) kept (subst (λ (b : List ℕ). PlaysTo Writes (hardware_for b certificate) steps input (state before) new) is plays))
 
-pub tells_bad_input : {X : Type 0} (state : X → DeviceState) (steps : ℕ) (rom text input : Option (List ℕ)) (new : DeviceState) (bytes lines : List ℕ) (certificate : Contents) (before same : X) →
-    WasRead rom text bytes lines → IsAccepted bytes lines certificate → before ≡ same → PlaysToBadLine steps input (state before) new → TellsBadInput steps rom text input (state same) new
-tells_bad_input {X} state steps rom text input new bytes lines certificate before same was accepted kept plays =
-    on_accepted rom text bytes lines certificate (λ _ _. PlaysToBadLine steps input (state same) new) was.first was.all accepted
-    (subst (λ (x : X). PlaysToBadLine steps input (state x) new) kept plays)
+pub tells_bad_input : {X : Type 0} (Writes : DeviceState → List ℕ → DeviceState → Type 0) (state : X → DeviceState) (steps : ℕ) (rom text input : Option (List ℕ)) (new : DeviceState) (bytes lines : List ℕ) (certificate : Contents) (before same : X) →
+    WasRead rom text bytes lines → IsAccepted bytes lines certificate → before ≡ same → PlaysToBadLine Writes steps input (state before) new → TellsBadInput Writes steps rom text input (state same) new
+tells_bad_input {X} Writes state steps rom text input new bytes lines certificate before same was accepted kept plays =
+    on_accepted rom text bytes lines certificate (λ _ _. PlaysToBadLine Writes steps input (state same) new) was.first was.all accepted
+    (subst (λ (x : X). PlaysToBadLine Writes steps input (state x) new) kept plays)

@@ -5,7 +5,7 @@ use Rattle.cert_checker.specs.Accepts.{Accepts, Applies, NothingBefore}
 use Rattle.cert_checker.specs.Profile.{certified_profile, nmi_time}
 use Rattle.cert_checker.specs.declared.checking.Refused.{Refused}
 use Rattle.certificate.specs.Contents.{Contents}
-use Rattle.texts.specs.Device.{DeviceState, Takes}
+use Rattle.texts.specs.Device.{DeviceState}
 use Rattle.certificate.specs.Text.{HasTooManyRows, IsFirstBadLine, IsInForm, text_of}
 use Rattle.commands.specs.Reading.{OfFiles, ROM_READ_LEN}
 use Rattle.commands.specs.Verdict.{accepted_text, bad_line_text, refused_text}
@@ -42,9 +42,9 @@ pub record PrintsLimit (text printed : List ℕ) : Type 0 where
 abbrev pub PrintsRefusal : List ℕ → List ℕ → List ℕ → Type 0
 PrintsRefusal rom text printed = PrintsRefused rom text printed ⊎ (PrintsBadLine text printed ⊎ PrintsLimit text printed)
 
--- the line that says why was written
-abbrev pub WritesRefusal : List ℕ → List ℕ → DeviceState → DeviceState → Type 0
-WritesRefusal rom text old new = (printed : List ℕ) × Takes old printed new × PrintsRefusal rom text printed
+-- the line that says why was written to a sink: whole (`Takes`), or it failed amid it (`FailsAmid`)
+abbrev pub WritesRefusal : (DeviceState → List ℕ → DeviceState → Type 0) → List ℕ → List ℕ → DeviceState → DeviceState → Type 0
+WritesRefusal Writes rom text old new = (printed : List ℕ) × Writes old printed new × PrintsRefusal rom text printed
 
 -- the files hold a ROM and a certificate that is accepted for it, and this holds of the two
 abbrev pub OnAccepted : Option (List ℕ) → Option (List ℕ) → (List ℕ → Contents → Type 0) → Type 0
@@ -55,9 +55,9 @@ abbrev pub HoldAccepted : Option (List ℕ) → Option (List ℕ) → Type 0
 HoldAccepted rom text = OnAccepted rom text (λ _ _. Unit {0})
 
 -- and its table was written: the sink before and after
-abbrev pub TellsAccepted : Option (List ℕ) → Option (List ℕ) → DeviceState → DeviceState → Type 0
-TellsAccepted rom text old new = OnAccepted rom text (λ _ certificate. Takes old (accepted_text certificate) new)
+abbrev pub TellsAccepted : (DeviceState → List ℕ → DeviceState → Type 0) → Option (List ℕ) → Option (List ℕ) → DeviceState → DeviceState → Type 0
+TellsAccepted Writes rom text old new = OnAccepted rom text (λ _ certificate. Writes old (accepted_text certificate) new)
 
 -- the files hold no such ROM and certificate, and the line that says why was written
-abbrev pub TellsRefusal : Option (List ℕ) → Option (List ℕ) → DeviceState → DeviceState → Type 0
-TellsRefusal rom text old new = OfFiles rom text (λ bytes lines. WritesRefusal (take ROM_READ_LEN bytes) lines old new)
+abbrev pub TellsRefusal : (DeviceState → List ℕ → DeviceState → Type 0) → Option (List ℕ) → Option (List ℕ) → DeviceState → DeviceState → Type 0
+TellsRefusal Writes rom text old new = OfFiles rom text (λ bytes lines. WritesRefusal Writes (take ROM_READ_LEN bytes) lines old new)

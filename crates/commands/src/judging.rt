@@ -2,7 +2,7 @@
 
 ghost use Rattle.std.specs.Prelude.{◌≡◌, ◌≢◌, IfOk, OnOk};
 ghost use Rattle.commands.specs.Judging.{IsAccepted, WritesRefusal};
-ghost use Rattle.texts.specs.Device.{HasFailed, IsQuiet};
+ghost use Rattle.texts.specs.Device.{FailsAmid, HasFailed, IsQuiet, Takes};
 
 use crate::stop::Stop;
 use crate::verdict::{bad_line, refused_line};
@@ -20,8 +20,9 @@ pub fn judge<'r, W: Sink>(
 ) -> Result<Accepted<'r>, Stop>
     ensures accepted { IfOk result (λ accepted. (accepted.rom ≡ rom.now) × IsAccepted rom.now text.now accepted.certificate) }
     ensures kept { OnOk result (out.new ≡ out.old) }
-    ensures refused { result ≡ Err Stop.Refused → WritesRefusal rom.now text.now (W.state out.old) (W.state out.new) }
+    ensures refused { result ≡ Err Stop.Refused → WritesRefusal Takes rom.now text.now (W.state out.old) (W.state out.new) }
     ensures device { result ≡ Err Stop.Device → HasFailed (W.state out.old) (W.state out.new) }
+    ensures part { result ≡ Err Stop.Device → WritesRefusal FailsAmid rom.now text.now (W.state out.old) (W.state out.new) }
     ensures told { result ≢ Err Stop.Device → IsQuiet (W.state out.old) (W.state out.new) }
     ensures memory { result ≡ Err Stop.OutOfMemory → out.new ≡ out.old }
 {

@@ -6,7 +6,7 @@ ghost use Rattle.commands.specs.Judging.{HoldAccepted, TellsRefusal};
 ghost use Rattle.commands.specs.Reading.{GivesUpTo};
 ghost use Rattle.commands.specs.Running.{PlaysTo, PlaysToBadLine, TellsBadInput, TellsRun};
 ghost use Rattle.commands.specs.Status.{IsStatus};
-ghost use Rattle.texts.specs.Device.{HasFailed, IsQuiet};
+ghost use Rattle.texts.specs.Device.{FailsAmid, HasFailed, IsQuiet, Takes};
 
 use crate::judging::judge;
 use crate::reading::read_files;
@@ -33,9 +33,10 @@ pub fn run_on<A: Source, B: Source, C: Source, W: Sink>(
 ) -> u8
     // What each status says, and of which bytes.
     ensures known { IsStatus result }
-    ensures run { result ≡ 0 → TellsRun steps (A.state rom.old).bytes (B.state cert.old).bytes (C.state input.old).bytes (W.state out.old) (W.state out.new) }
-    ensures refused { result ≡ 1 → (TellsRefusal (A.state rom.old).bytes (B.state cert.old).bytes (W.state out.old) (W.state out.new) × (input.new ≡ input.old)) ⊎ TellsBadInput steps (A.state rom.old).bytes (B.state cert.old).bytes (C.state input.old).bytes (W.state out.old) (W.state out.new) }
+    ensures run { result ≡ 0 → TellsRun Takes steps (A.state rom.old).bytes (B.state cert.old).bytes (C.state input.old).bytes (W.state out.old) (W.state out.new) }
+    ensures refused { result ≡ 1 → (TellsRefusal Takes (A.state rom.old).bytes (B.state cert.old).bytes (W.state out.old) (W.state out.new) × (input.new ≡ input.old)) ⊎ TellsBadInput Takes steps (A.state rom.old).bytes (B.state cert.old).bytes (C.state input.old).bytes (W.state out.old) (W.state out.new) }
     ensures device { result ≡ 3 → HasFailed (A.state rom.old) (A.state rom.new) ⊎ (HasFailed (B.state cert.old) (B.state cert.new) ⊎ (HasFailed (C.state input.old) (C.state input.new) ⊎ HasFailed (W.state out.old) (W.state out.new))) }
+    ensures part { result ≡ 3 → (out.new ≡ out.old) ⊎ (TellsRefusal FailsAmid (A.state rom.old).bytes (B.state cert.old).bytes (W.state out.old) (W.state out.new) ⊎ (TellsRun FailsAmid steps (A.state rom.old).bytes (B.state cert.old).bytes (C.state input.old).bytes (W.state out.old) (W.state out.new) ⊎ TellsBadInput FailsAmid steps (A.state rom.old).bytes (B.state cert.old).bytes (C.state input.old).bytes (W.state out.old) (W.state out.new))) }
     ensures told { result ≢ 3 → IsQuiet (A.state rom.old) (A.state rom.new) × IsQuiet (B.state cert.old) (B.state cert.new) × IsQuiet (C.state input.old) (C.state input.new) × IsQuiet (W.state out.old) (W.state out.new) }
     ensures memory { result ≡ 4 → (input.new ≡ input.old) × (out.new ≡ out.old) }
     // The order of the devices: behind one that failed none is asked, and the input only of an accepted ROM.
@@ -66,9 +67,10 @@ fn play_on<C: Source, W: Sink>(
     steps: u32,
     out: &mut W,
 ) -> Result<(), Stop>
-    ensures run { OnOk result (PlaysTo (hardware_on accepted.now) steps (C.state input.old).bytes (W.state out.old) (W.state out.new)) }
-    ensures bad { result ≡ Err Stop.Refused → PlaysToBadLine steps (C.state input.old).bytes (W.state out.old) (W.state out.new) }
+    ensures run { OnOk result (PlaysTo Takes (hardware_on accepted.now) steps (C.state input.old).bytes (W.state out.old) (W.state out.new)) }
+    ensures bad { result ≡ Err Stop.Refused → PlaysToBadLine Takes steps (C.state input.old).bytes (W.state out.old) (W.state out.new) }
     ensures device { result ≡ Err Stop.Device → HasFailed (C.state input.old) (C.state input.new) ⊎ HasFailed (W.state out.old) (W.state out.new) }
+    ensures part { result ≡ Err Stop.Device → (out.new ≡ out.old) ⊎ (PlaysTo FailsAmid (hardware_on accepted.now) steps (C.state input.old).bytes (W.state out.old) (W.state out.new) ⊎ PlaysToBadLine FailsAmid steps (C.state input.old).bytes (W.state out.old) (W.state out.new)) }
     ensures told { result ≢ Err Stop.Device → IsQuiet (C.state input.old) (C.state input.new) × IsQuiet (W.state out.old) (W.state out.new) }
     ensures untouched { IsQuiet (C.state input.old) (C.state input.new) ⊎ (out.new ≡ out.old) }
     ensures never { result ≢ Err Stop.OutOfMemory }

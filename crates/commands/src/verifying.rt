@@ -4,7 +4,7 @@ ghost use Rattle.std.specs.Prelude.{◌≡◌, ◌≢◌, ◌⊎◌};
 ghost use Rattle.commands.specs.Judging.{TellsAccepted, TellsRefusal};
 ghost use Rattle.commands.specs.Reading.{GivesUpTo};
 ghost use Rattle.commands.specs.Status.{IsStatus};
-ghost use Rattle.texts.specs.Device.{HasFailed, IsQuiet};
+ghost use Rattle.texts.specs.Device.{FailsAmid, HasFailed, IsQuiet, Takes};
 
 use crate::judging::judge;
 use crate::reading::read_files;
@@ -27,9 +27,10 @@ pub fn verify_on<A: Source, B: Source, W: Sink>(
 ) -> u8
     // What each status says, and of which bytes.
     ensures known { IsStatus result }
-    ensures accepted { result ≡ 0 → TellsAccepted (A.state rom.old).bytes (B.state cert.old).bytes (W.state out.old) (W.state out.new) }
-    ensures refused { result ≡ 1 → TellsRefusal (A.state rom.old).bytes (B.state cert.old).bytes (W.state out.old) (W.state out.new) }
+    ensures accepted { result ≡ 0 → TellsAccepted Takes (A.state rom.old).bytes (B.state cert.old).bytes (W.state out.old) (W.state out.new) }
+    ensures refused { result ≡ 1 → TellsRefusal Takes (A.state rom.old).bytes (B.state cert.old).bytes (W.state out.old) (W.state out.new) }
     ensures device { result ≡ 3 → HasFailed (A.state rom.old) (A.state rom.new) ⊎ (HasFailed (B.state cert.old) (B.state cert.new) ⊎ HasFailed (W.state out.old) (W.state out.new)) }
+    ensures part { result ≡ 3 → (out.new ≡ out.old) ⊎ (TellsAccepted FailsAmid (A.state rom.old).bytes (B.state cert.old).bytes (W.state out.old) (W.state out.new) ⊎ TellsRefusal FailsAmid (A.state rom.old).bytes (B.state cert.old).bytes (W.state out.old) (W.state out.new)) }
     ensures told { result ≢ 3 → IsQuiet (A.state rom.old) (A.state rom.new) × IsQuiet (B.state cert.old) (B.state cert.new) × IsQuiet (W.state out.old) (W.state out.new) }
     ensures memory { result ≡ 4 → out.new ≡ out.old }
     // The order of the devices: behind one that failed none is asked.

@@ -14,3 +14,10 @@ returns-in-Ok-check-clause-accepted g c = (
   c.in-Ok-check.ensures.kept.0,
   accepted_of _ _ _ _ c.in-Ok-check.ensures.kept.1 c.in-Ok.ensures.found.0 c.in-Ok.ensures.found.1 (c.in-Ok-check.ensures.exact.0 refl) c.in-Ok-check.ensures.safe,
 )
+
+pub returns-in_err-put-in-Err-Line-clause-part : goal.returns-in_err-put-in-Err-Line-clause-part
+returns-in_err-put-in-Err-Line-clause-part g c = λ _. (
+  c.bytes.result.now,
+  c.in_err-put-in-Err-Line.ensures,
+  inr (inl (record { line = c.in-Err-Line.line; bad = c.in-Err-Line.ensures.line _ (cc); printed_is = c.bytes.ensures.value ∙ c.bad_line.ensures })),
+)
