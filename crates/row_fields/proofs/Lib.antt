@@ -1,0 +1,4 @@
+pub mod CutLemmas
+pub mod HexLemmas
+pub mod PairLemmas
+pub mod RangeLemmas

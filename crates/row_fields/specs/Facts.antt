@@ -1,0 +1,23 @@
+-- The text of a row's facts (docs/CERTIFICATE.md, "Linears").
+use Rattle.std.specs.Prelude.{ℕ, ◌≤◌, List, [], ◌∷◌, length, map, codes}
+use Rattle.std.specs.List.{AllByRecursion, join_with_byte}
+use Rattle.loop_bounds.specs.Linear.{Sum}
+use Rattle.row_fields.specs.Linear.{IsSum, IsShort, linear_text}
+
+-- a dash where there is none, or the texts with commas between them
+abbrev pub list_text : List (List ℕ) → List ℕ
+list_text [] = codes "-"
+list_text (first ∷ others) = join_with_byte 44 (first ∷ others)
+
+-- the facts of a row: linears that are 0
+unfoldable pub facts_text : List Sum → List ℕ
+facts_text facts = list_text (map linear_text facts)
+
+-- each of them may stand in a row with so many slots
+abbrev pub AreFacts : ℕ → List Sum → Type 0
+AreFacts slots facts = AllByRecursion (IsSum slots) facts
+
+-- four facts at most, each within its limits
+pub record AreFewFacts (facts : List Sum) : Type 0 where
+  pub count : length facts ≤ 4
+  pub short : AllByRecursion IsShort facts
