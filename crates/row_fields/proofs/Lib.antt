@@ -1,4 +1,16 @@
+pub mod ConstantLemmas
 pub mod CutLemmas
+pub mod DecimalLemmas
 pub mod HexLemmas
+pub mod KeptLemmas
+pub mod LinearLemmas
+pub mod NameLemmas
 pub mod PairLemmas
+pub mod PartLemmas
+pub mod PartsLemmas
 pub mod RangeLemmas
+pub mod SignLemmas
+pub mod TermLemmas
+pub mod VariableLemmas
+pub mod FactsLemmas
+pub mod ShapeLemmas

@@ -1,5 +1,5 @@
 -- The text of a row's facts (docs/CERTIFICATE.md, "Linears").
-use Rattle.std.specs.Prelude.{ℕ, ◌≤◌, List, [], ◌∷◌, length, map, codes}
+use Rattle.std.specs.Prelude.{ℕ, ◌≡◌, ◌≤◌, ◌-◌, ◌++◌, pos, replicate, take, List, [], ◌∷◌, length, map, codes}
 use Rattle.std.specs.List.{AllByRecursion, join_with_byte}
 use Rattle.loop_bounds.specs.Linear.{Sum}
 use Rattle.row_fields.specs.Linear.{IsSum, IsShort, linear_text}
@@ -21,3 +21,16 @@ AreFacts slots facts = AllByRecursion (IsSum slots) facts
 pub record AreFewFacts (facts : List Sum) : Type 0 where
   pub count : length facts ≤ 4
   pub short : AllByRecursion IsShort facts
+
+-- the fact that stands in the unused places of the four
+abbrev pub padding : Sum
+padding = record { constant = pos 0; terms = [] }
+
+-- the four places for facts
+abbrev pub padded_facts : List Sum → List Sum
+padded_facts facts = facts ++ replicate (4 - length facts) padding
+
+-- four places hold the facts in the first of them, and the padding in the others
+pub record AreStored (facts : List Sum) (count : ℕ) : Type 0 where
+  pub rest : facts ≡ padded_facts (take count facts)
+  pub within : count ≤ 4

@@ -1,0 +1,167 @@
+-- The bytes of linears and of pairs: none is a space, a comma or a byte below.
+use Rattle.std.proofs.Common.{◌≡◌, ◌≤◌, ◌<◌, ◌==◌, ◌^◌, ◌+◌, ◌&&◌, ℕ, suc, Bool, true, false, not, List, [], ◌∷◌, ◌++◌, codes, Option, Some, None, ℤ, pos, negsuc, unsigned_abs, refl, sym, ap, subst, ◌∙◌, inl, inr, arith, leb, leb-true}
+use Rattle.std.proofs.lemmas.Bool.{and_parts, not-true, cases_Bool}
+use Rattle.std.proofs.lemmas.Bool.Decides.{nat_tests}
+use Rattle.std.proofs.lemmas.Fmt.{decimal_is_IsNumeral}
+use Rattle.std.proofs.lemmas.Str.Parse.{digit_from_value}
+use Rattle.std.specs.Fmt.{decimal, signed_decimal}
+use Rattle.std.specs.List.{AllByRecursion, flat_map, list_all}
+use Rattle.std.specs.Str.Parse.{AllDigits}
+use Rattle.intervals.specs.Range.{Interval}
+use Rattle.intervals.specs.RegPair.{name_of}
+use Rattle.intervals.specs.declared.pair.Pair.{Pair}
+use Rattle.intervals.specs.declared.reg_pair.RegPair.{RegPair}
+use Rattle.intervals.specs.declared.reg_pair.RegPair.TheVariants.{Af, AlternateAf, AlternateBc, AlternateDe, AlternateHl}
+use Rattle.intervals.specs.declared.reg_pair.RegPair.TheVariants as pairs
+use Rattle.loop_bounds.specs.Linear.{Sum}
+use Rattle.loop_bounds.specs.declared.linear.Term.{Term}
+use Rattle.loop_bounds.specs.declared.variable.Part.{Part}
+use Rattle.loop_bounds.specs.declared.variable.Part.TheVariants as parts
+use Rattle.loop_bounds.specs.declared.variable.Variable.{Variable}
+use Rattle.loop_bounds.specs.declared.variable.Variable.TheVariants.{A, B, C, D, E, H, L, Bc, De, Hl, Ix, Iy, Slot}
+use Rattle.texts.specs.Numbers.{hex_digit, hex2, hex4}
+use Rattle.texts.proofs.PlainLemmas.{IsPlain}
+use Rattle.row_fields.specs.Linear.{IsBelow, IsSum, sign_of, term_text, linear_text}
+use Rattle.row_fields.specs.Names.{part_letter, variable_name}
+use Rattle.row_fields.specs.Pair.{is_full, range_text, ranges_text, known_text, origin_text, pair_text}
+use Rattle.row_fields.specs.Terms.{IsTerm, IsConstant}
+use Rattle.row_fields.proofs.CutLemmas.{Lacks}
+use Rattle.row_fields.proofs.LinearLemmas.{AreTerms, body_of, sum_terms}
+use Rattle.row_fields.proofs.PairLemmas.{known_star, known_ranges}
+
+-- above the space, and no comma
+abbrev pub IsPartByte : ℕ → Type 0
+IsPartByte b = (33 ≤ b) × ((b == 44) ≡ false)
+
+abbrev pub IsPart : List ℕ → Type 0
+IsPart text = AllByRecursion IsPartByte text
+
+pub part_is_plain : (text : List ℕ) → IsPart text → IsPlain text
+part_is_plain [] part = tt
+part_is_plain (b ∷ text) part = (part.0.0, part_is_plain text part.1)
+
+pub part_lacks : (text : List ℕ) → IsPart text → Lacks 44 text
+part_lacks [] part = tt
+part_lacks (b ∷ text) part = (part.0.1, part_lacks text part.1)
+
+pub part_test : (text : List ℕ) → list_all (λ b. leb 33 b && not (b == 44)) text ≡ true → IsPart text
+part_test [] test = tt
+part_test (b ∷ text) test =
+    let (here, others) = and_parts _ _ test in
+    let (low, other) = and_parts _ _ here in
+    ((leb-true 33 b low, not-true _ other), part_test text others)
+
+pub part_append : (a b : List ℕ) → IsPart a → IsPart b → IsPart (a ++ b)
+part_append [] b h k = k
+part_append (x ∷ a) b h k = (h.0, part_append a b h.1 k)
+
+no_comma : (b : ℕ) → 48 ≤ b → (b == 44) ≡ false
+no_comma b low = grind (arith, nat_tests)
+
+part_digits : (digits : List ℕ) → AllDigits 10 digits → IsPart digits
+part_digits [] all = tt
+part_digits (b ∷ digits) all =
+    let digit = digit_from_value b all.0 in
+    ((omega (arith, digit), no_comma b (omega (arith, digit))), part_digits digits all.1)
+
+pub part_decimal : (n : ℕ) → n < 2 ^ 64 → IsPart (decimal n)
+part_decimal n small = part_digits (decimal n) (decimal_is_IsNumeral n small).0.1
+
+part_letter_part : (p : Part) → IsPart (part_letter p)
+part_letter_part parts.Word = tt
+part_letter_part parts.High = part_test (codes "h") refl
+part_letter_part parts.Low = part_test (codes "l") refl
+
+pub part_variable : (v : Variable) → IsBelow (2 ^ 64) v → IsPart (variable_name v)
+part_variable A small = part_test (codes "A") refl
+part_variable B small = part_test (codes "B") refl
+part_variable C small = part_test (codes "C") refl
+part_variable D small = part_test (codes "D") refl
+part_variable E small = part_test (codes "E") refl
+part_variable H small = part_test (codes "H") refl
+part_variable L small = part_test (codes "L") refl
+part_variable Bc small = part_test (codes "BC") refl
+part_variable De small = part_test (codes "DE") refl
+part_variable Hl small = part_test (codes "HL") refl
+part_variable Ix small = part_test (codes "IX") refl
+part_variable Iy small = part_test (codes "IY") refl
+part_variable (Slot number part) small =
+    part_append (codes "s") (decimal number ++ part_letter part) (part_test (codes "s") refl) (part_append (decimal number) (part_letter part) (part_decimal number small) (part_letter_part part))
+
+part_sign : (z : ℤ) → IsPart (sign_of z)
+part_sign (pos n) = part_test (codes "+") refl
+part_sign (negsuc n) = part_test (codes "-") refl
+
+pub part_term : (t : Term) → IsTerm t → IsPart (term_text t)
+unfolding term_text
+part_term t form =
+    let high = form.coefficient.1 in
+    part_append (sign_of t.coefficient) (body_of t) (part_sign t.coefficient)
+    (part_append (decimal (unsigned_abs t.coefficient)) (codes "*" ++ variable_name t.variable) (part_decimal _ (omega arith))
+     (part_append (codes "*") (variable_name t.variable) (part_test (codes "*") refl) (part_variable t.variable form.number)))
+
+part_terms : (ts : List Term) → AreTerms ts → IsPart (flat_map term_text ts)
+part_terms [] form = tt
+part_terms (t ∷ ts) form = part_append (term_text t) (flat_map term_text ts) (part_term t form.0) (part_terms ts form.1)
+
+part_constant : (z : ℤ) → IsConstant z → IsPart (signed_decimal z)
+part_constant (pos n) small = part_decimal n (omega (arith, small))
+part_constant (negsuc n) small = part_append (codes "-") (decimal (suc n)) (part_test (codes "-") refl) (part_decimal (suc n) (omega (arith, small)))
+
+pub part_linear : (slots : ℕ) (s : Sum) → slots < 2 ^ 64 → IsSum slots s → IsPart (linear_text s)
+unfolding linear_text
+part_linear slots s small form = part_append (signed_decimal s.constant) (flat_map term_text s.terms) (part_constant s.constant form.constant) (part_terms s.terms (sum_terms slots s small form))
+
+part_hex_digit : (n : ℕ) → IsPartByte (hex_digit n)
+part_hex_digit n = (high, no_comma _ digit)
+  where
+    digit : 48 ≤ hex_digit n
+    digit = grind (arith, nat_tests)
+
+    high : 33 ≤ hex_digit n
+    high = omega (arith, digit)
+
+pub part_hex2 : (n : ℕ) → IsPart (hex2 n)
+unfolding hex2
+part_hex2 n = (part_hex_digit _, (part_hex_digit _, tt))
+
+pub part_hex4 : (n : ℕ) → IsPart (hex4 n)
+unfolding hex4
+part_hex4 n = (part_hex_digit _, (part_hex_digit _, (part_hex_digit _, (part_hex_digit _, tt))))
+
+part_range : (spelled : ℕ → List ℕ) (r : Interval) → ((n : ℕ) → IsPart (spelled n)) → IsPart (range_text spelled r)
+part_range spelled r part = part_append (spelled r.low) (codes "-" ++ spelled r.high) (part r.low) (part_append (codes "-") (spelled r.high) (part_test (codes "-") refl) (part r.high))
+
+part_ranges : (p : Pair) → IsPart (ranges_text p)
+unfolding ranges_text
+part_ranges p =
+    part_append (range_text hex4 p.word) _ (part_range hex4 p.word part_hex4)
+    (part_append (codes ":") _ (part_test (codes ":") refl)
+     (part_append (range_text hex2 p.high) _ (part_range hex2 p.high part_hex2)
+      (part_append (codes ":") _ (part_test (codes ":") refl) (part_range hex2 p.low part_hex2))))
+
+part_known : (p : Pair) → IsPart (known_text p)
+part_known p = elim (cases_Bool (is_full p)) [
+  | inl full ↦ subst IsPart (sym (known_star p full)) (part_test (codes "*") refl)
+  | inr some ↦ subst IsPart (sym (known_ranges p some)) (part_ranges p)
+]
+
+part_name : (r : RegPair) → IsPart (name_of r)
+part_name Af = part_test (codes "AF") refl
+part_name pairs.Bc = part_test (codes "BC") refl
+part_name pairs.De = part_test (codes "DE") refl
+part_name pairs.Hl = part_test (codes "HL") refl
+part_name pairs.Ix = part_test (codes "IX") refl
+part_name pairs.Iy = part_test (codes "IY") refl
+part_name AlternateAf = part_test (codes "AF'") refl
+part_name AlternateBc = part_test (codes "BC'") refl
+part_name AlternateDe = part_test (codes "DE'") refl
+part_name AlternateHl = part_test (codes "HL'") refl
+
+part_origin : (o : Option RegPair) → IsPart (origin_text o)
+part_origin None = tt
+part_origin (Some r) = part_append (codes "@") (name_of r) (part_test (codes "@") refl) (part_name r)
+
+pub part_pair : (p : Pair) → IsPart (pair_text p)
+unfolding pair_text
+part_pair p = part_append (known_text p) (origin_text p.origin) (part_known p) (part_origin p.origin)
