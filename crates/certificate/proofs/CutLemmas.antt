@@ -6,11 +6,11 @@ use Rattle.abs_state.specs.declared.mode.Mode.{Mode}
 use Rattle.abs_state.specs.declared.mode.Mode.TheVariants.{Unset, Set, Nmi}
 use Rattle.certificate.specs.declared.line.Line.{Line}
 use Rattle.certificate.specs.declared.line.Line.TheVariants as lines
-use Rattle.certificate.specs.Fields.{fields_in}
+use Rattle.texts.specs.Fields.{fields_in}
 use Rattle.certificate.specs.Line.{fields_of, mode_letter, unknown_fields, IsInRange}
 use Rattle.certificate.specs.Text.{text_of_lines}
 use Rattle.certificate.proofs.LineLemmas.{fields_of_begin}
-use Rattle.certificate.proofs.PlainLemmas.{IsPlain, ArePlain, plain_from_test, plain_decimal, plain_hex4, are_plain, fields_in_line, no_lf_in_join}
+use Rattle.texts.proofs.PlainLemmas.{IsPlain, ArePlain, plain_from_test, plain_decimal, plain_hex4, are_plain, fields_in_line, no_lf_in_join}
 
 -- the lines of a text, each as its fields
 abbrev pub cut : List ℕ → List (List (List ℕ))

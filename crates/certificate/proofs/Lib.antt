@@ -1,8 +1,5 @@
 pub mod CutLemmas
-pub mod DeviceLemmas
-pub mod FieldLemmas
 pub mod LineLemmas
-pub mod PlainLemmas
 pub mod ReaderLemmas
 pub mod TextLemmas
 pub mod WholeLemmas

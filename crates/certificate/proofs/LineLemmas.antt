@@ -1,7 +1,6 @@
-use Rattle.std.proofs.Common.{◌≡◌, ◌≤◌, ◌<◌, ◌/◌, ◌%◌, ℕ, ◌∷◌, List, get_or, refl, ap, ◌∙◌, arith}
+use Rattle.std.proofs.Common.{◌≡◌, ℕ, ◌∷◌, List, get_or, refl, ap, ◌∙◌, arith}
 use Rattle.std.specs.Fmt.{decimal}
 use Rattle.std.proofs.lemmas.Fmt.{decimal_injective}
-use Rattle.std.proofs.lemmas.Bool.Decides.{nat_tests}
 use Rattle.address_map.specs.declared.region.Region.{Region}
 use Rattle.abs_state.specs.declared.mode.Mode.{Mode}
 use Rattle.abs_state.specs.declared.mode.Mode.TheVariants.{Unset, Set, Nmi}
@@ -11,7 +10,8 @@ use Rattle.certificate.specs.declared.line.Keyword.{Keyword}
 use Rattle.certificate.specs.declared.line.Keyword.TheVariants as keywords
 use Rattle.certificate.specs.declared.line.Line.{Line}
 use Rattle.certificate.specs.declared.line.Line.TheVariants as lines
-use Rattle.certificate.specs.Fields.{IsWord, hex_digit, hex4}
+use Rattle.texts.specs.Numbers.{IsWord, hex4}
+use Rattle.texts.proofs.NumberLemmas.{hex4_injective}
 use Rattle.certificate.specs.Line.{fields_of, keyword_text, mode_letter, IsInRange}
 
 -- each line's first field is a keyword
@@ -33,29 +33,6 @@ pub no_keyword : (fields rest : List (List ℕ)) (field : List ℕ) → fields �
 no_keyword fields rest field e none line same =
     let first = fields_of_begin line in
     none first.0 tt (head_same _ _ _ _ fields e (same ∙ first.2))
-
-hex_digit_injective : (m n : ℕ) → m < 16 → n < 16 → hex_digit m ≡ hex_digit n → m ≡ n
-hex_digit_injective m n low_m low_n same = grind (arith, nat_tests)
-
-quotient_below : (n : ℕ) → n ≤ 65535 → n / 4096 < 16
-quotient_below n small = omega arith
-
-from_digits : (m n : ℕ) → m / 4096 ≡ n / 4096 → m / 256 % 16 ≡ n / 256 % 16 → m / 16 % 16 ≡ n / 16 % 16 → m % 16 ≡ n % 16 → m ≡ n
-from_digits m n a b c d = omega arith
-
--- two words with the same digits are one
-pub hex4_injective : (m n : ℕ) → IsWord m → IsWord n → hex4 m ≡ hex4 n → m ≡ n
-unfolding hex4
-hex4_injective m n small_m small_n same =
-    let a : hex_digit (m / 4096) ≡ hex_digit (n / 4096) = cc in
-    let b : hex_digit (m / 256 % 16) ≡ hex_digit (n / 256 % 16) = cc in
-    let c : hex_digit (m / 16 % 16) ≡ hex_digit (n / 16 % 16) = cc in
-    let d : hex_digit (m % 16) ≡ hex_digit (n % 16) = cc in
-    from_digits m n
-    (hex_digit_injective _ _ (quotient_below m small_m) (quotient_below n small_n) a)
-    (hex_digit_injective _ _ (omega arith) (omega arith) b)
-    (hex_digit_injective _ _ (omega arith) (omega arith) c)
-    (hex_digit_injective _ _ (omega arith) (omega arith) d)
 
 word_from_decimal : (m n : ℕ) → IsWord m → IsWord n → decimal m ≡ decimal n → m ≡ n
 word_from_decimal m n small_m small_n same = decimal_injective m n (omega arith) (omega arith) same

@@ -12,7 +12,8 @@ use Rattle.certificate.specs.declared.line.Line.TheVariants as lines
 use Rattle.certificate.specs.declared.reader.Stage.{Stage}
 use Rattle.certificate.specs.declared.reader.Stage.TheVariants as stages
 use Rattle.certificate.specs.Contents.{Contents, RowsRise}
-use Rattle.certificate.specs.Fields.{fields_in, IsWord}
+use Rattle.texts.specs.Fields.{fields_in}
+use Rattle.texts.specs.Numbers.{IsWord}
 use Rattle.certificate.specs.Line.{IsInRange, fields_of}
 use Rattle.certificate.specs.Text.{IsInFormButForCount, lines_of}
 use Rattle.certificate.specs.Reader.{Progress, lines_before, lines_read, next_stage, NoneGoesOn, NoTextGoesOn, TakesLine, TakesText}

@@ -12,7 +12,8 @@ use Rattle.certificate.specs.declared.line.Line.TheVariants as lines
 use Rattle.certificate.specs.declared.reader.Stage.{Stage}
 use Rattle.certificate.specs.declared.reader.Stage.TheVariants as stages
 use Rattle.certificate.specs.Contents.{Contents, MAX_ROW_COUNT}
-use Rattle.certificate.specs.Fields.{fields_in, IsWord}
+use Rattle.texts.specs.Fields.{fields_in}
+use Rattle.texts.specs.Numbers.{IsWord}
 use Rattle.certificate.specs.Line.{IsInRange, fields_of}
 use Rattle.certificate.specs.Text.{IsInFormButForCount, IsInForm, BeginsWith, IsFirstBadLine, BeginsWithRows, HasTooManyRows, HasRows, lines_of, lines_to_rows, text_of_lines, text_of}
 use Rattle.certificate.specs.Reader.{Progress, IsProgress, IsNextRow, lines_before, lines_read, NoTextGoesOn, TakesText}

@@ -13,7 +13,7 @@ use Rattle.certificate.specs.declared.line.Line.TheVariants as lines
 use Rattle.certificate.specs.declared.reader.Stage.{Stage}
 use Rattle.certificate.specs.declared.reader.Stage.TheVariants as stages
 use Rattle.certificate.specs.Contents.{Contents}
-use Rattle.certificate.specs.Fields.{fields_in}
+use Rattle.texts.specs.Fields.{fields_in}
 use Rattle.certificate.specs.Line.{IsInRange, fields_of}
 use Rattle.certificate.specs.Text.{IsInForm, lines_of, text_of}
 use Rattle.certificate.specs.Reader.{Progress, lines_before, lines_read, Ends}

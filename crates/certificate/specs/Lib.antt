@@ -1,7 +1,5 @@
--- The definitions of certificates and of devices.
+-- The definitions of certificates.
 pub mod Contents
-pub mod Device
-pub mod Fields
 pub mod Line
 pub mod Reader
 pub mod Text

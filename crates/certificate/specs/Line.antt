@@ -1,7 +1,7 @@
 -- The lines of a certificate, each as its fields.
 use Rattle.std.specs.Prelude.{ℕ, List, [], ◌∷◌, ◌++◌, codes, replicate}
 use Rattle.std.specs.Fmt.{decimal}
-use Rattle.certificate.specs.Fields.{IsWord, hex4}
+use Rattle.texts.specs.Numbers.{IsWord, hex4}
 use Rattle.abs_state.specs.declared.mode.Mode.{Mode}
 use Rattle.abs_state.specs.declared.mode.Mode.TheVariants.{Unset, Set, Nmi}
 use Rattle.certificate.specs.declared.line.Keyword.{Keyword}

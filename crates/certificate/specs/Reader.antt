@@ -8,7 +8,7 @@ use Rattle.certificate.specs.declared.line.Line.TheVariants as lines
 use Rattle.certificate.specs.declared.reader.Stage.{Stage}
 use Rattle.certificate.specs.declared.reader.Stage.TheVariants as stages
 use Rattle.certificate.specs.Contents.{Contents, RowsRise, MAX_ROW_COUNT}
-use Rattle.certificate.specs.Fields.{fields_in}
+use Rattle.texts.specs.Fields.{fields_in}
 use Rattle.certificate.specs.Line.{IsInRange, fields_of}
 use Rattle.certificate.specs.Text.{IsInForm, IsInFormButForCount, lines_of, lines_to_rows}
 

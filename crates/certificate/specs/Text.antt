@@ -4,7 +4,7 @@ use Rattle.std.specs.List.{flat_map, join_with_byte, AllByRecursion}
 use Rattle.certificate.specs.declared.line.Line.{Line}
 use Rattle.certificate.specs.declared.line.Line.TheVariants as lines
 use Rattle.certificate.specs.Contents.{Contents, RowsRise, MAX_ROW_COUNT}
-use Rattle.certificate.specs.Fields.{IsWord}
+use Rattle.texts.specs.Numbers.{IsWord}
 use Rattle.certificate.specs.Line.{fields_of}
 
 -- lines as bytes: the fields of a line are parted by one space, and each line ends with one LF

@@ -2,13 +2,14 @@
 
 ghost use Rattle.std.specs.Prelude.{◌≡◌, ◌∷◌, [], ◌↔◌, IsTrue, codes};
 ghost use Rattle.std.specs.Fmt.{decimal};
-ghost use Rattle.certificate.specs.Fields.{Reads, IsWord, fields_in, Always, hex4};
+ghost use Rattle.texts.specs.Fields.{fields_in};
+ghost use Rattle.texts.specs.Numbers.{Reads, IsWord, Always, hex4};
 ghost use Rattle.certificate.specs.Line.{IsInRange, mode_letter, unknown_fields, keyword_text, fields_of};
 
 use crate::contents::{Proc, Row};
-use crate::fields::{Fields, decimal_field, hex4_field};
 use abs_state::Mode;
 use address_map::Region;
+use texts::{Fields, decimal_field, hex4_field};
 
 /// One line of a certificate's text, with what it says.
 #[derive(Clone, Copy)]

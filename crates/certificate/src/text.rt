@@ -6,9 +6,9 @@ ghost use Rattle.certificate.specs.Text.{HasRows, HasTooManyRows, IsFirstBadLine
 
 use crate::contents::Certificate;
 use crate::fault::CertFault;
-use crate::fields::split_once;
 use crate::reader::Reader;
 use std::alloc::Global;
+use texts::split_once;
 
 /// Reads a certificate from its text (docs/CERTIFICATE.md). Memory is taken for the rows alone.
 ///

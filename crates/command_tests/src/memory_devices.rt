@@ -2,7 +2,7 @@
 
 ghost use Rattle.std.specs.Prelude.{Some};
 
-use certificate::{DeviceFault, Sink, Source};
+use texts::{DeviceFault, Sink, Source};
 
 /// A source over bytes. It gives `piece` bytes a call, and fails at the call that `calls` counts down to.
 #[derive(Drop)]

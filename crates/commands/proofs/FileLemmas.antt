@@ -7,7 +7,7 @@ use Rattle.board_step.specs.Safe.{Safe}
 use Rattle.cert_checker.specs.Accepts.{Accepts}
 use Rattle.cert_checker.specs.Profile.{certified_profile, hardware_for, nmi_time}
 use Rattle.certificate.specs.Contents.{Contents}
-use Rattle.certificate.specs.Device.{Gives, Takes}
+use Rattle.texts.specs.Device.{Gives, Takes}
 use Rattle.certificate.specs.Text.{IsInForm, text_of}
 use Rattle.commands.specs.Judging.{HoldAccepted, IsAccepted, OnAccepted, TellsAccepted, TellsRefusal, WritesRefusal}
 use Rattle.commands.specs.Reading.{AllBytes, FirstBytes, OfFiles, ROM_READ_LEN}

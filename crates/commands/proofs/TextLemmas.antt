@@ -7,10 +7,10 @@ use Rattle.std.proofs.lemmas.List.{take-replicate}
 use Rattle.abs_step.specs.Reason.{name_of, number_of}
 use Rattle.cert_checker.specs.declared.checking.Refused.{Refused}
 use Rattle.certificate.specs.Contents.{Contents}
-use Rattle.certificate.specs.Device.{Takes}
+use Rattle.texts.specs.Device.{Takes}
 use Rattle.commands.specs.Verdict.{accepted_text, detail_of, gap_before, refused_text, right_in_5}
-use Rattle.certificate.specs.Fields.{hex4}
-use Rattle.certificate.proofs.DeviceLemmas.{takes_both}
+use Rattle.texts.specs.Numbers.{hex4}
+use Rattle.texts.proofs.DeviceLemmas.{takes_both}
 
 -- a write that may fail, behind one that did not
 pub then_takes : {X E : Type 0} (r : Result X E) (a b c : Option (List ℕ)) (xs ys : List ℕ) → Takes a xs b → OnOk r (Takes b ys c) → OnOk r (Takes a (xs ++ ys) c)

@@ -1,6 +1,6 @@
 -- Whether a device failed in between: by its count of failures, a value before and a value after.
 use Rattle.std.specs.Prelude.{ℕ, ◌≡◌}
-use Rattle.certificate.specs.Device.{HasGrown}
+use Rattle.texts.specs.Device.{HasGrown}
 
 -- it failed
 abbrev pub HasFailed : {X : Type 0} → (X → ℕ) → X → X → Type 0

@@ -5,7 +5,7 @@ use Rattle.cert_checker.specs.Accepts.{Accepts, Applies, NothingBefore}
 use Rattle.cert_checker.specs.Profile.{certified_profile, nmi_time}
 use Rattle.cert_checker.specs.declared.checking.Refused.{Refused}
 use Rattle.certificate.specs.Contents.{Contents}
-use Rattle.certificate.specs.Device.{Takes}
+use Rattle.texts.specs.Device.{Takes}
 use Rattle.certificate.specs.Text.{HasTooManyRows, IsFirstBadLine, IsInForm, text_of}
 use Rattle.commands.specs.Reading.{OfFiles, ROM_READ_LEN}
 use Rattle.commands.specs.Verdict.{accepted_text, bad_line_text, refused_text}

@@ -1,6 +1,6 @@
 -- What is read of a file.
 use Rattle.std.specs.Prelude.{ℕ, ◌≤◌, ◌≡◌, List, length, take, Option, IfSome}
-use Rattle.certificate.specs.Device.{Gives}
+use Rattle.texts.specs.Device.{Gives}
 use Rattle.runner.specs.Playing.{OfBytes}
 
 -- of a ROM's file no more is read: one byte more than a ROM may have

@@ -2,7 +2,7 @@
 use Rattle.std.specs.Prelude.{ℕ, List, Option, codes}
 use Rattle.board_step.specs.Hardware.{Hardware}
 use Rattle.cert_checker.specs.Profile.{hardware_for}
-use Rattle.certificate.specs.Device.{Takes}
+use Rattle.texts.specs.Device.{Takes}
 use Rattle.runner.specs.Output.{summary_text}
 use Rattle.runner.specs.Playing.{IsBadLine, OfBytes, Played}
 use Rattle.runner.specs.declared.machine.Summary.{Summary}

@@ -7,7 +7,7 @@ use Rattle.cert_checker.specs.declared.checking.Refused.{Refused}
 use Rattle.abs_step.specs.declared.reason.Reason.{Reason}
 use Rattle.abs_step.specs.declared.reason.Reason.TheVariants as reasons
 use Rattle.certificate.specs.Contents.{Contents}
-use Rattle.certificate.specs.Fields.{hex4}
+use Rattle.texts.specs.Numbers.{hex4}
 use Rattle.z80_decode.specs.declared.fault.DecodeFault.TheVariants as decoding
 
 -- a number in decimal, right in five places

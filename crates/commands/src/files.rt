@@ -1,12 +1,12 @@
 // The files and the writer that the commands run on.
 
 ghost use Rattle.std.specs.Prelude.{◌<◌, ◌-◌, None};
-ghost use Rattle.certificate.specs.Device.{HasGrown};
+ghost use Rattle.texts.specs.Device.{HasGrown};
 
-use certificate::{DeviceFault, Sink, Source};
 use std::fs;
 use std::io::{Read, Write};
 use std::rt::Files;
+use texts::{DeviceFault, Sink, Source};
 
 /// A file that is opened at its first read.
 #[derive(Drop)]

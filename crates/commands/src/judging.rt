@@ -7,9 +7,10 @@ ghost use Rattle.commands.specs.Judging.{IsAccepted, WritesRefusal};
 use crate::stop::Stop;
 use crate::verdict::{write_bad_line, write_refused};
 use cert_checker::{Accepted, CheckFault, check};
-use certificate::{CertFault, Sink, read};
+use certificate::{CertFault, read};
 use runner::put;
 use std::alloc::Global;
+use texts::Sink;
 
 /// Checks a certificate's text for a ROM. Where it is not accepted, the line that says why is written.
 pub fn judge<'r, W: Sink>(

@@ -1,13 +1,13 @@
 // The files of a ROM and of a certificate.
 
 ghost use Rattle.std.specs.Prelude.{◌≡◌, ◌≢◌, ◌≤◌, ◌<◌, ◌⊎◌, vec_len, IfOk, IfSome};
-ghost use Rattle.certificate.specs.Device.{Gives};
+ghost use Rattle.texts.specs.Device.{Gives};
 ghost use Rattle.commands.specs.Devices.{HasFailed, IsQuiet};
 ghost use Rattle.commands.specs.Reading.{AllBytes, FirstBytes, GivesUpTo};
 
 use crate::stop::Stop;
-use certificate::Source;
 use std::alloc::Global;
+use texts::Source;
 
 /// How many bytes are asked for at once.
 const CHUNK_LEN: usize = 4096;

@@ -13,9 +13,9 @@ use crate::reading::read_files;
 use crate::stop::{DONE, Stop};
 use crate::verdict::write_bad_line;
 use cert_checker::Accepted;
-use certificate::{Sink, Source};
 use runner::{PlayFault, play};
 use std::alloc::Global;
+use texts::{Sink, Source};
 
 /// `galcert run ROM CERT INPUT STEPS`: checks a certificate for a ROM, and writes the refusal, or plays the input
 /// for at most this many events, and writes the run's lines (docs/PROGRAM.md). The ROM is read first, up to its

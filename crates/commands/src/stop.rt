@@ -4,8 +4,8 @@ ghost use Rattle.std.specs.Prelude.{◌≡◌, ◌≢◌};
 ghost use Rattle.commands.specs.Status.{IsFailing};
 ghost use Rattle.commands.specs.declared.stop.Stop.TheVariants.{Device, OutOfMemory};
 
-use certificate::DeviceFault;
 use std::alloc::AllocError;
+use texts::DeviceFault;
 
 /// The status of a command that ended as it was asked to: accepted, or run.
 pub(crate) const DONE: u8 = 0;

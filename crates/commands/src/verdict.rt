@@ -1,13 +1,14 @@
 // The lines of a verdict.
 
 ghost use Rattle.std.specs.Prelude.{◌≡◌, OnErr, OnOk};
-ghost use Rattle.certificate.specs.Device.{HasGrown, Takes};
+ghost use Rattle.texts.specs.Device.{HasGrown, Takes};
 ghost use Rattle.commands.specs.Verdict.{accepted_text, bad_line_text, detail_of, gap_before, refused_text, right_in_5};
 
 use cert_checker::{Reason, Refused};
-use certificate::{Certificate, DeviceFault, Sink};
+use certificate::Certificate;
 use itoa::Buffer;
 use runner::{put, put_decimal, put_hex4};
+use texts::{DeviceFault, Sink};
 use z80_decode::DecodeFault;
 
 /// Writes the table of an accepted certificate (docs/PROGRAM.md).

@@ -10,8 +10,8 @@ use crate::judging::judge;
 use crate::reading::read_files;
 use crate::stop::{DONE, Stop};
 use crate::verdict::write_accepted;
-use certificate::{DeviceFault, Sink, Source};
 use std::alloc::Global;
+use texts::{DeviceFault, Sink, Source};
 
 /// `galcert verify ROM CERT`: checks a certificate for a ROM, and writes the table or the refusal
 /// (docs/PROGRAM.md). The ROM is read first, up to its 16,385th byte, then the certificate; both are read before

@@ -1,7 +1,7 @@
 use Rattle.std.proofs.Common.{◌≡◌, ◌≢◌, ◌<◌, ◌≤◌, ◌⊎◌, inl, inr, ℕ, Bool, false, if◌then◌else◌, List, [], ◌∷◌, ◌++◌, Option, Some, None, IfSome, length, get_or, drop, refl, sym, ap, ◌∙◌, arith, length-append}
 use Rattle.std.proofs.lemmas.List.{append-nil}
 use Rattle.arrayvec.specs.ArrayVec.{ArrayVec}
-use Rattle.certificate.specs.Fields.{Reads}
+use Rattle.texts.specs.Numbers.{Reads}
 use Rattle.runner.specs.Pending.{Unused, left_of, HasNoFeed, IsLine, IsTooLong, IsUnended, GivesLine}
 use Rattle.runner.specs.Playing.{BeginsWithNo}
 use Rattle.runner.specs.declared.pending.Line.TheVariants.{Text, Bad}

@@ -4,8 +4,9 @@ use Rattle.std.specs.List.{join_with_byte, AllByRecursion}
 use Rattle.std.proofs.lemmas.Bool.{false≢true}
 use Rattle.std.proofs.lemmas.List.Splits.{join_with_byte-slice_split}
 use Rattle.std.proofs.lemmas.Fmt.{length-decimal-le, decimal_nonempty}
-use Rattle.certificate.specs.Fields.{Reads, fields_in, hex2, flag_digit}
-use Rattle.certificate.proofs.PlainLemmas.{ArePlain, plain_from_test, plain_decimal, plain_hex2, plain_flag, fields_in_line, no_lf_in_join}
+use Rattle.texts.specs.Fields.{fields_in}
+use Rattle.texts.specs.Numbers.{Reads, hex2, flag_digit}
+use Rattle.texts.proofs.PlainLemmas.{ArePlain, plain_from_test, plain_decimal, plain_hex2, plain_flag, fields_in_line, no_lf_in_join}
 use Rattle.runner.specs.Input.{IsResetLine, IsEnvLine, reset_fields, reset_text, env_fields, env_text}
 use Rattle.runner.specs.Pending.{HasNoFeed}
 use Rattle.runner.specs.declared.input.EnvLine.{EnvLine}

@@ -3,7 +3,7 @@ use Rattle.std.proofs.Common.{◌≡◌, ◌+◌, inl, inr, ℕ, Bool, true, fal
 use Rattle.std.specs.List.{AllByRecursion}
 use Rattle.std.proofs.lemmas.List.{append-nil}
 use Rattle.arrayvec.specs.ArrayVec.{ArrayVec}
-use Rattle.certificate.specs.Device.{Gives}
+use Rattle.texts.specs.Device.{Gives}
 use Rattle.runner.specs.Input.{IsResetLine, IsEnvLine, reset_text, env_text}
 use Rattle.runner.specs.Pending.{Unused, EndsWell, GivesLine, HasNoFeed, IsEnough, TakesEnough, left_of}
 use Rattle.runner.specs.Playing.{WasJudged, text_of, with_feeds}

@@ -2,9 +2,9 @@ use Rattle.std.proofs.Common.{◌≡◌, ℕ, List, [], ◌∷◌, ◌++◌, cod
 use Rattle.std.proofs.lemmas.Grind.{flat_map-append}
 use Rattle.std.proofs.lemmas.List.{append-nil, take_more, take-append-drop}
 use Rattle.std.specs.List.{join_with_byte}
-use Rattle.certificate.specs.Device.{Takes, TakesPart}
-use Rattle.certificate.specs.Fields.{hex4}
-use Rattle.certificate.proofs.DeviceLemmas.{takes_both, part_after, part_more}
+use Rattle.texts.specs.Device.{Takes, TakesPart}
+use Rattle.texts.specs.Numbers.{hex4}
+use Rattle.texts.proofs.DeviceLemmas.{takes_both, part_after, part_more}
 use Rattle.runner.specs.Output.{done_line, regs_line, sum_line}
 use Rattle.runner.specs.declared.machine.Summary.{Summary}
 

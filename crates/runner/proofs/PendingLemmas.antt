@@ -1,6 +1,6 @@
 use Rattle.std.proofs.Common.{◌≡◌, ◌≢◌, inl, ℕ, List, [], ◌∷◌, ◌++◌, Option, Some, None, IfSome, IsSome, length, refl, sym, ap, subst, ◌∙◌, arith, length-append}
-use Rattle.certificate.specs.Device.{Gives}
-use Rattle.certificate.proofs.DeviceLemmas.{gives_both}
+use Rattle.texts.specs.Device.{Gives}
+use Rattle.texts.proofs.DeviceLemmas.{gives_both}
 use Rattle.runner.specs.Pending.{TakesByte, HasNoFeed, GivesLine}
 use Rattle.runner.specs.declared.pending.Line.TheVariants.{Bad}
 

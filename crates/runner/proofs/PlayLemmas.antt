@@ -10,8 +10,8 @@ use Rattle.runner.specs.Leads.{LeadsTo, TakesTime, time_of}
 use Rattle.board_step.specs.State.{State}
 use Rattle.board_step.specs.declared.env.Env.{Env}
 use Rattle.board_step.specs.declared.event.Event.{Event}
-use Rattle.certificate.specs.Device.{Gives}
-use Rattle.certificate.proofs.DeviceLemmas.{gives_both}
+use Rattle.texts.specs.Device.{Gives}
+use Rattle.texts.proofs.DeviceLemmas.{gives_both}
 use Rattle.runner.specs.Input.{IsResetLine, IsEnvLine, reset_of, reset_text, env_text, env_of}
 use Rattle.runner.specs.Machine.{Summarizes}
 use Rattle.runner.specs.Playing.{BeginsWithNo, IsBadLine, OfBytes, Played, TakesEnv, TakesReset, envs_of, text_of}

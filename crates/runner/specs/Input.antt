@@ -4,7 +4,7 @@ use Rattle.std.specs.Fmt.{decimal}
 use Rattle.std.specs.List.{join_with_byte}
 use Rattle.board_step.specs.declared.board.Reset.{Reset}
 use Rattle.board_step.specs.declared.env.Env.{Env}
-use Rattle.certificate.specs.Fields.{IsByte, flag_digit, hex2}
+use Rattle.texts.specs.Numbers.{IsByte, flag_digit, hex2}
 use Rattle.runner.specs.declared.input.EnvLine.{EnvLine}
 use Rattle.runner.specs.declared.input.ResetLine.{ResetLine}
 use Rattle.t_states.specs.Frame.{frame}

@@ -2,7 +2,7 @@
 use Rattle.std.specs.Prelude.{ℕ, List, [], ◌∷◌, ◌++◌, codes, map}
 use Rattle.std.specs.Fmt.{decimal}
 use Rattle.std.specs.List.{join_with_byte}
-use Rattle.certificate.specs.Fields.{hex4}
+use Rattle.texts.specs.Numbers.{hex4}
 use Rattle.runner.specs.declared.machine.Summary.{Summary}
 
 -- fields as a line: they are parted by single spaces, and a line feed stands behind them

@@ -1,7 +1,7 @@
 -- What was read of an input and not yet used, and its next line.
 use Rattle.std.specs.Prelude.{ℕ, ◌<◌, ◌≤◌, ◌≡◌, ◌≢◌, ◌⊎◌, if◌then◌else◌, Bool, List, [], ◌∷◌, ◌++◌, length, Option, Some, None, IfSome, IsSome, IsTrue}
 use Rattle.std.specs.List.{AllByRecursion}
-use Rattle.certificate.specs.Device.{Gives}
+use Rattle.texts.specs.Device.{Gives}
 use Rattle.runner.specs.declared.pending.Line.{Line}
 use Rattle.runner.specs.declared.pending.Line.TheVariants.{Text, Bad, End}
 

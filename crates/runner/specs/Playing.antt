@@ -5,7 +5,7 @@ use Rattle.board_step.specs.Hardware.{Hardware}
 use Rattle.board_step.specs.Reset.{reset_state}
 use Rattle.board_step.specs.State.{State}
 use Rattle.board_step.specs.declared.env.Env.{Env}
-use Rattle.certificate.specs.Device.{Gives, TakesPart}
+use Rattle.texts.specs.Device.{Gives, TakesPart}
 use Rattle.runner.specs.Input.{IsResetLine, IsEnvLine, reset_of, reset_text, env_text, env_of}
 use Rattle.runner.specs.Machine.{RunsTo}
 use Rattle.runner.specs.Output.{summary_text}

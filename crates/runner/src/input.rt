@@ -1,12 +1,12 @@
 // The lines of an input.
 
 ghost use Rattle.std.specs.Prelude.{◌≡◌};
-ghost use Rattle.certificate.specs.Fields.{Reads};
+ghost use Rattle.texts.specs.Numbers.{Reads};
 ghost use Rattle.runner.specs.Input.{IsResetLine, IsEnvLine, reset_fields, reset_text, reset_of, regs_of, env_fields, env_text, env_of};
 
 use board_step::{Env, Inputs, Reset};
-use certificate::{Fields, decimal_between, flag_field, hex2_field};
 use t_states::FRAME;
+use texts::{Fields, decimal_between, flag_field, hex2_field};
 use z80_alu::{RegisterSet, Regs, Word};
 
 /// The first line of an input, `reset PHASE FILL`.

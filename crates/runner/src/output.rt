@@ -1,13 +1,13 @@
 // The lines of a summary, written to a device.
 
 ghost use Rattle.std.specs.Prelude.{◌≡◌, ◌<◌, ◌∷◌, OnOk, OnErr, decimal};
-ghost use Rattle.certificate.specs.Device.{HasGrown, Takes, TakesPart};
-ghost use Rattle.certificate.specs.Fields.{hex_digit, hex4};
+ghost use Rattle.texts.specs.Device.{HasGrown, Takes, TakesPart};
+ghost use Rattle.texts.specs.Numbers.{hex_digit, hex4};
 ghost use Rattle.runner.specs.Output.{done_line, regs_line, sum_line, summary_text};
 
 use crate::machine::Summary;
-use certificate::{DeviceFault, Sink};
 use itoa::Buffer;
+use texts::{DeviceFault, Sink};
 
 /// Writes all of the bytes.
 pub fn put<W: Sink>(out: &mut W, bytes: &[u8]) -> Result<(), DeviceFault>
@@ -42,7 +42,7 @@ pub fn put_decimal<W: Sink>(out: &mut W, number: u128) -> Result<(), DeviceFault
 }
 
 /// Writes a word as four upper-case hexadecimal digits.
-#[tactic(auto, unfolding(certificate::specs::Fields::hex4))]
+#[tactic(auto, unfolding(texts::specs::Numbers::hex4))]
 pub fn put_hex4<W: Sink>(out: &mut W, word: u16) -> Result<(), DeviceFault>
     ensures written { OnOk result (Takes (W.taken out.old) (hex4 word) (W.taken out.new)) }
     ensures part { OnErr result (TakesPart (W.taken out.old) (hex4 word) (W.taken out.new)) }

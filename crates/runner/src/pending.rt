@@ -1,13 +1,13 @@
 // The lines of an input, cut from a device.
 
 ghost use Rattle.std.specs.Prelude.{◌≡◌, ◌<◌, ◌≤◌, [], ◌∷◌, false, IfErr, IfOk, IsTrue, MatchOption, OnOk};
-ghost use Rattle.certificate.specs.Device.{HasGrown, Gives};
+ghost use Rattle.texts.specs.Device.{HasGrown, Gives};
 ghost use Rattle.runner.specs.Pending.{EndsWell, GivesLine, TakesByte, left_of};
 
 use crate::fault::PlayFault;
 use arrayvec::ArrayVec;
-use certificate::Source;
 use std::marker::Model;
+use texts::Source;
 
 /// The longest line of an input, without its line feed.
 const LINE_LEN: usize = 30;

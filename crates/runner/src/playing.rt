@@ -2,7 +2,7 @@
 
 ghost use Rattle.std.specs.Prelude.{◌≡◌, ◌≢◌, [], ℕ, IfErr, IfOk, IfSome, OnOk};
 ghost use Rattle.cert_checker.specs.Certified.{hardware_on};
-ghost use Rattle.certificate.specs.Device.{HasGrown, Takes};
+ghost use Rattle.texts.specs.Device.{HasGrown, Takes};
 ghost use Rattle.runner.specs.Input.{IsResetLine, IsEnvLine, reset_text, env_text};
 ghost use Rattle.runner.specs.Output.{summary_text};
 ghost use Rattle.runner.specs.Pending.{EndsWell, TakesEnough, left_of};
@@ -14,7 +14,7 @@ use crate::machine::{Machine, Summary};
 use crate::output::put_summary;
 use crate::pending::{Line, Pending};
 use cert_checker::Accepted;
-use certificate::{DeviceFault, Sink, Source};
+use texts::{DeviceFault, Sink, Source};
 
 /// Plays an input (docs/PROGRAM.md, "INPUT") on an accepted ROM for at most this many events, and writes its
 /// summary. A line of the input is read and judged only when its events are needed; the first line is always

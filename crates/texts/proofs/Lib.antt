@@ -1,3 +1,4 @@
 pub mod DeviceLemmas
 pub mod FieldLemmas
+pub mod NumberLemmas
 pub mod PlainLemmas

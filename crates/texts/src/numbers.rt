@@ -1,4 +1,4 @@
-// Numbers in texts: how they are read from a field.
+// Numbers in texts: how they are read from a field, and how they are spelled.
 
 ghost use Rattle.std.specs.Prelude.{◌≡◌, ◌<◌, ◌≤◌, ◌^◌, ◌↔◌, IsTrue};
 ghost use Rattle.std.specs.Fmt.{decimal};
@@ -96,4 +96,38 @@ pub fn flag_field(field: &[u8]) -> Option<bool>
         [b'1'] => Some(true),
         _ => None,
     }
+}
+
+/// A hexadecimal digit, upper case.
+fn hex_digit_of(value: u16) -> u8
+    requires { value < 16 }
+    ensures { result ≡ hex_digit value }
+{
+    if value < 10 {
+        b'0' + value as u8
+    } else {
+        b'A' + (value as u8 - 10)
+    }
+}
+
+/// A byte as two hexadecimal digits, upper case.
+#[tactic(auto, unfolding(crate::specs::Numbers::hex2))]
+pub fn spell_hex2(byte: u8) -> [u8; 2]
+    ensures { result ≡ hex2 byte }
+{
+    let byte = u16::from(byte);
+    [hex_digit_of(byte / 0x10), hex_digit_of(byte % 0x10)]
+}
+
+/// A word as four hexadecimal digits, upper case.
+#[tactic(auto, unfolding(crate::specs::Numbers::hex4))]
+pub fn spell_hex4(word: u16) -> [u8; 4]
+    ensures { result ≡ hex4 word }
+{
+    [
+        hex_digit_of(word / 0x1000),
+        hex_digit_of(word / 0x100 % 0x10),
+        hex_digit_of(word / 0x10 % 0x10),
+        hex_digit_of(word % 0x10),
+    ]
 }

@@ -1,6 +1,6 @@
 use Rattle.std.proofs.Common.{◌++◌, take, inr, arith, length-append}
 use Rattle.std.proofs.lemmas.List.{length-take}
-use Rattle.certificate.proofs.DeviceLemmas.{gives_all, gives_both}
+use Rattle.texts.proofs.DeviceLemmas.{gives_all, gives_both}
 use Rattle.commands.proofs.reading.read_up_to.Goals as goal
 
 pub returns-then-count-eq0-clause-whole : goal.returns-then-count-eq0-clause-whole

@@ -1,5 +1,5 @@
 use Rattle.std.proofs.Common.{◌≡◌, ◌≤◌, ◌-◌, vec_len}
-use Rattle.certificate.specs.Device.{Gives}
+use Rattle.texts.specs.Device.{Gives}
 use Rattle.commands.proofs.reading.read_up_to.Given as goal
 
 -- no read has failed yet, and the bytes are those that the source has given

@@ -1,6 +1,6 @@
 use Rattle.std.proofs.Common.{◌≡◌, ◌<◌, ◌++◌, take, sym, ap, ◌∙◌, List, ℕ, append_assoc, arith}
 use Rattle.std.proofs.lemmas.List.{take-append-drop}
-use Rattle.certificate.proofs.DeviceLemmas.{takes_both}
+use Rattle.texts.proofs.DeviceLemmas.{takes_both}
 use Rattle.runner.proofs.output.put.Goals as goal
 
 pub loop-rest-preserved : goal.loop-rest-preserved

@@ -1,5 +1,5 @@
 use Rattle.std.proofs.Common.{◌≡◌, ◌++◌, ℕ, List, length}
-use Rattle.certificate.specs.Device.{Takes}
+use Rattle.texts.specs.Device.{Takes}
 use Rattle.runner.proofs.output.put.Given as goal
 
 -- no write has failed yet, and what was written is what the rest lacks

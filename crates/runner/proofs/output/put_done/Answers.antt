@@ -1,7 +1,7 @@
 use Rattle.std.proofs.Common.{◌∷◌, ◌++◌, [], codes, decimal, refl, append_assoc}
-use Rattle.certificate.specs.Device.{Takes, TakesPart}
-use Rattle.certificate.specs.Fields.{hex4}
-use Rattle.certificate.proofs.DeviceLemmas.{takes_both}
+use Rattle.texts.specs.Device.{Takes, TakesPart}
+use Rattle.texts.specs.Numbers.{hex4}
+use Rattle.texts.proofs.DeviceLemmas.{takes_both}
 use Rattle.runner.specs.Output.{done_line}
 use Rattle.runner.proofs.OutputLemmas.{takes_last, part_first, part_then, part_last, done_whole}
 use Rattle.runner.proofs.output.put_done.Goals as goal

@@ -1,5 +1,5 @@
 use Rattle.std.proofs.Common.{◌+◌, ◌∷◌, [], ◌++◌, ◌∙◌, codes, drop, flat_map, sym, append_assoc, take_all, arith}
-use Rattle.certificate.specs.Fields.{hex4}
+use Rattle.texts.specs.Numbers.{hex4}
 use Rattle.runner.proofs.OutputLemmas.{takes_last, part_first, part_then, part_last, field_split, regs_whole}
 use Rattle.runner.proofs.output.put_regs.Goals as goal
 

@@ -1,6 +1,6 @@
 use Rattle.std.proofs.Common.{◌≡◌, ◌∷◌, ◌++◌, codes, take, flat_map}
-use Rattle.certificate.specs.Device.{Takes}
-use Rattle.certificate.specs.Fields.{hex4}
+use Rattle.texts.specs.Device.{Takes}
+use Rattle.texts.specs.Numbers.{hex4}
 use Rattle.runner.proofs.output.put_regs.Given as goal
 
 -- the line's word was written and a field for each item so far, and no write has failed yet

@@ -1,5 +1,5 @@
 use Rattle.std.proofs.Common.{◌+◌, ◌∷◌, [], ◌++◌, ◌∙◌, codes, drop, flat_map, get_or, sym, append_assoc, take_all, arith, decimal}
-use Rattle.certificate.specs.Device.{TakesPart}
+use Rattle.texts.specs.Device.{TakesPart}
 use Rattle.runner.proofs.OutputLemmas.{takes_last, part_first, part_then, part_last, field_split, sums_whole}
 use Rattle.runner.proofs.output.put_sums.Goals as goal
 

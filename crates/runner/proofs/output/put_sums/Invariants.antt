@@ -1,5 +1,5 @@
 use Rattle.std.proofs.Common.{◌≡◌, ◌∷◌, ◌++◌, codes, take, flat_map, decimal}
-use Rattle.certificate.specs.Device.{Takes}
+use Rattle.texts.specs.Device.{Takes}
 use Rattle.runner.proofs.output.put_sums.Given as goal
 
 -- the line's word was written and a field for each item so far, and no write has failed yet

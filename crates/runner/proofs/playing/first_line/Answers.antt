@@ -1,5 +1,5 @@
 use Rattle.std.proofs.Common.{◌≡◌, None}
-use Rattle.certificate.specs.Fields.{Reads}
+use Rattle.texts.specs.Numbers.{Reads}
 use Rattle.runner.specs.Input.{IsResetLine, reset_text}
 use Rattle.runner.specs.Pending.{GivesLine, left_of}
 use Rattle.runner.specs.declared.pending.Line.TheVariants.{Text, Bad, End}

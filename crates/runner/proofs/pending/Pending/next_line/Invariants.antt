@@ -1,5 +1,5 @@
 use Rattle.std.proofs.Common.{◌≡◌, IsTrue, length}
-use Rattle.certificate.specs.Device.{Gives}
+use Rattle.texts.specs.Device.{Gives}
 use Rattle.runner.specs.Pending.{EndsWell, HasNoFeed, left_of}
 use Rattle.runner.proofs.pending.Pending.next_line.Given as goal
 
