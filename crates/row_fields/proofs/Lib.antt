@@ -14,3 +14,5 @@ pub mod TermLemmas
 pub mod VariableLemmas
 pub mod FactsLemmas
 pub mod ShapeLemmas
+pub mod LengthLemmas
+pub mod SpellingLemmas

@@ -1,6 +1,9 @@
 // The fields of a certificate's rows: how each is read from its text, and how it is spelled (docs/CERTIFICATE.md).
 #![tactic(auto)]
 
+mod linear_spelling;
+mod list_spelling;
+mod pair_spelling;
 mod counted;
 mod facts;
 mod flag;
@@ -12,6 +15,9 @@ mod slot_number;
 mod term;
 mod variable;
 
+pub use linear_spelling::{add_linear, add_potential};
+pub use list_spelling::{add_facts, add_flag_fact, add_mode, add_register, add_shape};
+pub use pair_spelling::add_pair;
 pub use counted::Counted;
 pub use facts::{Facts, facts_field};
 pub use flag::flag_fact_field;

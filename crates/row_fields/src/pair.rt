@@ -39,7 +39,7 @@ fn ranges_field(field: &[u8]) -> Option<Pair>
 }
 
 /// Whether all three ranges are full.
-fn is_all(pair: &Pair) -> bool
+pub(crate) fn is_all(pair: &Pair) -> bool
     ensures { result ≡ is_full pair.now }
 {
     pair.word.is_full() && pair.high.is_full() && pair.low.is_full()
