@@ -19,7 +19,7 @@ pub begins_not : (m : ℕ) (xs ys rest : List ℕ) → Lacks m xs → 0 < length
 begins_not m [] ys rest lacks some e = absurd (omega arith)
 begins_not m (x ∷ xs) ys rest lacks some e = both_ways _ lacks.0 (eq-eqb x m (cons_head _ _ _ _ e))
 
-no_minus : (n : ℕ) (ys rest : List ℕ) → n < 2 ^ 64 → decimal n ++ ys ≡ 45 ∷ rest → ⊥
+pub no_minus : (n : ℕ) (ys rest : List ℕ) → n < 2 ^ 64 → decimal n ++ ys ≡ 45 ∷ rest → ⊥
 no_minus n ys rest small e = begins_not 45 (decimal n) ys rest (decimal_lacks 45 n (inl (omega arith)) small) (decimal_nonempty n small) e
 
 -- no constant is empty

@@ -16,3 +16,8 @@ pub mod FactsLemmas
 pub mod ShapeLemmas
 pub mod LengthLemmas
 pub mod SpellingLemmas
+pub mod InjectiveLaws
+pub mod LengthLaws
+pub mod LinearForm
+pub mod PlainLaws
+pub mod ValueLemmas

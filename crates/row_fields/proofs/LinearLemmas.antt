@@ -112,7 +112,7 @@ term_cut t u a b form too sign other e =
 abbrev pub AreTerms : List Term → Type 0
 AreTerms ts = AllByRecursion IsTerm ts
 
-some_text : (t : Term) (a : List ℕ) → term_text t ++ a ≡ [] → ⊥
+pub some_text : (t : Term) (a : List ℕ) → term_text t ++ a ≡ [] → ⊥
 unfolding term_text
 some_text t a e =
     omega (arith, ap length e, length-append (term_text t) a, length-append (sign_of t.coefficient) (body_of t), length-append (decimal (unsigned_abs t.coefficient)) (42 ∷ variable_name t.variable))

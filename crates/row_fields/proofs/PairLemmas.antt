@@ -1,5 +1,5 @@
 -- What a pair's text tells of the pair.
-use Rattle.std.proofs.Common.{◌≡◌, ◌==◌, ◌++◌, ◌∷◌, [], ℕ, List, Option, Some, None, IfSome, Bool, true, false, codes, refl, sym, ap, subst, ◌∙◌, inl, inr, arith}
+use Rattle.std.proofs.Common.{◌≡◌, ◌==◌, ◌++◌, ◌∷◌, [], ℕ, List, length, Option, Some, None, IfSome, Bool, true, false, codes, refl, sym, ap, subst, ◌∙◌, inl, inr, arith}
 use Rattle.std.proofs.lemmas.Bool.{cases_Bool, cond-true, cond-false, both_ways}
 use Rattle.std.proofs.lemmas.List.{append-nil}
 use Rattle.std.specs.List.{slice_split}
@@ -67,6 +67,11 @@ no_star p text other is = elim (cases_Bool (is_full p)) [
   | inr part ↦ (part, is ∙ known_ranges p part)
 ]
 
+-- three ranges are 21 bytes
+pub ranges_length : (p : Pair) → length (ranges_text p) ≡ 21
+unfolding ranges_text hex2 hex4
+ranges_length p = refl
+
 pub full_is_pair : IsPair full_pair
 full_is_pair = record {
   word = record { order = omega arith; within = omega arith };
@@ -81,7 +86,7 @@ ranges_lack_at p =
     lacks_append 64 (range_text hex4 p.word) _ (word_range_lacks 64 p.word at_is_none refl)
     (refl, lacks_append 64 (range_text hex2 p.high) _ (byte_range_lacks 64 p.high at_is_none refl) (refl, byte_range_lacks 64 p.low at_is_none refl))
 
-known_lacks_at : (p : Pair) → Lacks 64 (known_text p)
+pub known_lacks_at : (p : Pair) → Lacks 64 (known_text p)
 known_lacks_at p = elim (cases_Bool (is_full p)) [
   | inl full ↦ subst (λ text. Lacks 64 text) (sym (known_star p full)) (refl, tt)
   | inr part ↦ subst (λ text. Lacks 64 text) (sym (known_ranges p part)) (ranges_lack_at p)

@@ -85,3 +85,25 @@ module _ {X : Type 0} (text : X → List ℕ) (InForm : X → Type 0) (lacks : (
       parts ∙ ap (λ f. map text done ++ f) (taken ∙ ap (λ p. p ∷ left) is)
       ∙ sym (append_assoc (map text done) (text x ∷ []) left)
       ∙ ap (λ f. f ++ left) (sym (map-append text done (x ∷ [])))
+
+  -- the values of a list's text
+  module _ (no_dash : (x : X) → InForm x → text x ≡ codes "-" → ⊥) (injective : (x y : X) → InForm x → InForm y → text x ≡ text y → x ≡ y) where
+    map_injective : (xs ys : List X) → AllByRecursion InForm xs → AllByRecursion InForm ys → map text xs ≡ map text ys → xs ≡ ys
+    map_injective [] [] form too e = refl
+    map_injective [] (y ∷ ys) form too e = absurd (nil_not_cons _ _ e)
+    map_injective (x ∷ xs) [] form too e = absurd (nil_not_cons _ _ (sym e))
+    map_injective (x ∷ xs) (y ∷ ys) form too e =
+        let (first, others) = cons_both _ _ _ _ e in
+        ap (λ z. z ∷ xs) (injective x y form.0 too.0 first) ∙ ap (λ zs. y ∷ zs) (map_injective xs ys form.1 too.1 others)
+
+    dash_is_none : (x : X) (xs : List X) → AllByRecursion InForm (x ∷ xs) → codes "-" ≡ list_text (map text (x ∷ xs)) → ⊥
+    dash_is_none x xs form e =
+        let parts : (45 ∷ []) ∷ [] ≡ map text (x ∷ xs) = ap (λ f. parts_of 44 f) e ∙ list_parts x xs form in
+        no_dash x form.0 (sym (cons_both _ _ _ _ parts).0)
+
+    pub list_injective : (xs ys : List X) → AllByRecursion InForm xs → AllByRecursion InForm ys → list_text (map text xs) ≡ list_text (map text ys) → xs ≡ ys
+    list_injective [] [] form too e = refl
+    list_injective [] (y ∷ ys) form too e = absurd (dash_is_none y ys too e)
+    list_injective (x ∷ xs) [] form too e = absurd (dash_is_none x xs form (sym e))
+    list_injective (x ∷ xs) (y ∷ ys) form too e =
+        map_injective (x ∷ xs) (y ∷ ys) form too (sym (list_parts x xs form) ∙ ap (λ f. parts_of 44 f) e ∙ list_parts y ys too)

@@ -6,26 +6,21 @@ use Rattle.std.specs.List.{AllByRecursion}
 use Rattle.intervals.specs.declared.pair.Pair.{Pair}
 use Rattle.stack_shape.specs.declared.slot.Slot.{Slot}
 use Rattle.texts.specs.Fields.{parts_of}
-use Rattle.texts.specs.Numbers.{hex4}
-use Rattle.row_fields.specs.Pair.{IsPair, is_full, ranges_text, known_text, origin_text, pair_text}
+use Rattle.row_fields.specs.Pair.{IsPair, is_full, known_text, origin_text, pair_text}
 use Rattle.row_fields.specs.Shape.{IsShape, shape_text}
 use Rattle.row_fields.proofs.CutLemmas.{Lacks}
 use Rattle.row_fields.proofs.PartLemmas.{part_pair, part_lacks}
 use Rattle.row_fields.proofs.PartsLemmas.{list_stops, list_ends, list_more, all_more, parts_bound}
-use Rattle.row_fields.proofs.PairLemmas.{known_star, known_ranges}
+use Rattle.row_fields.proofs.PairLemmas.{known_star, known_ranges, ranges_length}
 
 abbrev pub slot_text : Slot → List ℕ
 slot_text slot = pair_text slot.pair
 
 -- no pair's text is empty
-ranges_some : (p : Pair) → 0 < length (ranges_text p)
-unfolding ranges_text hex4
-ranges_some p = omega arith
-
 known_some : (p : Pair) → 0 < length (known_text p)
 known_some p = elim (cases_Bool (is_full p)) [
   | inl full ↦ omega (arith, ap length (known_star p full))
-  | inr part ↦ omega (arith, ap length (known_ranges p part), ranges_some p)
+  | inr part ↦ omega (arith, ap length (known_ranges p part), ranges_length p)
 ]
 
 pub pair_some : (p : Pair) → 0 < length (pair_text p)

@@ -31,18 +31,22 @@ IsBelow slots _ = Unit {0}
 abbrev pub IsCoefficient : ℤ → Type 0
 IsCoefficient z = (0 < unsigned_abs z) × (unsigned_abs z ≤ 1000000)
 
+-- no term's variable is a slot from this number on
+abbrev pub IsWithin : ℕ → Sum → Type 0
+IsWithin slots s = All (λ t. IsBelow slots t.variable) s.terms
+
 -- a linear that may stand in a row with so many slots, but that it may have any number of terms: the constant is up to
 -- 1,000,000,000 in size, each coefficient 1 to 1,000,000, the variables rise, and none is a slot beyond the shape
 pub record IsSum (slots : ℕ) (s : Sum) : Type 0 where
   pub constant : unsigned_abs s.constant ≤ 1000000000
   pub coefficients : All (λ t. IsCoefficient t.coefficient) s.terms
   pub rising : AllPairs (λ t u. rank_of t.variable < rank_of u.variable) s.terms
-  pub within_shape : All (λ t. IsBelow slots t.variable) s.terms
+  pub within_shape : IsWithin slots s
 
 -- a linear within the limits: three terms at most, and no slot that a shape of 64 slots does not have
 pub record IsShort (s : Sum) : Type 0 where
   pub count : length s.terms ≤ 3
-  pub numbers : All (λ t. IsBelow 64 t.variable) s.terms
+  pub numbers : IsWithin 64 s
 
 -- a row's potential: a linear, or none
 abbrev pub potential_text : Option Sum → List ℕ

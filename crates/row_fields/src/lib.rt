@@ -13,6 +13,7 @@ mod pair;
 mod shape;
 mod slot_number;
 mod term;
+mod values;
 mod variable;
 
 pub use linear_spelling::{add_linear, add_potential};
@@ -25,3 +26,4 @@ pub use linear::potential_field;
 pub use names::{mode_field, register_field};
 pub use pair::pair_field;
 pub use shape::{ReadShape, shape_field};
+pub use values::{are_facts, facts_stay_within, is_linear, is_pair, is_shape, stays_within};
