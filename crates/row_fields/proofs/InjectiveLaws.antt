@@ -137,8 +137,8 @@ known_same p q e = elim (cases_Bool (is_full p)) [
   | inr some ↦ elim (cases_Bool (is_full q)) [
     | inl also ↦ absurd (star_is_no_range p (sym (known_star q also) ∙ sym e ∙ known_ranges p some))
     | inr part ↦
-      let same : ranges_text p ≡ ranges_text q = sym (known_ranges p some) ∙ e ∙ known_ranges q part in
-      (same_word p q same, same_high p q same, same_low p q same)
+        let same : ranges_text p ≡ ranges_text q = sym (known_ranges p some) ∙ e ∙ known_ranges q part in
+        (same_word p q same, same_high p q same, same_low p q same)
   ]
 ]
 
@@ -146,9 +146,10 @@ by_origin : (p q : Pair) (o u : Option RegPair) → known_text p ++ origin_text 
 by_origin p q None None e = (sym (append-nil (known_text p)) ∙ e ∙ append-nil (known_text q), refl)
 by_origin p q None (Some s) e = absurd (lacks_none 64 (known_text q) (name_of s) (subst (λ t. Lacks 64 t) (sym (append-nil (known_text p)) ∙ e) (known_lacks_at p)))
 by_origin p q (Some r) None e = absurd (lacks_none 64 (known_text p) (name_of r) (subst (λ t. Lacks 64 t) (sym (append-nil (known_text q)) ∙ sym e) (known_lacks_at q)))
-by_origin p q (Some r) (Some s) e =
-    (same_front 64 (known_text p) (name_of r) (known_text q) (name_of s) (known_lacks_at p) (known_lacks_at q) e,
-     ap (λ x. Some x) (reg_pair_injective r s (same_behind 64 (known_text p) (name_of r) (known_text q) (name_of s) (known_lacks_at p) (known_lacks_at q) e)))
+by_origin p q (Some r) (Some s) e = (
+  same_front 64 (known_text p) (name_of r) (known_text q) (name_of s) (known_lacks_at p) (known_lacks_at q) e,
+  ap (λ x. Some x) (reg_pair_injective r s (same_behind 64 (known_text p) (name_of r) (known_text q) (name_of s) (known_lacks_at p) (known_lacks_at q) e)),
+)
 
 pub pair_text_injective : (p q : Pair) → pair_text p ≡ pair_text q → p ≡ q
 unfolding pair_text

@@ -63,11 +63,12 @@ module _ (slots : ℕ) (done : Sum) (kept : SoFar) (t : Term) (keeps : IsKept sl
   }
 
   least_more : (v : Variable) → (rank_of t.variable + 1 ≤ rank_of v) ↔ All (λ u. rank_of u.variable < rank_of v) (done.terms ++ t ∷ [])
-  least_more v =
-      (λ after. All-push (λ u. rank_of u.variable < rank_of v) done.terms t
-                (All-weaker (λ u. rank_of u.variable < rank_of t.variable) (λ u. rank_of u.variable < rank_of v) (λ u lower. omega (arith, lower, after)) done.terms before_it)
-                (omega (arith, after)),
-       λ all. let last = at_last (λ u. rank_of u.variable < rank_of v) done.terms t all in omega (arith, last))
+  least_more v = (
+    λ after. All-push (λ u. rank_of u.variable < rank_of v) done.terms t
+        (All-weaker (λ u. rank_of u.variable < rank_of t.variable) (λ u. rank_of u.variable < rank_of v) (λ u lower. omega (arith, lower, after)) done.terms before_it)
+        (omega (arith, after)),
+    λ all. let last = at_last (λ u. rank_of u.variable < rank_of v) done.terms t all in omega (arith, last),
+  )
 
   pub kept_more : (linear : Option Sum) (rank : ℕ) → rank ≡ rank_of t.variable → (IsSum slots (extended done t) → KeepsShort (extended done t) linear) → IsKept slots (extended done t) (record { linear = linear; least = rank + 1 })
   kept_more linear rank same keeps_short = record {
@@ -79,8 +80,9 @@ module _ (slots : ℕ) (done : Sum) (kept : SoFar) (t : Term) (keeps : IsKept sl
 -- the linear itself, with one more term
 pub with_term_keeps : (slots : ℕ) (done linear : Sum) (t : Term) (result : Option Sum) → IsShort done → linear ≡ done → IsBelow 64 t.variable → SomeIff result (IsLinear (extended linear t)) (extended linear t) → IsSum slots (extended done t) → KeepsShort (extended done t) result
 with_term_keeps slots done linear t (Some made) short same low given form =
-    let is : IsLinear (extended done t) = rw same at given.0 in
-    (record { count = is.count; numbers = All-push (λ u. IsBelow 64 u.variable) done.terms t short.numbers low },
-     given.1 ∙ ap (λ s. extended s t) same)
+    let is : IsLinear (extended done t) = rw same at given.0 in (
+      record { count = is.count; numbers = All-push (λ u. IsBelow 64 u.variable) done.terms t short.numbers low },
+      given.1 ∙ ap (λ s. extended s t) same,
+    )
 with_term_keeps slots done linear t None short same low given form = λ few.
     given (rw same (record { constant = form.constant; count = few.count; coefficients = form.coefficients; rising = form.rising }))

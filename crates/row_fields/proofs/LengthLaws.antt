@@ -101,8 +101,14 @@ length_sign (negsuc n) = refl
 pub length_term : (t : Term) → IsCoefficient t.coefficient → IsBelow 64 t.variable → length (term_text t) ≤ 13
 unfolding term_text
 length_term t sized low =
-    omega (arith, length-append (sign_of t.coefficient) (body_of t), length_sign t.coefficient,
-      length-append (decimal (unsigned_abs t.coefficient)) (42 ∷ variable_name t.variable), seven_digits (unsigned_abs t.coefficient) sized.1, length_variable t.variable low)
+    omega (
+      arith,
+      length-append (sign_of t.coefficient) (body_of t),
+      length_sign t.coefficient,
+      length-append (decimal (unsigned_abs t.coefficient)) (42 ∷ variable_name t.variable),
+      seven_digits (unsigned_abs t.coefficient) sized.1,
+      length_variable t.variable low,
+    )
 
 abbrev IsShortTerm : Term → Type 0
 IsShortTerm t = length (term_text t) ≤ 13

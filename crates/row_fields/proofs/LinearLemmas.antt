@@ -105,7 +105,7 @@ pub term_cut : (t u : Term) (a b : List ℕ) → IsTerm t → IsTerm u → Begin
 unfolding term_text
 term_cut t u a b form too sign other e =
     let (same, behind) = signs_cut t.coefficient u.coefficient (body_of t ++ a) (body_of u ++ b)
-      (sym (append_assoc (sign_of t.coefficient) (body_of t) a) ∙ e ∙ append_assoc (sign_of u.coefficient) (body_of u) b) in
+    (sym (append_assoc (sign_of t.coefficient) (body_of t) a) ∙ e ∙ append_assoc (sign_of u.coefficient) (body_of u) b) in
     let parts = sign_cut (body_of t) a (body_of u) b (body_no_sign t form) sign (body_no_sign u too) other behind in
     (same_term t u form too same parts.0, parts.1)
 
@@ -135,7 +135,7 @@ terms_cut [] ts rest form too sign e = (ts, refl, sym e)
 terms_cut (d ∷ ds) [] rest form too sign e = absurd (some_text d (flat_map term_text ds ++ rest) (sym (e ∙ append_assoc (term_text d) (flat_map term_text ds) rest)))
 terms_cut (d ∷ ds) (t ∷ ts) rest form too sign e =
     let (same, behind) = term_cut t d (flat_map term_text ts) (flat_map term_text ds ++ rest) too.0 form.0 (terms_begin ts) (terms_then ds rest sign)
-      (e ∙ append_assoc (term_text d) (flat_map term_text ds) rest) in
+    (e ∙ append_assoc (term_text d) (flat_map term_text ds) rest) in
     let (more, terms, left) = terms_cut ds ts rest form.1 too.1 sign behind in
     (more, cc (same, terms), left)
 
@@ -177,7 +177,7 @@ pub linear_cut : (slots : ℕ) (done s : Sum) (rest : List ℕ) → slots < 2 ^ 
 unfolding linear_text
 linear_cut slots done s rest small form too sign e =
     let (constant, behind) = constant_cut s.constant done.constant (flat_map term_text s.terms) (flat_map term_text done.terms ++ rest) too.constant form.constant (terms_begin s.terms) (terms_then done.terms rest sign)
-      (e ∙ append_assoc (signed_decimal done.constant) (flat_map term_text done.terms) rest) in
+    (e ∙ append_assoc (signed_decimal done.constant) (flat_map term_text done.terms) rest) in
     let (more, terms, left) = terms_cut done.terms s.terms rest (sum_terms slots done small form) (sum_terms slots s small too) sign behind in
     (more, constant, terms, left)
 

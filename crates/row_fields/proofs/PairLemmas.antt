@@ -101,9 +101,10 @@ module _ (p : Pair) (text : List ℕ) (is : text ≡ pair_text p) where
   module _ (x y : List ℕ) (rest : List (List ℕ)) (cut : text ≡ x ++ 64 ∷ y) (parts : slice_split (λ b. b == 64) text ≡ x ∷ rest) where
     parts_at : (o : Option RegPair) → p.origin ≡ o → (x ≡ known_text p) × ((origin : RegPair) × (p.origin ≡ Some origin) × (y ≡ name_of origin))
     parts_at None e = absurd (lacks_none 64 x y (subst (λ t. Lacks 64 t) (sym (at_origin None e ∙ append-nil (known_text p)) ∙ cut) (known_lacks_at p)))
-    parts_at (Some origin) e =
-        (cut_front 64 text (known_text p) (name_of origin) (known_lacks_at p) (at_origin (Some origin) e) x rest parts,
-         (origin, e, cut_behind 64 text (known_text p) (name_of origin) (known_lacks_at p) (at_origin (Some origin) e) x y rest cut parts))
+    parts_at (Some origin) e = (
+      cut_front 64 text (known_text p) (name_of origin) (known_lacks_at p) (at_origin (Some origin) e) x rest parts,
+      (origin, e, cut_behind 64 text (known_text p) (name_of origin) (known_lacks_at p) (at_origin (Some origin) e) x y rest cut parts),
+    )
 
     pub before_at : x ≡ known_text p
     before_at = (parts_at p.origin refl).0

@@ -98,7 +98,7 @@ part_term t form =
     let high = form.coefficient.1 in
     part_append (sign_of t.coefficient) (body_of t) (part_sign t.coefficient)
     (part_append (decimal (unsigned_abs t.coefficient)) (codes "*" ++ variable_name t.variable) (part_decimal _ (omega arith))
-     (part_append (codes "*") (variable_name t.variable) (part_test (codes "*") refl) (part_variable t.variable form.number)))
+    (part_append (codes "*") (variable_name t.variable) (part_test (codes "*") refl) (part_variable t.variable form.number)))
 
 part_terms : (ts : List Term) → AreTerms ts → IsPart (flat_map term_text ts)
 part_terms [] form = tt
@@ -137,8 +137,8 @@ unfolding ranges_text
 part_ranges p =
     part_append (range_text hex4 p.word) _ (part_range hex4 p.word part_hex4)
     (part_append (codes ":") _ (part_test (codes ":") refl)
-     (part_append (range_text hex2 p.high) _ (part_range hex2 p.high part_hex2)
-      (part_append (codes ":") _ (part_test (codes ":") refl) (part_range hex2 p.low part_hex2))))
+    (part_append (range_text hex2 p.high) _ (part_range hex2 p.high part_hex2)
+    (part_append (codes ":") _ (part_test (codes ":") refl) (part_range hex2 p.low part_hex2))))
 
 part_known : (p : Pair) → IsPart (known_text p)
 part_known p = elim (cases_Bool (is_full p)) [

@@ -14,16 +14,18 @@ use Rattle.row_fields.proofs.HexLemmas.{IsNoDigit, hex2_injective, hex4_injectiv
 pub one_word_range : (text : List ℕ) (low high : ℕ) → text ≡ hex4 low ++ 45 ∷ hex4 high → (r : Interval) → text ≡ range_text hex4 r → (r.low ≡ low) × (r.high ≡ high)
 one_word_range text low high is r same =
     let lacks = hex4_lacks 45 r.low dash_is_none in
-    let both = sym same ∙ is in
-    (hex4_injective _ _ (same_front 45 (hex4 r.low) (hex4 r.high) (hex4 low) (hex4 high) lacks (hex4_lacks 45 low dash_is_none) both),
-     hex4_injective _ _ (same_behind 45 (hex4 r.low) (hex4 r.high) (hex4 low) (hex4 high) lacks (hex4_lacks 45 low dash_is_none) both))
+    let both = sym same ∙ is in (
+      hex4_injective _ _ (same_front 45 (hex4 r.low) (hex4 r.high) (hex4 low) (hex4 high) lacks (hex4_lacks 45 low dash_is_none) both),
+      hex4_injective _ _ (same_behind 45 (hex4 r.low) (hex4 r.high) (hex4 low) (hex4 high) lacks (hex4_lacks 45 low dash_is_none) both),
+    )
 
 pub one_byte_range : (text : List ℕ) (low high : ℕ) → text ≡ hex2 low ++ 45 ∷ hex2 high → (r : Interval) → text ≡ range_text hex2 r → (r.low ≡ low) × (r.high ≡ high)
 one_byte_range text low high is r same =
     let lacks = hex2_lacks 45 r.low dash_is_none in
-    let both = sym same ∙ is in
-    (hex2_injective _ _ (same_front 45 (hex2 r.low) (hex2 r.high) (hex2 low) (hex2 high) lacks (hex2_lacks 45 low dash_is_none) both),
-     hex2_injective _ _ (same_behind 45 (hex2 r.low) (hex2 r.high) (hex2 low) (hex2 high) lacks (hex2_lacks 45 low dash_is_none) both))
+    let both = sym same ∙ is in (
+      hex2_injective _ _ (same_front 45 (hex2 r.low) (hex2 r.high) (hex2 low) (hex2 high) lacks (hex2_lacks 45 low dash_is_none) both),
+      hex2_injective _ _ (same_behind 45 (hex2 r.low) (hex2 r.high) (hex2 low) (hex2 high) lacks (hex2_lacks 45 low dash_is_none) both),
+    )
 
 -- a range has no mark but its dash
 pub word_range_lacks : (m : ℕ) (r : Interval) → IsNoDigit m → (45 == m) ≡ false → Lacks m (range_text hex4 r)

@@ -48,10 +48,10 @@ module _ (field : List ℕ) (left : List (List ℕ)) (shape : List Slot) (count 
         done = reading.done ++ slot ∷ [];
         form = all_more (λ s. IsPair s.pair) reading.done slot reading.form form;
         kept = λ few.
-          let short : length reading.done < 64 = omega (arith, few, length-append reading.done (slot ∷ [])) in
-          let same = reading.kept (omega arith) in
-          let room : length shape < 64 = omega (arith, ap length same) in
-          pushed room ∙ ap (λ s. s ++ slot ∷ []) same;
+            let short : length reading.done < 64 = omega (arith, few, length-append reading.done (slot ∷ [])) in
+            let same = reading.kept (omega arith) in
+            let room : length shape < 64 = omega (arith, ap length same) in
+            pushed room ∙ ap (λ s. s ++ slot ∷ []) same;
         counted = omega (arith, length-append reading.done (slot ∷ []));
         parts = list_more slot_text (λ s. IsPair s.pair) slot_lacks field left behind reading.done slot part reading.parts taken is;
       }

@@ -32,8 +32,8 @@ module _ {X : Type 0} (text : X → List ℕ) (most : ℕ) (old : List ℕ) (all
           first = spelled.first;
           whole = spelled.whole;
           made =
-            made ∙ ap (λ l. l ++ text next) (parted ∙ ap (λ l. l ++ 44 ∷ []) spelled.made)
-            ∙ append_assoc (old ++ front) (44 ∷ []) (text next) ∙ append_assoc old front (44 ∷ text next)
-            ∙ ap (λ l. old ++ l) (sym (join_more (text spelled.first) (map text (take i others)) (text next)) ∙ ap (λ ts. join_with_byte 44 (text spelled.first ∷ ts)) (sym texts));
+              made ∙ ap (λ l. l ++ text next) (parted ∙ ap (λ l. l ++ 44 ∷ []) spelled.made)
+              ∙ append_assoc (old ++ front) (44 ∷ []) (text next) ∙ append_assoc old front (44 ∷ text next)
+              ∙ ap (λ l. old ++ l) (sym (join_more (text spelled.first) (map text (take i others)) (text next)) ∙ ap (λ ts. join_with_byte 44 (text spelled.first ∷ ts)) (sym texts));
           grown = omega arith;
         }

@@ -44,6 +44,7 @@ term_from_parts sign body digits name t sign_of_it cut size named =
 
 -- a term that was read
 pub term_reads : (sign : ℕ) (body digits name : List ℕ) (z : ℤ) (v : NamedVariable) (size : ℕ) → 0 < size → size ≤ 1000000 → IsBelow (2 ^ 64) (variable_of v) → unsigned_abs z ≡ size → sign ∷ [] ≡ sign_of z → body ≡ digits ++ 42 ∷ name → digits ≡ decimal size → name ≡ variable_name (variable_of v) → IsTerm (term_of (z, v)) × (sign ∷ body ≡ term_text (term_of (z, v)))
-term_reads sign body digits name z v size positive most below same signed cut sized named =
-    (record { coefficient = (omega arith, omega arith); number = below },
-     term_from_parts sign body digits name (term_of (z, v)) signed cut (sized ∙ ap decimal (sym same)) named)
+term_reads sign body digits name z v size positive most below same signed cut sized named = (
+  record { coefficient = (omega arith, omega arith); number = below },
+  term_from_parts sign body digits name (term_of (z, v)) signed cut (sized ∙ ap decimal (sym same)) named,
+)

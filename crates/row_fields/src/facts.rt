@@ -90,13 +90,7 @@ fn with_fact(kept: Option<Facts>, fact: Counted<Linear>) -> Option<Facts>
 {
     let mut facts = kept?;
     match fact {
-        Counted::Fits(fact) => {
-            if facts.push(fact) {
-                Some(facts)
-            } else {
-                None
-            }
-        }
+        Counted::Fits(fact) => { if facts.push(fact) { Some(facts) } else { None } }
         Counted::TooMany => None,
     }
 }

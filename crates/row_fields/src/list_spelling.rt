@@ -6,9 +6,9 @@ ghost use Rattle.row_fields.specs.Names.{mode_letter, register_letter};
 ghost use Rattle.row_fields.specs.Shape.{shape_text};
 ghost use Rattle.texts.specs.Made.{MADE_LEN};
 
+use crate::facts::Facts;
 use crate::linear_spelling::add_linear;
 use crate::pair_spelling::add_pair;
-use crate::facts::Facts;
 use abs_state::{FlagFact, Mode};
 use stack_shape::Shape;
 use texts::MadeLine;

@@ -67,12 +67,18 @@ fn is_below(variable: Variable, slots: usize) -> bool
 pub fn stays_within(linear: &Linear, slots: usize) -> bool
     ensures { IsTrue result ↔ IsWithin slots linear.now }
 {
-    linear.terms().iter().all(|term| is_below(term.variable, slots))
+    linear
+        .terms()
+        .iter()
+        .all(|term| is_below(term.variable, slots))
 }
 
 /// Whether no fact has a slot beyond a shape of so many slots.
 pub fn facts_stay_within(facts: &Facts, slots: usize) -> bool
     ensures { IsTrue result ↔ All (IsWithin slots) facts.now }
 {
-    facts.as_slice().iter().all(|fact| stays_within(fact, slots))
+    facts
+        .as_slice()
+        .iter()
+        .all(|fact| stays_within(fact, slots))
 }

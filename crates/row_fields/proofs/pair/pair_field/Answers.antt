@@ -17,11 +17,12 @@ returns-in_err-origin-in-Some c =
 pub returns-in_ok-origin-in-Some : goal.returns-in_ok-origin-in-Some
 unfolding known_text pair_text ranges_text
 returns-in_ok-origin-in-Some c =
-    let form = c.in_ok-pair-in-Some.ensures.read.0 in
-    (record { word = form.word; high = form.high; low = form.low },
-     c.in-Some.ensures.cut
-     ∙ ap (λ x. x ++ 64 ∷ c.in-Some.name.now) c.in_ok-pair-in-Some.ensures.read.1
-     ∙ ap (λ y. known_text c.in_ok-pair-in-Some.pair ++ 64 ∷ y) c.in_ok-origin-in-Some.ensures.1)
+    let form = c.in_ok-pair-in-Some.ensures.read.0 in (
+      record { word = form.word; high = form.high; low = form.low },
+      c.in-Some.ensures.cut
+          ∙ ap (λ x. x ++ 64 ∷ c.in-Some.name.now) c.in_ok-pair-in-Some.ensures.read.1
+          ∙ ap (λ y. known_text c.in_ok-pair-in-Some.pair ++ 64 ∷ y) c.in_ok-origin-in-Some.ensures.1,
+    )
 
 pub returns-in-None : goal.returns-in-None
 returns-in-None c = reads_without _ _ c.in-None.ensures.parts c.known_field-in-None.ensures.read c.known_field-in-None.ensures.origin

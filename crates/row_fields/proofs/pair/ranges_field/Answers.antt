@@ -31,11 +31,12 @@ returns-in_err-byte_range_field-2-clause-read c =
 
 pub returns-clause-read : goal.returns-clause-read
 unfolding ranges_text
-returns-clause-read c =
-    (record { word = c.in_ok-word_range_field.ensures.0; high = c.in_ok-byte_range_field.ensures.0; low = c.in_ok-byte_range_field-2.ensures.0 },
-     c.in_ok-word.ensures.cut
-     ∙ ap (λ x. x ++ 58 ∷ c.in_ok-word.bytes.now) c.in_ok-word_range_field.ensures.1
-     ∙ ap (λ y. range_text hex4 c.in_ok-word_range_field.field-0 ++ 58 ∷ y)
-       (c.in_ok-high.ensures.cut
-        ∙ ap (λ x. x ++ 58 ∷ c.in_ok-high.low.now) c.in_ok-byte_range_field.ensures.1
-        ∙ ap (λ y. range_text hex2 c.in_ok-byte_range_field.field-0 ++ 58 ∷ y) c.in_ok-byte_range_field-2.ensures.1))
+returns-clause-read c = (
+  record { word = c.in_ok-word_range_field.ensures.0; high = c.in_ok-byte_range_field.ensures.0; low = c.in_ok-byte_range_field-2.ensures.0 },
+  c.in_ok-word.ensures.cut
+      ∙ ap (λ x. x ++ 58 ∷ c.in_ok-word.bytes.now) c.in_ok-word_range_field.ensures.1
+      ∙ ap (λ y. range_text hex4 c.in_ok-word_range_field.field-0 ++ 58 ∷ y)
+      (c.in_ok-high.ensures.cut
+      ∙ ap (λ x. x ++ 58 ∷ c.in_ok-high.low.now) c.in_ok-byte_range_field.ensures.1
+      ∙ ap (λ y. range_text hex2 c.in_ok-byte_range_field.field-0 ++ 58 ∷ y) c.in_ok-byte_range_field-2.ensures.1),
+)

@@ -40,4 +40,4 @@ returns c =
     let within = c.in_ok-size.ensures.0 in
     rw (to_z-of_z w32 c.in_ok-coefficient.coefficient fits)
     (term_reads c.args.sign c.args.body.now c.in_ok-digits.digits.now c.in_ok-digits.name.now c.in_ok-coefficient.coefficient c.in_ok-variable.variable c.in_ok-size.size
-     (omega (arith, within.0)) within.1 c.in_ok-variable.ensures.0 signed.0 signed.1 c.in_ok-digits.ensures.cut c.in_ok-size.ensures.1 c.in_ok-variable.ensures.1)
+    (omega (arith, within.0)) within.1 c.in_ok-variable.ensures.0 signed.0 signed.1 c.in_ok-digits.ensures.cut c.in_ok-size.ensures.1 c.in_ok-variable.ensures.1)

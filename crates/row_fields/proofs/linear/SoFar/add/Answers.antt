@@ -13,5 +13,5 @@ pub returns : goal.returns
 returns c = λ done keeps.
     let fits : SFits w32 c.args.coefficient = search rules in
     let keeps_short = subst (λ z. let next = extended done (term_of (z, c.args.variable)) in IsSum c.args.slots next → KeepsShort next c.with_term-self.result)
-      (to_z-of_z w32 c.args.coefficient fits) (c.with_term-self.ensures _ done keeps.linear) in
+    (to_z-of_z w32 c.args.coefficient fits) (c.with_term-self.ensures _ done keeps.linear) in
     kept_more _ done _ (term_of (c.args.coefficient, c.args.variable)) keeps (omega arith) (c.if-not-is_below.ensures.0 refl) c.requires _ _ c.rank-rank.ensures keeps_short
