@@ -1,5 +1,5 @@
 -- Hexadecimal digits, upper case: no two numbers have the same ones, and no mark of a pair's text is one.
-use Rattle.std.proofs.Common.{◌≡◌, ◌==◌, ◌/◌, ◌%◌, ℕ, Bool, false, List, [], ◌∷◌, arith}
+use Rattle.std.proofs.Common.{◌≡◌, ◌==◌, ◌/◌, ◌%◌, ℕ, false, List, ◌∷◌, arith}
 use Rattle.std.proofs.lemmas.Bool.Decides.{nat_tests}
 use Rattle.texts.specs.Numbers.{hex_digit, hex2, hex4}
 use Rattle.row_fields.proofs.CutLemmas.{Lacks}

@@ -1,5 +1,5 @@
 -- How many bytes the fields of a row have at most.
-use Rattle.std.proofs.Common.{◌≡◌, ◌<◌, ◌≤◌, ◌+◌, ◌*◌, ℕ, List, [], ◌∷◌, ◌++◌, length, map, codes, Option, Some, None, ℤ, pos, negsuc, unsigned_abs, refl, sym, ap, ◌∙◌, inl, inr, arith, length-append}
+use Rattle.std.proofs.Common.{◌≡◌, ◌≤◌, ◌+◌, ◌*◌, ℕ, List, [], ◌∷◌, length, map, Option, Some, None, ℤ, pos, negsuc, unsigned_abs, refl, ap, inl, inr, arith, length-append}
 use Rattle.std.proofs.lemmas.Bool.{cases_Bool}
 use Rattle.std.proofs.lemmas.List.{length-map}
 use Rattle.std.proofs.lemmas.List.Elements.{recursion_from_All}
@@ -20,7 +20,6 @@ use Rattle.loop_bounds.specs.declared.variable.Variable.TheVariants as variables
 use Rattle.stack_shape.specs.declared.slot.Slot.{Slot}
 use Rattle.z80_decode.specs.declared.operands.Register8.{Register8}
 use Rattle.z80_decode.specs.declared.operands.Register8.TheVariants as registers
-use Rattle.texts.specs.Numbers.{hex2}
 use Rattle.texts.proofs.NumberLemmas.{length_hex2}
 use Rattle.row_fields.specs.Facts.{AreFacts, AreFewFacts, list_text, facts_text}
 use Rattle.row_fields.specs.Flag.{flag_text}

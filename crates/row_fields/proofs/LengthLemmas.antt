@@ -1,5 +1,5 @@
 -- How long the fields of a row are.
-use Rattle.std.proofs.Common.{◌≡◌, ◌<◌, ◌≤◌, ◌^◌, ◌+◌, ◌*◌, ℕ, suc, List, [], ◌∷◌, ◌++◌, length, unsigned_abs, ℤ, pos, negsuc, arith, length-append}
+use Rattle.std.proofs.Common.{◌<◌, ◌≤◌, ℕ, suc, length, unsigned_abs, ℤ, pos, negsuc, arith}
 use Rattle.std.specs.Fmt.{decimal, signed_decimal}
 use Rattle.std.proofs.lemmas.Fmt.{length-decimal-le}
 

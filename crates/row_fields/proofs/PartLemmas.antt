@@ -1,5 +1,5 @@
 -- The bytes of linears and of pairs: none is a space, a comma or a byte below.
-use Rattle.std.proofs.Common.{◌≡◌, ◌≤◌, ◌<◌, ◌==◌, ◌^◌, ◌+◌, ◌&&◌, ℕ, suc, Bool, true, false, not, List, [], ◌∷◌, ◌++◌, codes, Option, Some, None, ℤ, pos, negsuc, unsigned_abs, refl, sym, ap, subst, ◌∙◌, inl, inr, arith, leb, leb-true}
+use Rattle.std.proofs.Common.{◌≡◌, ◌≤◌, ◌<◌, ◌==◌, ◌^◌, ◌&&◌, ℕ, suc, true, false, not, List, [], ◌∷◌, ◌++◌, codes, Option, Some, None, ℤ, pos, negsuc, unsigned_abs, refl, sym, subst, inl, inr, arith, leb, leb-true}
 use Rattle.std.proofs.lemmas.Bool.{and_parts, not-true, cases_Bool}
 use Rattle.std.proofs.lemmas.Bool.Decides.{nat_tests}
 use Rattle.std.proofs.lemmas.Fmt.{decimal_is_IsNumeral}

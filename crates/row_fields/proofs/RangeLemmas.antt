@@ -1,7 +1,6 @@
 -- What a range's text tells of the range, and what three ranges' text tells of them.
-use Rattle.std.proofs.Common.{◌≡◌, ◌≤◌, ◌==◌, ◌++◌, ◌∷◌, [], ℕ, List, Option, Some, None, Bool, true, false, refl, sym, ap, ◌∙◌, arith, leb, cond}
+use Rattle.std.proofs.Common.{◌≡◌, ◌≤◌, ◌==◌, ◌++◌, ◌∷◌, [], ℕ, List, Some, None, Bool, true, false, refl, sym, ◌∙◌, arith, leb, cond}
 use Rattle.std.proofs.lemmas.Bool.{leb-true, leb-false}
-use Rattle.std.proofs.lemmas.List.{append_cancel_left}
 use Rattle.std.specs.List.{slice_split}
 use Rattle.intervals.specs.Range.{Interval, between}
 use Rattle.intervals.specs.declared.pair.Pair.{Pair}

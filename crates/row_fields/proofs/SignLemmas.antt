@@ -1,10 +1,10 @@
 -- Texts that are cut at the first sign.
-use Rattle.std.proofs.Common.{◌≡◌, ◌<◌, ◌≤◌, ◌+◌, ℕ, zero, suc, Bool, true, false, List, [], ◌∷◌, ◌++◌, length, get_or, take, drop, Option, Some, None, cond, refl, sym, ap, subst, ◌∙◌, arith, add-one, drop-cons, ltb-false}
+use Rattle.std.proofs.Common.{◌≡◌, ◌<◌, ◌≤◌, ℕ, zero, suc, Bool, true, false, List, [], ◌∷◌, ◌++◌, length, get_or, take, drop, Some, None, cond, refl, sym, subst, arith, ltb-false}
 use Rattle.std.proofs.lemmas.Bool.{both_ways}
 use Rattle.std.proofs.lemmas.List.{take-append-drop, append-nil}
 use Rattle.std.proofs.lemmas.List.Quantifiers.{position-Some}
 use Rattle.std.proofs.lemmas.List.Sums.{fails_before_first}
-use Rattle.std.specs.List.{AllByRecursion, position}
+use Rattle.std.specs.List.{position}
 use Rattle.row_fields.specs.Terms.{is_sign, HasNoSign, BeginsWithSign, IsCutAtSign}
 
 no_sign_before : (text : List ℕ) (at : ℕ) → ((k : ℕ) → k < at → is_sign (get_or text k 0) ≡ false) → at ≤ length text → HasNoSign (take at text)

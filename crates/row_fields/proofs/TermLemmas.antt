@@ -1,8 +1,7 @@
 -- What a term's text tells of the term.
-use Rattle.std.proofs.Common.{◌≡◌, ◌<◌, ◌≤◌, ◌^◌, ◌+◌, ℕ, suc, List, [], ◌∷◌, ◌++◌, ℤ, pos, negsuc, unsigned_abs, refl, sym, ap, ◌∙◌, inl, inr, arith}
+use Rattle.std.proofs.Common.{◌≡◌, ◌<◌, ◌≤◌, ◌^◌, ℕ, List, [], ◌∷◌, ◌++◌, ℤ, pos, negsuc, unsigned_abs, sym, ap, ◌∙◌, inl, arith}
 use Rattle.std.specs.Fmt.{decimal}
 use Rattle.loop_bounds.specs.declared.linear.Term.{Term}
-use Rattle.loop_bounds.specs.declared.variable.Variable.{Variable}
 use Rattle.row_fields.specs.Linear.{IsBelow, sign_of, term_text}
 use Rattle.row_fields.specs.Names.{variable_name}
 use Rattle.row_fields.specs.declared.variable.NamedVariable.{NamedVariable}

@@ -1,5 +1,6 @@
 -- A linear's text, and which linears are in form (docs/CERTIFICATE.md, "Linears").
-use Rattle.std.specs.Prelude.{ℕ, ◌<◌, ◌≤◌, List, ◌++◌, length, codes, ℤ, pos, negsuc, unsigned_abs, All, AllPairs, Option, Some, None}
+use Rattle.std.specs.Prelude.{ℕ, ◌<◌, ◌≤◌, List, ◌++◌, length, codes, All, AllPairs, Option, Some, None}
+use Rattle.std.specs.Prelude.{ℤ, pos, negsuc, unsigned_abs}
 use Rattle.std.specs.Fmt.{decimal, signed_decimal}
 use Rattle.std.specs.List.{flat_map}
 use Rattle.loop_bounds.specs.Linear.{Sum}

@@ -1,5 +1,5 @@
 -- A pair's text: its ranges and its origin (docs/CERTIFICATE.md, "Pairs").
-use Rattle.std.specs.Prelude.{ℕ, ◌-◌, ◌≤◌, ◌==◌, ◌&&◌, if◌then◌else◌, Bool, List, [], ◌∷◌, ◌++◌, codes, Option, Some, None}
+use Rattle.std.specs.Prelude.{ℕ, ◌≤◌, ◌==◌, ◌&&◌, if◌then◌else◌, Bool, List, [], ◌++◌, codes, Option, Some, None}
 use Rattle.intervals.specs.Range.{Interval}
 use Rattle.intervals.specs.RegPair.{name_of}
 use Rattle.intervals.specs.declared.pair.Pair.{Pair}

@@ -21,8 +21,10 @@ IsShortShape slots = length slots ≤ 64
 
 -- a shape of so many slots was read; where they are more than 64, there is none
 abbrev pub ReadsSlots : List ℕ → ℕ → Counted (List Slot) → Type 0
-ReadsSlots seen count (Fits slots) = IsShape slots × (length slots ≤ 64) × (count ≡ length slots) × (seen ≡ shape_text slots)
-ReadsSlots seen count TooMany = (slots : List Slot) × IsShape slots × (64 < length slots) × (count ≡ length slots) × (seen ≡ shape_text slots)
+ReadsSlots seen count (Fits slots) =
+    IsShape slots × (length slots ≤ 64) × (count ≡ length slots) × (seen ≡ shape_text slots)
+ReadsSlots seen count TooMany =
+    (slots : List Slot) × IsShape slots × (64 < length slots) × (count ≡ length slots) × (seen ≡ shape_text slots)
 
 -- what the reader of a shape gave: the shape and how many slots it has, which may be more than a shape can have
 abbrev pub ReadsShape : List ℕ → Option ReadShape → Type 0

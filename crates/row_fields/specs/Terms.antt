@@ -1,6 +1,7 @@
 -- Terms as a text has them, whose slots may be beyond any shape, and what is kept of a linear while it is read.
 use denote.Ref.{Bor}
-use Rattle.std.specs.Prelude.{ℕ, ◌≡◌, ◌≢◌, ◌<◌, ◌≤◌, ◌^◌, ◌==◌, ◌||◌, ◌++◌, ◌↔◌, Bool, false, IsTrue, List, [], ◌∷◌, ℤ, unsigned_abs, All, Option, Some, None}
+use Rattle.std.specs.Prelude.{ℕ, ◌≡◌, ◌≢◌, ◌<◌, ◌≤◌, ◌^◌, ◌==◌, ◌||◌, ◌++◌, ◌↔◌, List, [], ◌∷◌, All}
+use Rattle.std.specs.Prelude.{Bool, false, IsTrue, ℤ, unsigned_abs, Option, Some, None}
 use Rattle.std.specs.Fmt.{signed_decimal}
 use Rattle.std.specs.List.{AllByRecursion}
 use Rattle.loop_bounds.specs.Linear.{Sum, extended}
@@ -55,9 +56,11 @@ pub record IsCutAtSign (text front behind : List ℕ) : Type 0 where
 abbrev pub IsConstant : ℤ → Type 0
 IsConstant z = unsigned_abs z ≤ 1000000000
 
--- what was read of a text that begins with a constant: the constant, and what stands from the next sign on; or the text begins with none
+-- what was read of a text that begins with a constant: the constant, and what stands from the next sign on; or the text
+-- begins with none
 abbrev pub ReadsConstant : List ℕ → Option (ℤ × Bor (List ℕ)) → Type 0
-ReadsConstant seen (Some (constant, behind)) = IsConstant constant × (seen ≡ signed_decimal constant ++ behind.now) × BeginsWithSign behind.now
+ReadsConstant seen (Some (constant, behind)) =
+    IsConstant constant × (seen ≡ signed_decimal constant ++ behind.now) × BeginsWithSign behind.now
 ReadsConstant seen None =
     (constant : ℤ) (behind : List ℕ) → IsConstant constant → BeginsWithSign behind → seen ≢ signed_decimal constant ++ behind
 
@@ -66,15 +69,15 @@ abbrev pub KeepsShort : Sum → Option Sum → Type 0
 KeepsShort done (Some linear) = IsShort done × (linear ≡ done)
 KeepsShort done None = IsShort done → ⊥
 
--- what is kept of a linear of which some terms were read: it, as long as it is within the limits, and the least rank that the next
--- variable may have
+-- what is kept of a linear of which some terms were read: it, as long as it is within the limits, and the least rank
+-- that the next variable may have
 pub record IsKept (slots : ℕ) (done : Sum) (kept : SoFar) : Type 0 where
   pub form : IsSum slots done
   pub linear : KeepsShort done kept.linear
   pub least : (v : Variable) → (kept.least ≤ rank_of v) ↔ All (λ t. rank_of t.variable < rank_of v) done.terms
 
--- what was read of a text that begins with a term: what is kept of the linear with it, and what stands from the next sign on; or the
--- linear cannot go on with any term that the text begins with
+-- what was read of a text that begins with a term: what is kept of the linear with it, and what stands from the next sign
+-- on; or the linear cannot go on with any term that the text begins with
 abbrev pub ReadsTerm : ℕ → List ℕ → Sum → SoFar → Option (Bor (List ℕ)) → Type 0
 ReadsTerm slots seen done kept (Some behind) =
     (t : Term) × (seen ≡ term_text t ++ behind.now) × BeginsWithSign behind.now × IsKept slots (extended done t) kept

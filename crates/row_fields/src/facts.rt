@@ -86,7 +86,8 @@ impl Facts {
 
 /// The facts with one more, while they are within the limits.
 fn with_fact(kept: Option<Facts>, fact: Counted<Linear>) -> Option<Facts>
-    ensures { (done : List Sum) (next : Sum) → KeepsFew done kept → IsCountedAs next fact → KeepsFew (done ++ next ∷ []) result }
+    ensures { (done : List Sum) (next : Sum) → KeepsFew done kept → IsCountedAs next fact
+        → KeepsFew (done ++ next ∷ []) result }
 {
     let mut facts = kept?;
     match fact {

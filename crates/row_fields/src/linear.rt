@@ -3,7 +3,8 @@ ghost use Rattle.std.specs.Prelude.{◌≡◌, ◌≢◌, ℕ, ℤ, List, [], �
 ghost use Rattle.std.specs.Fmt.{signed_decimal};
 ghost use Rattle.loop_bounds.specs.Linear.{Sum, extended};
 ghost use Rattle.row_fields.specs.Counted.{ReadsCounted};
-ghost use Rattle.row_fields.specs.Linear.{IsCoefficient, IsPotential, IsShort, IsShortPotential, IsSum, linear_text, potential_text};
+ghost use Rattle.row_fields.specs.Linear.{IsCoefficient, IsPotential, IsShort, IsShortPotential, IsSum};
+ghost use Rattle.row_fields.specs.Linear.{linear_text, potential_text};
 ghost use Rattle.row_fields.specs.Terms.{BeginsWithSign, IsConstant, IsKept, KeepsShort, ReadsConstant, ReadsTerm, term_of};
 
 use crate::counted::Counted;

@@ -1,6 +1,6 @@
 use Rattle.std.proofs.Common.{SFits, w32, rules, SomeIff, refl, subst}
 use Rattle.std.proofs.lemmas.Int.{to_z-of_z}
-use Rattle.loop_bounds.specs.Linear.{Sum, IsLinear, extended}
+use Rattle.loop_bounds.specs.Linear.{IsLinear, extended}
 use Rattle.loop_bounds.specs.declared.linear.Term.{Term}
 use Rattle.row_fields.specs.Terms.{term_of}
 use Rattle.row_fields.proofs.KeptLemmas.{with_term_keeps}

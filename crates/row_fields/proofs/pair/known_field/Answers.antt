@@ -1,7 +1,6 @@
-use Rattle.std.proofs.Common.{◌≡◌, codes, refl, rules, sym, ◌∙◌, arith}
+use Rattle.std.proofs.Common.{◌≡◌, codes, refl, rules, sym, ◌∙◌}
 use Rattle.std.proofs.lemmas.Bool.{both_ways}
 use Rattle.intervals.specs.Pair.{full_pair}
-use Rattle.row_fields.specs.Pair.{known_text}
 use Rattle.row_fields.proofs.PairLemmas.{known_star, known_ranges, no_star, same_full, full_is_pair}
 use Rattle.row_fields.proofs.pair.known_field.Goals as goal
 

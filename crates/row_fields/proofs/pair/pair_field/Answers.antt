@@ -1,4 +1,4 @@
-use Rattle.std.proofs.Common.{◌≡◌, ◌++◌, ◌∷◌, ap, ◌∙◌}
+use Rattle.std.proofs.Common.{◌++◌, ◌∷◌, ap, ◌∙◌}
 use Rattle.row_fields.specs.Pair.{known_text, pair_text, ranges_text}
 use Rattle.row_fields.proofs.PairLemmas.{before_at, behind_at, reads_without}
 use Rattle.row_fields.proofs.pair.pair_field.Goals as goal

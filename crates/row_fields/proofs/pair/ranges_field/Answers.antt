@@ -1,4 +1,4 @@
-use Rattle.std.proofs.Common.{◌≡◌, ◌++◌, ◌∷◌, ap, ◌∙◌}
+use Rattle.std.proofs.Common.{◌++◌, ◌∷◌, ap, ◌∙◌}
 use Rattle.row_fields.specs.Pair.{range_text, ranges_text}
 use Rattle.texts.specs.Numbers.{hex2, hex4}
 use Rattle.row_fields.proofs.RangeLemmas.{colon_somewhere, word_first, second_colon, high_next, low_last}

@@ -1,4 +1,4 @@
-use Rattle.std.proofs.Common.{◌≤◌, ◌++◌, ◌∷◌, arith, ap, ◌∙◌}
+use Rattle.std.proofs.Common.{◌++◌, ◌∷◌, arith, ap, ◌∙◌}
 use Rattle.texts.specs.Numbers.{hex4}
 use Rattle.row_fields.proofs.CutLemmas.{cut_front, cut_behind, cut_somewhere}
 use Rattle.row_fields.proofs.HexLemmas.{hex4_lacks, dash_is_none}

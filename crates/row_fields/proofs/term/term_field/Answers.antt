@@ -1,4 +1,4 @@
-use Rattle.std.proofs.Common.{◌≡◌, ◌≤◌, ◌<◌, ◌^◌, unsigned_abs, SFits, w32, rules, arith, sym, ◌∙◌}
+use Rattle.std.proofs.Common.{◌≡◌, unsigned_abs, SFits, w32, rules, arith, sym, ◌∙◌}
 use Rattle.std.specs.Fmt.{decimal}
 use Rattle.std.proofs.lemmas.Int.{to_z-of_z}
 use Rattle.std.proofs.lemmas.Fmt.{decimal_injective}

@@ -1,4 +1,4 @@
-use Rattle.std.proofs.Common.{◌≡◌, ◌≤◌, ap, length, arith}
+use Rattle.std.proofs.Common.{ap, length, arith}
 use Rattle.std.proofs.lemmas.List.Elements.{recursion_from_All}
 use Rattle.row_fields.specs.Linear.{IsSum, IsShort}
 use Rattle.row_fields.proofs.ValueLemmas.{all_next, all_seen}

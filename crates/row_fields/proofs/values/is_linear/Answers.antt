@@ -1,5 +1,3 @@
-use Rattle.std.proofs.Common.{◌≡◌, ap}
-use Rattle.loop_bounds.specs.Linear.{Sum}
 use Rattle.row_fields.specs.Linear.{IsBelow}
 use Rattle.row_fields.proofs.LinearForm.{sum_from_linear}
 use Rattle.row_fields.proofs.ValueLemmas.{all_next, all_seen}

@@ -1,4 +1,4 @@
-use Rattle.std.proofs.Common.{◌≡◌, ◌++◌, ◌∷◌, [], ap, ◌∙◌, rules}
+use Rattle.std.proofs.Common.{◌≡◌, ◌++◌, ◌∷◌, [], rules}
 use Rattle.row_fields.proofs.VariableLemmas.{only_high, only_low}
 use Rattle.row_fields.proofs.variable.split_part.Goals as goal
 
