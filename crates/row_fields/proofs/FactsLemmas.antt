@@ -7,13 +7,13 @@ use Rattle.loop_bounds.specs.Linear.{Sum}
 use Rattle.texts.specs.Fields.{parts_of}
 use Rattle.row_fields.specs.Facts.{AreFacts, AreFewFacts, AreStored, facts_text, padded_facts, padding}
 use Rattle.row_fields.specs.FactsLaws.{length-front, length-stored}
-use Rattle.row_fields.specs.Counted.{ReadsCounted}
+use Rattle.linear_fields.specs.Counted.{ReadsCounted}
 use Rattle.row_fields.specs.Kept.{IsCountedAs, KeepsFew}
-use Rattle.row_fields.specs.declared.counted.Counted.{Counted}
-use Rattle.row_fields.specs.declared.counted.Counted.TheVariants.{Fits, TooMany}
-use Rattle.row_fields.specs.Linear.{IsShort, IsSum, linear_text}
-use Rattle.row_fields.proofs.CutLemmas.{Lacks}
-use Rattle.row_fields.proofs.PartLemmas.{part_linear, part_lacks}
+use Rattle.linear_fields.specs.declared.counted.Counted.{Counted}
+use Rattle.linear_fields.specs.declared.counted.Counted.TheVariants.{Fits, TooMany}
+use Rattle.linear_fields.specs.Linear.{IsShort, IsSum, linear_text}
+use Rattle.linear_fields.proofs.CutLemmas.{Lacks}
+use Rattle.linear_fields.proofs.PartLemmas.{part_linear, part_lacks}
 use Rattle.row_fields.proofs.PartsLemmas.{list_stops, list_ends, list_more, all_more}
 
 -- some facts were read, and some parts of the text are left

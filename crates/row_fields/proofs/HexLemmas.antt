@@ -2,7 +2,7 @@
 use Rattle.std.proofs.Common.{◌≡◌, ◌==◌, ◌/◌, ◌%◌, ℕ, false, List, ◌∷◌, arith}
 use Rattle.std.proofs.lemmas.Bool.Decides.{nat_tests}
 use Rattle.texts.specs.Numbers.{hex_digit, hex2, hex4}
-use Rattle.row_fields.proofs.CutLemmas.{Lacks}
+use Rattle.linear_fields.proofs.CutLemmas.{Lacks}
 
 hex_digit_injective : (m n : ℕ) → hex_digit m ≡ hex_digit n → m ≡ n
 hex_digit_injective m n e = grind (arith, nat_tests)

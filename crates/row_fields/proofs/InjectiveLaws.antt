@@ -1,10 +1,9 @@
 -- No two values in form have the same text.
-use Rattle.std.proofs.Common.{◌≡◌, ◌==◌, ◌<◌, ◌^◌, ℕ, suc, true, List, [], ◌∷◌, ◌++◌, length, get_or, codes, Option, Some, None, ℤ, pos, negsuc, refl, sym, ap, subst, ◌∙◌, inl, inr, arith, length-append}
+use Rattle.linear_fields.proofs.InjectiveLaws.{linear_text_injective, dash_is_no_linear}
+use Rattle.std.proofs.Common.{◌≡◌, ◌==◌, ◌<◌, ◌^◌, ℕ, true, List, [], ◌∷◌, ◌++◌, length, get_or, codes, Option, Some, None, refl, sym, ap, subst, ◌∙◌, inl, inr, arith, length-append}
 use Rattle.std.proofs.lemmas.Bool.{and_parts, cases_Bool, eqb-true}
-use Rattle.std.proofs.lemmas.Fmt.{decimal_nonempty}
 use Rattle.std.proofs.lemmas.List.{append-nil}
-use Rattle.std.specs.Fmt.{decimal, signed_decimal}
-use Rattle.std.specs.List.{flat_map, position_or_len}
+use Rattle.std.specs.List.{position_or_len}
 use Rattle.abs_state.specs.declared.fact.FlagFact.{FlagFact}
 use Rattle.abs_state.specs.declared.fact.FlagFact.TheVariants.{Zero, Compared}
 use Rattle.abs_state.specs.declared.mode.Mode.{Mode}
@@ -15,23 +14,20 @@ use Rattle.intervals.specs.declared.pair.Pair.{Pair}
 use Rattle.intervals.specs.declared.reg_pair.RegPair.{RegPair}
 use Rattle.intervals.specs.declared.reg_pair.RegPair.TheVariants.{Af, Bc, De, Hl, Ix, Iy, AlternateAf, AlternateBc, AlternateDe, AlternateHl}
 use Rattle.loop_bounds.specs.Linear.{Sum}
-use Rattle.loop_bounds.specs.declared.linear.Term.{Term}
 use Rattle.stack_shape.specs.declared.slot.Slot.{Slot}
 use Rattle.z80_decode.specs.declared.operands.Register8.{Register8}
 use Rattle.z80_decode.specs.declared.operands.Register8.TheVariants.{A, B, C, D, E, H, L}
 use Rattle.row_fields.specs.Facts.{AreFacts, facts_text}
 use Rattle.row_fields.specs.Flag.{flag_text}
-use Rattle.row_fields.specs.Linear.{IsSum, IsPotential, term_text, linear_text, potential_text}
+use Rattle.linear_fields.specs.Linear.{IsSum, linear_text}
 use Rattle.row_fields.specs.Names.{register_letter, mode_letter}
 use Rattle.row_fields.specs.Pair.{IsPair, is_all, is_full, ranges_text, known_text, origin_text, pair_text}
 use Rattle.row_fields.specs.Shape.{IsShape, shape_text}
-use Rattle.row_fields.proofs.ConstantLemmas.{cons_head, cons_tail, no_minus}
-use Rattle.row_fields.specs.Terms.{IsConstant}
-use Rattle.row_fields.proofs.CutLemmas.{Lacks, lacks_none, same_front, same_behind}
+use Rattle.linear_fields.proofs.ConstantLemmas.{cons_head, cons_tail}
+use Rattle.linear_fields.proofs.CutLemmas.{Lacks, lacks_none, same_front, same_behind}
 use Rattle.row_fields.proofs.FactsLemmas.{linear_lacks}
 use Rattle.row_fields.proofs.HexLemmas.{hex2_injective}
-use Rattle.row_fields.proofs.LinearLemmas.{linear_cut, some_text}
-use Rattle.row_fields.proofs.NameLemmas.{code}
+use Rattle.linear_fields.proofs.NameLemmas.{code}
 use Rattle.row_fields.proofs.PairLemmas.{known_star, known_ranges, known_lacks_at, ranges_length, same_word, same_high, same_low}
 use Rattle.row_fields.proofs.PartsLemmas.{list_injective}
 use Rattle.row_fields.proofs.ShapeLemmas.{slot_text, slot_lacks}
@@ -156,34 +152,6 @@ pair_text_injective p q e =
     let (known, origin) = by_origin p q p.origin q.origin e in
     let (word, high, low) = known_same p q known in
     same_ranges p q word high low origin
-
--- linears
-pub linear_text_injective : (slots : ℕ) → slots < 2 ^ 64 → (s t : Sum) → IsSum slots s → IsSum slots t → linear_text s ≡ linear_text t → s ≡ t
-linear_text_injective slots small s t form too e =
-    let (more, constant, terms, left) = linear_cut slots t s [] small too form tt (e ∙ sym (append-nil (linear_text t))) in
-    let same : s.terms ≡ t.terms = terms ∙ ap (λ ts. t.terms ++ ts) (no_more more left) ∙ append-nil t.terms in
-    ap (λ z. let x : Sum = record { constant = z; terms = s.terms } in x) constant
-    ∙ ap (λ ts. let x : Sum = record { constant = t.constant; terms = ts } in x) same
-  where
-    no_more : (more : List Term) → [] ≡ flat_map term_text more → more ≡ []
-    no_more [] e = refl
-    no_more (u ∷ more) e = absurd (some_text u (flat_map term_text more) (sym e))
-
--- a dash is no linear
-dash_constant : (z : ℤ) (terms : List ℕ) → IsConstant z → signed_decimal z ++ terms ≡ codes "-" → ⊥
-dash_constant (pos n) terms small e = no_minus n terms [] (omega (arith, small)) e
-dash_constant (negsuc n) terms small e =
-    omega (arith, ap length e, length-append (decimal (suc n)) terms, decimal_nonempty (suc n) (omega (arith, small)))
-
-pub dash_is_no_linear : (slots : ℕ) (s : Sum) → IsSum slots s → linear_text s ≡ codes "-" → ⊥
-unfolding linear_text
-dash_is_no_linear slots s form e = dash_constant s.constant (flat_map term_text s.terms) form.constant e
-
-pub potential_text_injective : (slots : ℕ) → slots < 2 ^ 64 → (p q : Option Sum) → IsPotential slots p → IsPotential slots q → potential_text p ≡ potential_text q → p ≡ q
-potential_text_injective slots small None None form too e = refl
-potential_text_injective slots small None (Some t) form too e = absurd (dash_is_no_linear slots t too (sym e))
-potential_text_injective slots small (Some s) None form too e = absurd (dash_is_no_linear slots s form e)
-potential_text_injective slots small (Some s) (Some t) form too e = ap (λ x. Some x) (linear_text_injective slots small s t form too e)
 
 -- facts and shapes
 pub facts_text_injective : (slots : ℕ) → slots < 2 ^ 64 → (f g : List Sum) → AreFacts slots f → AreFacts slots g → facts_text f ≡ facts_text g → f ≡ g

@@ -10,7 +10,7 @@ use Rattle.intervals.specs.declared.pair.Pair.{Pair}
 use Rattle.intervals.specs.declared.reg_pair.RegPair.{RegPair}
 use Rattle.texts.specs.Numbers.{Reads, hex2, hex4}
 use Rattle.row_fields.specs.Pair.{IsPair, is_full, range_text, ranges_text, known_text, origin_text, pair_text}
-use Rattle.row_fields.proofs.CutLemmas.{Lacks, lacks_append, lacks_none, same_front, same_behind, cut_front, cut_behind, cut_somewhere}
+use Rattle.linear_fields.proofs.CutLemmas.{Lacks, lacks_append, lacks_none, same_front, same_behind, cut_front, cut_behind, cut_somewhere}
 use Rattle.row_fields.proofs.HexLemmas.{colon_is_none, at_is_none}
 use Rattle.row_fields.proofs.RangeLemmas.{one_word_range, one_byte_range, word_range_lacks, byte_range_lacks, bytes_text}
 

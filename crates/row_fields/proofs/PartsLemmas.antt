@@ -7,7 +7,7 @@ use Rattle.std.proofs.lemmas.List.Splits.{slice_split-cons_yes, slice_split-cons
 use Rattle.std.specs.List.{AllByRecursion, join_with_byte, onto_first}
 use Rattle.texts.specs.Fields.{parts_of}
 use Rattle.row_fields.specs.Facts.{list_text}
-use Rattle.row_fields.proofs.CutLemmas.{Lacks}
+use Rattle.linear_fields.proofs.CutLemmas.{Lacks}
 
 -- the parts of a text that commas join
 join_parts : (first : List ℕ) (others : List (List ℕ)) → AllByRecursion (Lacks 44) (first ∷ others) → parts_of 44 (join_with_byte 44 (first ∷ others)) ≡ first ∷ others

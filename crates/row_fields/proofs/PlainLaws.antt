@@ -1,4 +1,5 @@
 -- Each byte of a row's fields is above the space.
+use Rattle.linear_fields.proofs.PlainLaws.{plain_linear}
 use Rattle.std.proofs.Common.{ℕ, ◌<◌, ◌^◌, List, [], ◌∷◌, ◌++◌, map, codes, Option, Some, None, refl, arith}
 use Rattle.std.specs.List.{AllByRecursion, join_with_byte}
 use Rattle.abs_state.specs.declared.fact.FlagFact.{FlagFact}
@@ -13,11 +14,12 @@ use Rattle.z80_decode.specs.declared.operands.Register8.TheVariants.{A, B, C, D,
 use Rattle.texts.proofs.PlainLemmas.{IsPlain, plain_from_test, plain_hex2}
 use Rattle.row_fields.specs.Facts.{AreFacts, list_text, facts_text}
 use Rattle.row_fields.specs.Flag.{flag_text}
-use Rattle.row_fields.specs.Linear.{IsSum, IsPotential, linear_text, potential_text}
+use Rattle.linear_fields.specs.Linear.{linear_text}
 use Rattle.row_fields.specs.Names.{register_letter, mode_letter}
 use Rattle.row_fields.specs.Pair.{pair_text}
 use Rattle.row_fields.specs.Shape.{shape_text}
-use Rattle.row_fields.proofs.PartLemmas.{part_is_plain, part_linear, part_pair}
+use Rattle.linear_fields.proofs.PartLemmas.{part_is_plain}
+use Rattle.row_fields.proofs.PartLemmas.{part_pair}
 use Rattle.row_fields.proofs.ShapeLemmas.{slot_text}
 
 plain_append : (a b : List ℕ) → IsPlain a → IsPlain b → IsPlain (a ++ b)
@@ -53,13 +55,6 @@ pub plain_flag_fact : (f : Option FlagFact) → IsPlain (flag_text f)
 plain_flag_fact None = plain_from_test (codes "-") refl
 plain_flag_fact (Some (Zero r)) = plain_append (codes "z") (register_letter r) (plain_from_test (codes "z") refl) (plain_register r)
 plain_flag_fact (Some (Compared b)) = plain_append (codes "c") _ (plain_from_test (codes "c") refl) (plain_hex2 b)
-
-pub plain_linear : (slots : ℕ) (s : Sum) → slots < 2 ^ 64 → IsSum slots s → IsPlain (linear_text s)
-plain_linear slots s small form = part_is_plain (linear_text s) (part_linear slots s small form)
-
-pub plain_potential : (slots : ℕ) (p : Option Sum) → slots < 2 ^ 64 → IsPotential slots p → IsPlain (potential_text p)
-plain_potential slots None small form = plain_from_test (codes "-") refl
-plain_potential slots (Some s) small form = plain_linear slots s small form
 
 plain_linears : (slots : ℕ) (facts : List Sum) → slots < 2 ^ 64 → AreFacts slots facts → AllByRecursion IsPlain (map linear_text facts)
 plain_linears slots [] small form = tt

@@ -6,7 +6,7 @@ use Rattle.intervals.specs.Range.{Interval, between}
 use Rattle.intervals.specs.declared.pair.Pair.{Pair}
 use Rattle.texts.specs.Numbers.{Reads, hex2, hex4}
 use Rattle.row_fields.specs.Pair.{IsRange, range_text, ranges_text}
-use Rattle.row_fields.proofs.CutLemmas.{Lacks, lacks_append, same_front, same_behind, cut_front, cut_behind, cut_somewhere}
+use Rattle.linear_fields.proofs.CutLemmas.{Lacks, lacks_append, same_front, same_behind, cut_front, cut_behind, cut_somewhere}
 use Rattle.row_fields.proofs.HexLemmas.{IsNoDigit, hex2_injective, hex4_injective, hex2_lacks, hex4_lacks, dash_is_none, colon_is_none}
 
 -- the bounds of a range are those that its text has

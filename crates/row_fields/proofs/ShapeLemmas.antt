@@ -7,8 +7,9 @@ use Rattle.stack_shape.specs.declared.slot.Slot.{Slot}
 use Rattle.texts.specs.Fields.{parts_of}
 use Rattle.row_fields.specs.Pair.{IsPair, is_full, known_text, origin_text, pair_text}
 use Rattle.row_fields.specs.Shape.{IsShape, shape_text}
-use Rattle.row_fields.proofs.CutLemmas.{Lacks}
-use Rattle.row_fields.proofs.PartLemmas.{part_pair, part_lacks}
+use Rattle.linear_fields.proofs.CutLemmas.{Lacks}
+use Rattle.linear_fields.proofs.PartLemmas.{part_lacks}
+use Rattle.row_fields.proofs.PartLemmas.{part_pair}
 use Rattle.row_fields.proofs.PartsLemmas.{list_stops, list_ends, list_more, all_more, parts_bound}
 use Rattle.row_fields.proofs.PairLemmas.{known_star, known_ranges, ranges_length}
 

@@ -2,7 +2,7 @@
 use Rattle.std.specs.Prelude.{ℕ, ◌≡◌, ◌≤◌, ◌-◌, ◌++◌, pos, replicate, take, List, [], ◌∷◌, length, map, codes}
 use Rattle.std.specs.List.{AllByRecursion, join_with_byte}
 use Rattle.loop_bounds.specs.Linear.{Sum}
-use Rattle.row_fields.specs.Linear.{IsSum, IsShort, linear_text}
+use Rattle.linear_fields.specs.Linear.{IsSum, IsShort, linear_text}
 
 -- a dash where there is none, or the texts with commas between them
 abbrev pub list_text : List (List ℕ) → List ℕ

@@ -2,9 +2,9 @@
 use Rattle.std.specs.Prelude.{◌≡◌, List, Option, Some, None}
 use Rattle.loop_bounds.specs.Linear.{Sum}
 use Rattle.row_fields.specs.Facts.{AreFewFacts}
-use Rattle.row_fields.specs.Linear.{IsShort}
-use Rattle.row_fields.specs.declared.counted.Counted.{Counted}
-use Rattle.row_fields.specs.declared.counted.Counted.TheVariants.{Fits, TooMany}
+use Rattle.linear_fields.specs.Linear.{IsShort}
+use Rattle.linear_fields.specs.declared.counted.Counted.{Counted}
+use Rattle.linear_fields.specs.declared.counted.Counted.TheVariants.{Fits, TooMany}
 
 -- the facts themselves, which are within the limits; or none, and they are not
 abbrev pub KeepsFew : List Sum → Option (List Sum) → Type 0

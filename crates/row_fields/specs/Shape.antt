@@ -3,8 +3,8 @@ use Rattle.std.specs.Prelude.{ℕ, ◌<◌, ◌≤◌, ◌≡◌, ◌≢◌, Lis
 use Rattle.std.specs.List.{AllByRecursion}
 use Rattle.row_fields.specs.Facts.{list_text}
 use Rattle.row_fields.specs.Pair.{IsPair, pair_text}
-use Rattle.row_fields.specs.declared.counted.Counted.{Counted}
-use Rattle.row_fields.specs.declared.counted.Counted.TheVariants.{Fits, TooMany}
+use Rattle.linear_fields.specs.declared.counted.Counted.{Counted}
+use Rattle.linear_fields.specs.declared.counted.Counted.TheVariants.{Fits, TooMany}
 use Rattle.row_fields.specs.declared.shape.ReadShape.{ReadShape}
 use Rattle.stack_shape.specs.declared.slot.Slot.{Slot}
 

@@ -2,12 +2,11 @@
 ghost use Rattle.std.specs.Prelude.{◌≡◌, ◌<◌, ◌≤◌, ◌++◌, ◌∷◌, [], ◌↔◌, IsTrue, List, length};
 ghost use Rattle.std.specs.Bool.{OnFalse, OnTrue};
 ghost use Rattle.loop_bounds.specs.Linear.{Sum};
-ghost use Rattle.row_fields.specs.Counted.{ReadsCounted};
+ghost use Rattle.linear_fields.specs.Counted.{ReadsCounted};
 ghost use Rattle.row_fields.specs.Facts.{AreFacts, AreFewFacts, facts_text};
 ghost use Rattle.row_fields.specs.Kept.{IsCountedAs, KeepsFew};
 
-use crate::counted::Counted;
-use crate::linear::linear_field;
+use linear_fields::{Counted, linear_field};
 use loop_bounds::Linear;
 use std::marker::Model;
 use texts::Fields;

@@ -7,9 +7,9 @@ ghost use Rattle.row_fields.specs.Shape.{shape_text};
 ghost use Rattle.texts.specs.Made.{MADE_LEN};
 
 use crate::facts::Facts;
-use crate::linear_spelling::add_linear;
 use crate::pair_spelling::add_pair;
 use abs_state::{FlagFact, Mode};
+use linear_fields::add_linear;
 use stack_shape::Shape;
 use texts::MadeLine;
 use z80_decode::Register8;

@@ -1,8 +1,8 @@
 // Shapes as fields of a row.
 ghost use Rattle.row_fields.specs.Shape.{ReadsShape};
 
-use crate::counted::Counted;
 use crate::pair::pair_field;
+use linear_fields::Counted;
 use stack_shape::{SLOTS, Shape, Slot};
 use texts::Fields;
 

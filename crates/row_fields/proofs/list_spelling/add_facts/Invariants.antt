@@ -1,4 +1,4 @@
-use Rattle.row_fields.specs.Linear.{linear_text}
+use Rattle.linear_fields.specs.Linear.{linear_text}
 use Rattle.row_fields.proofs.SpellingLemmas.{IsSpelled}
 use Rattle.row_fields.proofs.list_spelling.add_facts.Given as goal
 

@@ -1,6 +1,6 @@
 use Rattle.std.proofs.Common.{◌++◌, ◌∷◌, arith, ap, ◌∙◌}
 use Rattle.texts.specs.Numbers.{hex2}
-use Rattle.row_fields.proofs.CutLemmas.{cut_front, cut_behind, cut_somewhere}
+use Rattle.linear_fields.proofs.CutLemmas.{cut_front, cut_behind, cut_somewhere}
 use Rattle.row_fields.proofs.HexLemmas.{hex2_lacks, dash_is_none}
 use Rattle.row_fields.proofs.RangeLemmas.{reads_range, one_byte_range}
 use Rattle.row_fields.proofs.pair.byte_range_field.Goals as goal

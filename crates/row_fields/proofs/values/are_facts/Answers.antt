@@ -1,7 +1,7 @@
 use Rattle.std.proofs.Common.{ap, length, arith}
 use Rattle.std.proofs.lemmas.List.Elements.{recursion_from_All}
-use Rattle.row_fields.specs.Linear.{IsSum, IsShort}
-use Rattle.row_fields.proofs.ValueLemmas.{all_next, all_seen}
+use Rattle.linear_fields.specs.Linear.{IsSum, IsShort}
+use Rattle.linear_fields.proofs.ValueLemmas.{all_next, all_seen}
 use Rattle.row_fields.proofs.values.are_facts.Goals as goal
 
 pub loop-fact-preserved : goal.loop-fact-preserved

@@ -1,5 +1,5 @@
 use Rattle.std.proofs.Common.{All, take}
-use Rattle.row_fields.specs.Linear.{IsSum, IsShort}
+use Rattle.linear_fields.specs.Linear.{IsSum, IsShort}
 use Rattle.row_fields.proofs.values.are_facts.Given as goal
 
 abbrev pub invariant-loop-fact : goal.invariant-loop-fact

@@ -1,6 +1,6 @@
 use Rattle.std.proofs.lemmas.List.Elements.{recursion_from_All}
 use Rattle.row_fields.specs.Pair.{IsPair}
-use Rattle.row_fields.proofs.ValueLemmas.{all_seen}
+use Rattle.linear_fields.proofs.ValueLemmas.{all_seen}
 use Rattle.row_fields.proofs.values.is_shape.Goals as goal
 
 pub returns-clause-form : goal.returns-clause-form
