@@ -1,0 +1,16 @@
+pub mod ConstantLemmas
+pub mod CutLemmas
+pub mod DecimalLemmas
+pub mod InjectiveLaws
+pub mod KeptLemmas
+pub mod LengthLaws
+pub mod LengthLemmas
+pub mod LinearForm
+pub mod LinearLemmas
+pub mod NameLemmas
+pub mod PartLemmas
+pub mod PlainLaws
+pub mod SignLemmas
+pub mod TermLemmas
+pub mod ValueLemmas
+pub mod VariableLemmas

@@ -1,0 +1,11 @@
+pub mod FactsLemmas
+pub mod HexLemmas
+pub mod InjectiveLaws
+pub mod LengthLaws
+pub mod PairLemmas
+pub mod PartLemmas
+pub mod PartsLemmas
+pub mod PlainLaws
+pub mod RangeLemmas
+pub mod ShapeLemmas
+pub mod SpellingLemmas
