@@ -1,0 +1,7 @@
+-- The definitions of a certificate's lines.
+pub mod Keyword
+pub mod Line
+pub mod Proc
+pub mod Read
+pub mod Row
+pub mod Version

@@ -1,0 +1,99 @@
+-- Rows, and the fields of their lines (docs/CERTIFICATE.md, "Rows").
+use Rattle.std.specs.Prelude.{ℕ, ◌<◌, ◌≡◌, List, [], ◌∷◌, ◌++◌, length, Option}
+use Rattle.std.specs.Fmt.{decimal}
+use Rattle.abs_state.specs.declared.mode.Mode.TheVariants.{Unset}
+use Rattle.abs_state.specs.declared.pairs.Pairs.{Pairs}
+use Rattle.abs_state.specs.declared.fact.FlagFact.{FlagFact}
+use Rattle.loop_bounds.specs.Linear.{Sum}
+use Rattle.stack_shape.specs.declared.slot.Slot.{Slot}
+use Rattle.cert_lines.specs.declared.row.Place.{Place}
+use Rattle.cert_lines.specs.declared.row.Row.{Row}
+use Rattle.cert_lines.specs.declared.version.Version.{Version}
+use Rattle.cert_lines.specs.declared.version.Version.TheVariants.{One, Two}
+use Rattle.row_fields.specs.Facts.{AreFacts, AreFewFacts, facts_text}
+use Rattle.row_fields.specs.Flag.{IsFlag, flag_text}
+use Rattle.linear_fields.specs.Linear.{IsPotential, IsShortPotential, potential_text}
+use Rattle.row_fields.specs.Names.{mode_letter}
+use Rattle.row_fields.specs.Pair.{IsPair, pair_text}
+use Rattle.row_fields.specs.Shape.{IsShape, IsShortShape, shape_text}
+use Rattle.texts.specs.Numbers.{IsWord, hex4}
+
+-- the ten pairs in their order
+abbrev pub pair_fields : Pairs → List (List ℕ)
+pair_fields p =
+    pair_text p.af ∷ pair_text p.bc ∷ pair_text p.de ∷ pair_text p.hl ∷ pair_text p.ix ∷ pair_text p.iy ∷
+    pair_text p.alternate_af ∷ pair_text p.alternate_bc ∷ pair_text p.alternate_de ∷ pair_text p.alternate_hl ∷ []
+
+-- how many cells are armed, which only version 2 says
+abbrev pub armed_field : Version → ℕ → List (List ℕ)
+armed_field One armed = []
+armed_field Two armed = decimal armed ∷ []
+
+-- the fields that tell where a row stands, its mode and its armed cells
+abbrev pub place_fields : Version → Place → List (List ℕ)
+place_fields version place = decimal place.proc ∷ hex4 place.address ∷ mode_letter place.mode ∷ armed_field version place.armed
+
+-- where a row stands, its mode and its armed cells
+abbrev pub place_of : Row → Place
+place_of row = record { proc = row.proc; address = row.address; mode = row.state.mode; armed = row.state.armed }
+
+-- what the last fields of a row say: the flag fact, the facts, the shape and the potential
+pub record Last : Type 0 where
+  pub flag : Option FlagFact
+  pub facts : List Sum
+  pub shape : List Slot
+  pub potential : Option Sum
+
+abbrev pub last_of : Row → Last
+last_of row = record { flag = row.state.flag; facts = row.facts; shape = row.state.shape; potential = row.potential }
+
+abbrev pub last_texts : Last → List (List ℕ)
+last_texts last = flag_text last.flag ∷ facts_text last.facts ∷ shape_text last.shape ∷ potential_text last.potential ∷ []
+
+abbrev pub last_fields : Row → List (List ℕ)
+last_fields row = last_texts (last_of row)
+
+-- the fields behind `row`
+unfoldable pub fields_of_row : Version → Row → List (List ℕ)
+fields_of_row version row = place_fields version (place_of row) ++ (pair_fields row.state.pairs ++ last_fields row)
+
+pub record ArePairs (p : Pairs) : Type 0 where
+  pub af : IsPair p.af
+  pub bc : IsPair p.bc
+  pub de : IsPair p.de
+  pub hl : IsPair p.hl
+  pub ix : IsPair p.ix
+  pub iy : IsPair p.iy
+  pub alternate_af : IsPair p.alternate_af
+  pub alternate_bc : IsPair p.alternate_bc
+  pub alternate_de : IsPair p.alternate_de
+  pub alternate_hl : IsPair p.alternate_hl
+
+-- version 1 arms no cell
+abbrev pub IsArmed : Version → ℕ → Type 0
+IsArmed One armed = armed ≡ 0
+IsArmed Two armed = IsWord armed
+
+-- numbers of a row's place in form
+pub record IsPlace (version : Version) (place : Place) : Type 0 where
+  pub proc : IsWord place.proc
+  pub address : IsWord place.address
+  pub armed : IsArmed version place.armed
+
+-- a row in form, but that its slots, facts and terms may be too many: no fact and no potential names a slot beyond the shape, and
+-- where SP may not be set the shape is empty. It has fewer slots than a line has bytes.
+pub record IsRow (version : Version) (row : Row) : Type 0 where
+  pub place : IsPlace version (place_of row)
+  pub pairs : ArePairs row.state.pairs
+  pub flag : IsFlag row.state.flag
+  pub facts : AreFacts (length row.state.shape) row.facts
+  pub shape : IsShape row.state.shape
+  pub slots : length row.state.shape < 1048576
+  pub unset : row.state.mode ≡ Unset → row.state.shape ≡ []
+  pub potential : IsPotential (length row.state.shape) row.potential
+
+-- a row's slots, facts and terms are within their limits
+pub record IsShortRow (row : Row) : Type 0 where
+  pub shape : IsShortShape row.state.shape
+  pub facts : AreFewFacts row.facts
+  pub potential : IsShortPotential row.potential

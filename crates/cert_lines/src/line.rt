@@ -1,0 +1,31 @@
+// The lines of a certificate.
+
+use crate::proc::Proc;
+use crate::row::Row;
+use crate::split::Split;
+use crate::version::{BoardMap, Version};
+use abs_state::KeptCell;
+use address_map::Region;
+
+/// One line of a certificate's text, with what it says.
+#[derive(Drop)]
+pub enum Line {
+    /// The version of the text.
+    Header(Version),
+    /// The ROM's length in bytes.
+    Rom(u16),
+    /// The board's map, in version 2.
+    Board(BoardMap),
+    /// The region of the stack.
+    Stack(Region),
+    /// The most T-states that the NMI routine may take, or none without an NMI routine.
+    Budget(Option<u16>),
+    Proc(Proc),
+    Split(Split),
+    /// The address of a call whose return address the callee takes from the stack.
+    Inline(u16),
+    /// A cell of work RAM that keeps a range, in version 2.
+    Cell(KeptCell),
+    Row(Row),
+    End,
+}

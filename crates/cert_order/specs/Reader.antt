@@ -1,0 +1,161 @@
+-- How far the reading of a certificate has come, and which line may come next.
+use Rattle.std.specs.Prelude.{ℕ, ◌<◌, ◌≤◌, ◌≡◌, ◌≢◌, suc, List, [], ◌∷◌, ◌++◌, length, take, slice_get, Option, Some, None, IfSome, Result, Ok, Err}
+use Rattle.std.specs.List.{AllByRecursion}
+use Rattle.cert_lines.specs.Line.{IsLine, IsShortLine, fields_of, line_text}
+use Rattle.cert_lines.specs.Proc.{IsProc}
+use Rattle.cert_lines.specs.declared.line.Line.{Line}
+use Rattle.cert_lines.specs.declared.line.Line.TheVariants as lines
+use Rattle.cert_lines.specs.declared.row.Place.{Place}
+use Rattle.cert_lines.specs.declared.row.Row.{Row}
+use Rattle.texts.specs.Fields.{fields_in}
+use Rattle.cert_lines.specs.declared.proc.Proc.{Proc}
+use Rattle.cert_lines.specs.declared.proc.ProcKind.TheVariants.{Main, Nmi, Sub}
+use Rattle.cert_lines.specs.declared.version.BoardMap.TheVariants.{Galaxian}
+use Rattle.cert_lines.specs.declared.version.Version.TheVariants.{One, Two}
+use Rattle.cert_order.specs.Contents.{Contents, IsWithinLimits, SuitsVersion, AreSubs, AreInOrder, AreSplits, AreInlines, AreCells, AreRows, MayArm, place_number}
+use Rattle.cert_order.specs.Text.{IsReadable, head_lines, board_lines, list_lines, lines_of}
+use Rattle.cert_order.specs.declared.fault.CertFault.{CertFault}
+use Rattle.cert_order.specs.declared.fault.CertFault.TheVariants as faults
+use Rattle.cert_order.specs.declared.stage.Stage.{Stage}
+use Rattle.cert_order.specs.declared.stage.Stage.TheVariants as stages
+use Rattle.texts.specs.Numbers.{IsWord}
+
+-- which line comes next, and what was read; what was not read yet is as in a new reader
+pub record Progress : Type 0 where
+  pub stage : Stage
+  pub contents : Contents
+
+-- the stages in their order
+abbrev pub stage_rank : Stage → ℕ
+stage_rank stages.Header = 0
+stage_rank stages.Rom = 1
+stage_rank stages.Board = 2
+stage_rank stages.Stack = 3
+stage_rank stages.Budget = 4
+stage_rank stages.Procs = 5
+stage_rank stages.Splits = 6
+stage_rank stages.Inlines = 7
+stage_rank stages.Cells = 8
+stage_rank stages.Rows = 9
+stage_rank stages.Nothing = 10
+
+-- the lines that were read at a stage
+abbrev pub lines_before : Stage → Contents → List Line
+lines_before stages.Header c = []
+lines_before stages.Rom c = lines.Header c.version ∷ []
+lines_before stages.Board c = lines.Header c.version ∷ lines.Rom c.rom_len ∷ []
+lines_before stages.Stack c = lines.Header c.version ∷ lines.Rom c.rom_len ∷ board_lines c.version c.board
+lines_before stages.Budget c = lines.Header c.version ∷ lines.Rom c.rom_len ∷ (board_lines c.version c.board ++ lines.Stack c.region ∷ [])
+lines_before stages.Nothing c = lines_of c
+lines_before _ c = head_lines c ++ list_lines c
+
+abbrev pub lines_read : Progress → List Line
+lines_read p = lines_before p.stage p.contents
+
+-- the first procedures of a certificate with this budget, or all of them
+abbrev pub AreFirstProcs : Option ℕ → List Proc → Type 0
+AreFirstProcs budget [] = Unit {0}
+AreFirstProcs None (main ∷ subs) = (main.kind ≡ Main) × AreSubs subs
+AreFirstProcs (Some budget) (main ∷ []) = main.kind ≡ Main
+AreFirstProcs (Some budget) (main ∷ nmi ∷ subs) = (main.kind ≡ Main) × (nmi.kind ≡ Nmi) × AreSubs subs
+
+-- version 2 alone waits for the line of the board, and a list's stage begins behind its first line
+abbrev pub SuitsStage : Stage → Contents → Type 0
+SuitsStage stages.Board c = c.version ≡ Two
+SuitsStage stages.Splits c = 0 < length c.splits
+SuitsStage stages.Inlines c = 0 < length c.inlines
+SuitsStage stages.Cells c = 0 < length c.cells
+SuitsStage stages.Rows c = 0 < length c.rows
+SuitsStage _ c = Unit {0}
+
+-- what was read is in form: the board is as in a new reader before its line, the lists whose stage has not come are empty, and
+-- behind the procedures these are complete
+pub record IsProgress (p : Progress) : Type 0 where
+  pub version : SuitsVersion p.contents.version p.contents
+  pub stage : SuitsStage p.stage p.contents
+  pub rom_len : IsWord p.contents.rom_len
+  pub region : IsWord p.contents.region.low × IsWord p.contents.region.top
+  pub budget : IfSome p.contents.budget IsWord
+  pub procs : AllByRecursion IsProc p.contents.procs
+  pub first_procs : AreFirstProcs p.contents.budget p.contents.procs
+  pub splits : AreSplits (length p.contents.procs) p.contents.splits
+  pub inlines : AreInlines p.contents.inlines
+  pub cells : AreCells p.contents.board p.contents.cells
+  pub rows : AreRows p.contents.version (length p.contents.procs) (length p.contents.cells) p.contents.rows
+  pub limits : IsWithinLimits p.contents
+  pub no_board : stage_rank p.stage < 3 → p.contents.board ≡ Galaxian
+  pub no_procs : stage_rank p.stage < 5 → p.contents.procs ≡ []
+  pub no_splits : stage_rank p.stage < 6 → p.contents.splits ≡ []
+  pub no_inlines : stage_rank p.stage < 7 → p.contents.inlines ≡ []
+  pub no_cells : stage_rank p.stage < 8 → p.contents.cells ≡ []
+  pub no_rows : stage_rank p.stage < 9 → p.contents.rows ≡ []
+  pub all_procs : 5 < stage_rank p.stage → AreInOrder p.contents.budget p.contents.procs
+
+-- a list's line may stand up to its stage, once the procedures are complete
+pub record IsOpenTo (rank : ℕ) (p : Progress) : Type 0 where
+  pub from : 5 ≤ stage_rank p.stage
+  pub to : stage_rank p.stage ≤ rank
+  pub procs : AreInOrder p.contents.budget p.contents.procs
+
+-- this line, in form by itself, may come next
+abbrev pub MayFollow : Progress → Line → Type 0
+MayFollow p (lines.Header version) = p.stage ≡ stages.Header
+MayFollow p (lines.Rom len) = p.stage ≡ stages.Rom
+MayFollow p (lines.Board board) = p.stage ≡ stages.Board
+MayFollow p (lines.Stack region) = p.stage ≡ stages.Stack
+MayFollow p (lines.Budget budget) = p.stage ≡ stages.Budget
+MayFollow p (lines.Proc proc) = (p.stage ≡ stages.Procs) × AreFirstProcs p.contents.budget (p.contents.procs ++ proc ∷ [])
+MayFollow p (lines.Split split) = IsOpenTo 6 p × AreSplits (length p.contents.procs) (p.contents.splits ++ split ∷ [])
+MayFollow p (lines.Inline address) = IsOpenTo 7 p × AreInlines (p.contents.inlines ++ address ∷ [])
+MayFollow p (lines.Cell cell) = IsOpenTo 8 p × (p.contents.version ≡ Two) × AreCells p.contents.board (p.contents.cells ++ cell ∷ [])
+MayFollow p (lines.Row row) = IsOpenTo 9 p × AreRows p.contents.version (length p.contents.procs) (length p.contents.cells) (p.contents.rows ++ row ∷ [])
+MayFollow p lines.End = IsOpenTo 9 p
+
+-- the list that a line belongs to has room for one more
+abbrev pub HasRoom : Contents → Line → Type 0
+HasRoom c (lines.Proc proc) = length c.procs < 1024
+HasRoom c (lines.Split split) = length c.splits < 1024
+HasRoom c (lines.Inline address) = length c.inlines < 1024
+HasRoom c (lines.Cell cell) = length c.cells < 256
+HasRoom c (lines.Row row) = length c.rows < 65535
+HasRoom c _ = Unit {0}
+
+-- with this line no certificate goes on behind these lines
+abbrev pub NoneGoesOn : List Line → Line → Type 0
+NoneGoesOn before line = (c : Contents) → IsReadable c → take (suc (length before)) (lines_of c) ≢ before ++ line ∷ []
+
+-- one more line was read, or why it was not: it may not come next, or there is no room for it, or memory was refused
+abbrev pub TakesLine : {T : Type 0} → Progress → Line → Result T CertFault → Progress → Type 0
+TakesLine old line (Ok _) new = (lines_read new ≡ lines_read old ++ line ∷ []) × IsProgress new
+TakesLine old line (Err (faults.Line n)) new = (n ≡ suc (length (lines_read old))) × (IsLine old.contents.version line → MayFollow old line → ⊥)
+TakesLine old line (Err faults.Limit) new = IsLine old.contents.version line × MayFollow old line × ((IsShortLine line × HasRoom old.contents line) → ⊥)
+TakesLine old line (Err faults.NoMemory) new = IsLine old.contents.version line × MayFollow old line × IsShortLine line × HasRoom old.contents line
+
+-- a row at this place, in form by itself, may come next: of a procedure and with armed cells that there are, and not before the last row
+pub record MayStandAt (p : Progress) (place : Place) : Type 0 where
+  pub stage : IsOpenTo 9 p
+  pub proc : place.proc < length p.contents.procs
+  pub armed : MayArm (length p.contents.cells) place.mode place.armed
+  pub above : (i : ℕ) (row : Row) → slice_get p.contents.rows i ≡ Some row → place_number row.proc row.address ≤ place_number place.proc place.address
+
+-- the fault of a row whose slots, facts or terms are too many
+abbrev pub TellsCrowded : Progress → Place → CertFault → Type 0
+TellsCrowded p place (faults.Line n) = (n ≡ suc (length (lines_read p))) × (MayStandAt p place → ⊥)
+TellsCrowded p place faults.Limit = MayStandAt p place
+TellsCrowded p place faults.NoMemory = ⊥
+
+-- one more line was read from its text, or why it was not
+abbrev pub TakesText : {T : Type 0} → Progress → List ℕ → Result T CertFault → Progress → Type 0
+TakesText old text (Ok _) new = (line : Line) × IsLine old.contents.version line × (fields_in text ≡ fields_of old.contents.version line)
+    × (lines_read new ≡ lines_read old ++ line ∷ []) × IsProgress new
+TakesText old text (Err (faults.Line n)) new = (n ≡ suc (length (lines_read old)))
+    × ((line : Line) → IsLine old.contents.version line → fields_in text ≡ fields_of old.contents.version line → MayFollow old line → ⊥)
+TakesText old text (Err faults.Limit) new = (line : Line) × IsLine old.contents.version line × (fields_in text ≡ fields_of old.contents.version line)
+    × MayFollow old line × ((IsShortLine line × HasRoom old.contents line) → ⊥)
+TakesText old text (Err faults.NoMemory) new = (line : Line) × IsLine old.contents.version line × (fields_in text ≡ fields_of old.contents.version line)
+    × MayFollow old line × IsShortLine line × HasRoom old.contents line
+
+-- the certificate of the lines that were read, or lines of it are missing
+abbrev pub Ends : Progress → Result Contents CertFault → Type 0
+Ends p (Ok c) = (p.stage ≡ stages.Nothing) × (c ≡ p.contents)
+Ends p (Err fault) = (fault ≡ faults.Line (suc (length (lines_read p)))) × (p.stage ≢ stages.Nothing)
