@@ -15,8 +15,8 @@ pub use proc::{Proc, ProcKind};
 pub use reading::ReadLine;
 pub use row::{Place, Row, RowView};
 pub use spelling::{
-    board_line, budget_line, cell_line, end_line, header_line, inline_line, proc_line, rom_line, row_line, split_line,
-    stack_line,
+    board_line, budget_line, cell_line, end_line, header_line, inline_line, proc_line, rom_line,
+    row_line, split_line, stack_line,
 };
 pub use split::Split;
 pub use version::{BoardMap, Version};

@@ -137,7 +137,11 @@ fn header_fields(mut fields: Fields) -> Option<Version>
     ensures { Reads (λ v. version_digit v ∷ []) Always fields.entry result }
 {
     let version = version_field(fields.next()?)?;
-    if fields.is_empty() { Some(version) } else { None }
+    if fields.is_empty() {
+        Some(version)
+    } else {
+        None
+    }
 }
 
 /// `LEN`, behind `rom`.
@@ -226,7 +230,11 @@ fn inline_fields(mut fields: Fields) -> Option<u16>
     ensures { Reads (λ a. hex4 a ∷ []) IsWord fields.entry result }
 {
     let address = hex4_field(fields.next()?)?;
-    if fields.is_empty() { Some(address) } else { None }
+    if fields.is_empty() {
+        Some(address)
+    } else {
+        None
+    }
 }
 
 /// `ADDR LO HI`, behind `cell`.

@@ -8,7 +8,10 @@ use crate::row::{Place, Row};
 use crate::version::Version;
 use abs_state::{AbsState, FlagFact, Mode, Pairs};
 use loop_bounds::Linear;
-use row_fields::{Counted, Facts, ReadShape, facts_field, flag_fact_field, mode_field, pair_field, potential_field, shape_field};
+use row_fields::{
+    Counted, Facts, ReadShape, facts_field, flag_fact_field, mode_field, pair_field,
+    potential_field, shape_field,
+};
 use stack_shape::Shape;
 use texts::{Fields, decimal_field, hex4_field};
 
@@ -110,8 +113,9 @@ fn row_of(place: Place, pairs: Pairs, last: ReadLast) -> ReadRow
         potential,
         ..
     } = last;
-    let (Counted::Fits(shape), Counted::Fits(facts), Counted::Fits(potential)) = (shape, facts, potential)
-    else {
+    let (Counted::Fits(shape), Counted::Fits(facts), Counted::Fits(potential)) = (
+        shape, facts, potential,
+    ) else {
         return ReadRow::Crowded(place);
     };
     let Place {

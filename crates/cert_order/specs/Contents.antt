@@ -1,5 +1,5 @@
 -- What a certificate says, and when it is in form (docs/CERTIFICATE.md).
-use Rattle.std.specs.Prelude.{ℕ, ◌+◌, ◌*◌, ◌<◌, ◌≤◌, ◌≡◌, ◌⊎◌, List, [], ◌∷◌, map, length, Option, Some, None, IfSome}
+use Rattle.std.specs.Prelude.{ℕ, ◌+◌, ◌*◌, ◌<◌, ◌≤◌, ◌≡◌, List, [], ◌∷◌, map, length, Option, Some, None, IfSome}
 use Rattle.std.specs.List.{AllByRecursion}
 use Rattle.abs_state.specs.declared.cell.KeptCell.{KeptCell}
 use Rattle.abs_state.specs.declared.mode.Mode.{Mode}
@@ -13,7 +13,7 @@ use Rattle.cert_lines.specs.declared.proc.ProcKind.TheVariants.{Main, Nmi, Sub}
 use Rattle.cert_lines.specs.declared.row.Row.{Row}
 use Rattle.cert_lines.specs.declared.split.Split.{Split}
 use Rattle.cert_lines.specs.declared.version.BoardMap.{BoardMap}
-use Rattle.cert_lines.specs.declared.version.BoardMap.TheVariants.{Galaxian, Raised}
+use Rattle.cert_lines.specs.declared.version.BoardMap.TheVariants.{Galaxian}
 use Rattle.cert_lines.specs.declared.version.Version.{Version}
 use Rattle.cert_lines.specs.declared.version.Version.TheVariants.{One, Two}
 use Rattle.row_fields.specs.Pair.{IsRange}

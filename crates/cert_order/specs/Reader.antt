@@ -1,7 +1,7 @@
 -- How far the reading of a certificate has come, and which line may come next.
 use Rattle.std.specs.Prelude.{ℕ, ◌<◌, ◌≤◌, ◌≡◌, ◌≢◌, suc, List, [], ◌∷◌, ◌++◌, length, take, slice_get, Option, Some, None, IfSome, Result, Ok, Err}
 use Rattle.std.specs.List.{AllByRecursion}
-use Rattle.cert_lines.specs.Line.{IsLine, IsShortLine, fields_of, line_text}
+use Rattle.cert_lines.specs.Line.{IsLine, IsShortLine, fields_of}
 use Rattle.cert_lines.specs.Proc.{IsProc}
 use Rattle.cert_lines.specs.declared.line.Line.{Line}
 use Rattle.cert_lines.specs.declared.line.Line.TheVariants as lines
@@ -9,9 +9,9 @@ use Rattle.cert_lines.specs.declared.row.Place.{Place}
 use Rattle.cert_lines.specs.declared.row.Row.{Row}
 use Rattle.texts.specs.Fields.{fields_in}
 use Rattle.cert_lines.specs.declared.proc.Proc.{Proc}
-use Rattle.cert_lines.specs.declared.proc.ProcKind.TheVariants.{Main, Nmi, Sub}
+use Rattle.cert_lines.specs.declared.proc.ProcKind.TheVariants.{Main, Nmi}
 use Rattle.cert_lines.specs.declared.version.BoardMap.TheVariants.{Galaxian}
-use Rattle.cert_lines.specs.declared.version.Version.TheVariants.{One, Two}
+use Rattle.cert_lines.specs.declared.version.Version.TheVariants.{Two}
 use Rattle.cert_order.specs.Contents.{Contents, IsWithinLimits, SuitsVersion, AreSubs, AreInOrder, AreSplits, AreInlines, AreCells, AreRows, MayArm, place_number}
 use Rattle.cert_order.specs.Text.{IsReadable, head_lines, board_lines, list_lines, lines_of}
 use Rattle.cert_order.specs.declared.fault.CertFault.{CertFault}

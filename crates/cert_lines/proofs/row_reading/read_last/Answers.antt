@@ -11,24 +11,24 @@ use Rattle.cert_lines.proofs.row_reading.read_last.Goals.{then-not-is_empty-via-
 pub returns-in_err-facts : goal.returns-in_err-facts
 returns-in_err-facts c =
     rw c.from_residual-in_err-facts.ensures (λ last form same.
-        let seen = more _ _ _ _ _ c.in_ok-next.ensures refl (more _ _ _ _ _ c.in_ok-facts_text.ensures refl (more _ _ _ _ _ c.in_ok-next-2.ensures refl refl)) in
-        let same_text = sym seen ∙ same in
-        let count = count_is _ _ _ c.in_ok-count.ensures last.shape form.shape (shape_is _ _ _ _ last same_text) in
-        c.in_err-facts.ensures last.facts (subst (λ n. AreFacts n last.facts) (sym count) form.facts) (facts_is _ _ _ last same_text))
+    let seen = more _ _ _ _ _ c.in_ok-next.ensures refl (more _ _ _ _ _ c.in_ok-facts_text.ensures refl (more _ _ _ _ _ c.in_ok-next-2.ensures refl refl)) in
+    let same_text = sym seen ∙ same in
+    let count = count_is _ _ _ c.in_ok-count.ensures last.shape form.shape (shape_is _ _ _ _ last same_text) in
+    c.in_err-facts.ensures last.facts (subst (λ n. AreFacts n last.facts) (sym count) form.facts) (facts_is _ _ _ last same_text))
 
 pub returns-in_err-potential : goal.returns-in_err-potential
 returns-in_err-potential c =
     rw c.from_residual-in_err-potential.ensures (λ last form same.
-        let seen = more _ _ _ _ _ c.in_ok-next.ensures refl (more _ _ _ _ _ c.in_ok-facts_text.ensures refl (more _ _ _ _ _ c.in_ok-next-2.ensures refl
-            (more _ _ _ _ _ c.in_ok-next-3.ensures refl refl))) in
-        let same_text = sym seen ∙ same in
-        let count = count_is _ _ _ c.in_ok-count.ensures last.shape form.shape (shape_is _ _ _ _ last same_text) in
-        c.in_err-potential.ensures last.potential (subst (λ n. IsPotential n last.potential) (sym count) form.potential) (potential_is _ _ _ _ _ last same_text))
+    let seen = more _ _ _ _ _ c.in_ok-next.ensures refl (more _ _ _ _ _ c.in_ok-facts_text.ensures refl (more _ _ _ _ _ c.in_ok-next-2.ensures refl
+    (more _ _ _ _ _ c.in_ok-next-3.ensures refl refl))) in
+    let same_text = sym seen ∙ same in
+    let count = count_is _ _ _ c.in_ok-count.ensures last.shape form.shape (shape_is _ _ _ _ last same_text) in
+    c.in_err-potential.ensures last.potential (subst (λ n. IsPotential n last.potential) (sym count) form.potential) (potential_is _ _ _ _ _ last same_text))
 
 pub returns-then-not-is_empty : goal.returns-then-not-is_empty
 returns-then-not-is_empty c last form same =
     let seen = more _ _ _ _ _ c.in_ok-next.ensures refl (more _ _ _ _ _ c.in_ok-facts_text.ensures refl (more _ _ _ _ _ c.in_ok-next-2.ensures refl
-        (more _ _ _ _ _ c.in_ok-next-3.ensures refl refl))) in
+    (more _ _ _ _ _ c.in_ok-next-3.ensures refl refl))) in
     let same_text = sym seen ∙ same in
     elim c.then-not-is_empty.branch [
       | then-not-is_empty-via-then-not-is_empty w ↦
@@ -44,8 +44,7 @@ returns c =
     let (facts, facts_form, facts_told, facts_same) = counted_value facts_text (AreFacts c.in_ok-count.field-0.count) AreFewFacts c.in_ok-facts_text.facts_text.now c.in_ok-facts.facts c.in_ok-facts.ensures in
     let (potential, potential_form, potential_told, potential_same) =
     counted_value potential_text (IsPotential c.in_ok-count.field-0.count) IsShortPotential c.in_ok-next-3.field-0.now c.in_ok-potential.potential c.in_ok-potential.ensures in
-    let last : Last = record { flag = c.in_ok-flag.flag; facts = facts; shape = slots; potential = potential } in
-    (
+    let last : Last = record { flag = c.in_ok-flag.flag; facts = facts; shape = slots; potential = potential } in (
       last,
       record {
         flag = c.in_ok-flag.ensures.0;
