@@ -1,7 +1,7 @@
 -- The fields of a line tell what it says.
 use Rattle.std.proofs.Common.{◌≡◌, ◌==◌, ◌<◌, ◌≤◌, ◌^◌, ℕ, List, [], ◌∷◌, get_or, length, codes, Option, Some, None, IfSome, refl, sym, ap, subst, ◌∙◌, inl, arith}
 use Rattle.std.proofs.lemmas.Bool.{false≢true}
-use Rattle.std.proofs.Common.{Bool, true, false, if◌then◌else◌, leb, nat_le}
+use Rattle.std.proofs.Common.{Bool, true, false, if◌then◌else◌, nat_le}
 use Rattle.std.proofs.lemmas.Bool.{leb-false}
 use Rattle.intervals.specs.Range.{Interval, between}
 use Rattle.std.specs.Fmt.{decimal}

@@ -1,5 +1,5 @@
 -- A line's first field is its keyword.
-use Rattle.std.proofs.Common.{◌≡◌, ℕ, List, [], ◌∷◌, refl, ◌∙◌}
+use Rattle.std.proofs.Common.{◌≡◌, ℕ, List, ◌∷◌, refl, ◌∙◌}
 use Rattle.cert_lines.specs.Keyword.{keyword_text}
 use Rattle.cert_lines.specs.Line.{fields_of}
 use Rattle.cert_lines.specs.declared.line.Line.{Line}

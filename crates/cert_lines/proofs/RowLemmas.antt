@@ -1,8 +1,8 @@
 -- What was read of a row's last fields, and of its counts.
-use Rattle.std.proofs.Common.{◌≡◌, ◌<◌, ◌≤◌, ℕ, List, [], ◌∷◌, ◌++◌, drop, length, Option, Some, None, refl, sym, ap, subst, ◌∙◌, arith}
+use Rattle.std.proofs.Common.{◌≡◌, ◌<◌, ℕ, List, [], ◌∷◌, ◌++◌, drop, length, Some, refl, sym, ap, subst, ◌∙◌, arith}
 use Rattle.abs_state.specs.declared.mode.Mode.TheVariants.{Unset}
 use Rattle.abs_state.specs.declared.pairs.Pairs.{Pairs}
-use Rattle.cert_lines.specs.Read.{IsLast, MakesRowOf, ReadsRow, Tells, TellsLast, row_with}
+use Rattle.cert_lines.specs.Read.{IsLast, MakesRowOf, ReadsRow, Tells, row_with}
 use Rattle.cert_lines.specs.Row.{ArePairs, IsPlace, IsRow, IsShortRow, Last, fields_of_row, last_fields, last_of, last_texts, pair_fields, place_fields, place_of}
 use Rattle.cert_lines.specs.declared.row.Place.{Place}
 use Rattle.cert_lines.specs.declared.row.Row.{Row}

@@ -2,7 +2,7 @@
 use Rattle.std.specs.Prelude.{ℕ, ◌<◌, ◌≡◌, ◌≢◌, List, ◌++◌, length, Option, Some, None}
 use Rattle.abs_state.specs.declared.pairs.Pairs.{Pairs}
 use Rattle.cert_lines.specs.Line.{IsLine, IsShortLine, fields_of}
-use Rattle.cert_lines.specs.Row.{Last, last_of, last_texts, ArePairs, IsRow, IsShortRow, fields_of_row, pair_fields, place_fields, IsPlace, place_of}
+use Rattle.cert_lines.specs.Row.{Last, last_texts, IsRow, IsShortRow, fields_of_row, place_of}
 use Rattle.cert_lines.specs.declared.line.Line.{Line}
 use Rattle.cert_lines.specs.declared.line.Line.TheVariants as lines
 use Rattle.cert_lines.specs.declared.reading.ReadLine.{ReadLine}

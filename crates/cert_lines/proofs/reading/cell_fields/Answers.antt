@@ -1,4 +1,4 @@
-use Rattle.std.proofs.Common.{◌≡◌, sym, ◌∙◌, refl, arith}
+use Rattle.std.proofs.Common.{sym, ◌∙◌, refl}
 use Rattle.cert_lines.proofs.FieldLemmas.{cell_order, more, out_of_order}
 use Rattle.cert_lines.proofs.reading.cell_fields.Goals as goal
 

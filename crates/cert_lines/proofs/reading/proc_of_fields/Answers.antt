@@ -1,4 +1,4 @@
-use Rattle.std.proofs.Common.{◌≡◌, ℕ, List, ◌∷◌, refl, sym, ap, ◌∙◌}
+use Rattle.std.proofs.Common.{refl, sym, ◌∙◌}
 use Rattle.std.proofs.lemmas.Bool.{false≢true}
 use Rattle.cert_lines.proofs.FieldLemmas.{more, proc_ends, proc_of_kind}
 use Rattle.cert_lines.proofs.reading.proc_of_fields.Goals as goal

@@ -1,4 +1,4 @@
-use Rattle.std.proofs.Common.{◌≡◌, ◌<◌, ℕ, length, ap, refl, sym, subst, ◌∙◌, arith}
+use Rattle.std.proofs.Common.{refl, sym, subst, ◌∙◌, arith}
 use Rattle.std.proofs.lemmas.Bool.{false≢true}
 use Rattle.cert_lines.proofs.FieldLemmas.{more}
 use Rattle.cert_lines.proofs.RowLemmas.{count_is, counted_value, facts_is, none_left, potential_is, shape_is, slots_value}

@@ -1,4 +1,4 @@
-use Rattle.std.proofs.Common.{rules, ◌≡◌, ◌++◌, ap, refl, sym, subst, ◌∙◌, arith}
+use Rattle.std.proofs.Common.{rules, ◌≡◌, ◌++◌, ap, sym, ◌∙◌, arith}
 use Rattle.abs_state.specs.declared.mode.Mode.TheVariants.{Unset}
 use Rattle.cert_lines.proofs.RowLemmas.{behind_pairs, behind_place, last_form, made_form, made_reads, mode_told, parts_row, row_parts, same_shapes, unset_empty}
 use Rattle.cert_lines.specs.Read.{row_with}
