@@ -119,14 +119,14 @@ impl<'a> Ground<'a> {
     }
 
     /// Whether a write may enable the NMI: some address is the NMI enable, and some byte is odd.
-    pub(crate) fn may_enable(&self, write: &DataWrite) -> bool
+    pub fn may_enable(&self, write: &DataWrite) -> bool
         ensures { result ≡ may_enable self.now.map write.now }
     {
         some_enable(self.map, write.at) && some_odd(write.byte)
     }
 
     /// How many cells are armed after a write, where so many were before it.
-    pub(crate) fn armed_after(&self, write: &DataWrite, armed: u16) -> u16
+    pub fn armed_after(&self, write: &DataWrite, armed: u16) -> u16
         requires { length self.now.cells ≤ 256 }
         ensures { result ≡ armed_after self.now write.now armed }
     {
@@ -148,8 +148,8 @@ impl<'a> Ground<'a> {
         span(&bytes[..usize::from(at.high() - at.low()) + 1])
     }
 
-    /// The cells that are armed.
-    fn armed(&self, armed: u16) -> &[KeptCell]
+    /// The cells that are armed, where so many of the first are.
+    pub fn armed(&self, armed: u16) -> &[KeptCell]
         ensures { result.now ≡ take armed self.now.cells }
     {
         let count = self.cells.len().min(usize::from(armed));

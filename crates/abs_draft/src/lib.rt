@@ -12,4 +12,4 @@ mod testing;
 pub use data_write::DataWrite;
 pub use ground::Ground;
 pub use known::Known;
-pub use testing::Tested;
+pub use testing::{Tested, settled};

@@ -9,7 +9,7 @@ use crate::known::Known;
 use abs_state::AbsState;
 use arrayvec::ArrayVec;
 use intervals::{ByteRange, Pair, RegPair, WordRange};
-use loop_bounds::{Change, SlotChange, SlotNumber};
+use loop_bounds::{Change, Effect, SlotChange, SlotNumber};
 use stack_shape::Shape;
 use z80_decode::Register8;
 use z80_moves::{Move, Test};
@@ -102,24 +102,32 @@ impl Known {
     pub fn settle(&mut self)
         ensures { self.new ≡ record self.old { effect = settled self.old.state self.old.effect } }
     {
-        let pairs = &self.state.pairs;
-        let effect = &mut self.effect;
-        effect.a = byte_constant(pairs.af.high, effect.a);
-        effect.b = byte_constant(pairs.bc.high, effect.b);
-        effect.c = byte_constant(pairs.bc.low, effect.c);
-        effect.d = byte_constant(pairs.de.high, effect.d);
-        effect.e = byte_constant(pairs.de.low, effect.e);
-        effect.h = byte_constant(pairs.hl.high, effect.h);
-        effect.l = byte_constant(pairs.hl.low, effect.l);
-        effect.bc = word_constant(pairs.bc.word, effect.bc);
-        effect.de = word_constant(pairs.de.word, effect.de);
-        effect.hl = word_constant(pairs.hl.word, effect.hl);
-        effect.ix = word_constant(pairs.ix.word, effect.ix);
-        effect.iy = word_constant(pairs.iy.word, effect.iy);
-        effect.slot = match effect.slot {
-            Some(change) => Some(settled_slot(&self.state.shape, change)),
+        self.effect = settled(&self.effect, &self.state);
+    }
+}
+
+/// An effect with the constants first: a variable whose range in the state after is one value is that value.
+pub fn settled(effect: &Effect, state: &AbsState) -> Effect
+    ensures { result ≡ settled state.now effect.now }
+{
+    let pairs = &state.pairs;
+    Effect {
+        a: byte_constant(pairs.af.high, effect.a),
+        b: byte_constant(pairs.bc.high, effect.b),
+        c: byte_constant(pairs.bc.low, effect.c),
+        d: byte_constant(pairs.de.high, effect.d),
+        e: byte_constant(pairs.de.low, effect.e),
+        h: byte_constant(pairs.hl.high, effect.h),
+        l: byte_constant(pairs.hl.low, effect.l),
+        bc: word_constant(pairs.bc.word, effect.bc),
+        de: word_constant(pairs.de.word, effect.de),
+        hl: word_constant(pairs.hl.word, effect.hl),
+        ix: word_constant(pairs.ix.word, effect.ix),
+        iy: word_constant(pairs.iy.word, effect.iy),
+        slot: match effect.slot {
+            Some(change) => Some(settled_slot(&state.shape, change)),
             None => None,
-        };
+        },
     }
 }
 

@@ -10,7 +10,7 @@ use crate::reg_pair::RegPair;
 /// What is known of a pair of registers or of a word on the stack: the range of the word, those of its high and its
 /// low byte, and whether it is what some pair was when the activation was entered. A pair that a certificate gives
 /// needs no normal form: its ranges may contradict one another, and it then holds of no value.
-#[derive(Clone, Copy, PartialEq, Eq)]
+#[derive(Clone, Copy, PartialEq, Eq, Hash)]
 pub struct Pair {
     pub word: WordRange,
     pub high: ByteRange,

@@ -3,7 +3,7 @@
 use std::marker::Model;
 
 /// The bytes from one to another, both included, 0 to 255. The first is not above the second, so it holds a byte.
-#[derive(Clone, Copy, PartialEq, Eq)]
+#[derive(Clone, Copy, PartialEq, Eq, Hash)]
 pub struct ByteRange {
     pub(crate) low: u8,
     pub(crate) high: u8,
@@ -23,7 +23,7 @@ impl Model for ByteRange {
 }
 
 /// The words from one to another, both included, 0 to 65,535. The first is not above the second, so it holds a word.
-#[derive(Clone, Copy, PartialEq, Eq)]
+#[derive(Clone, Copy, PartialEq, Eq, Hash)]
 pub struct WordRange {
     pub(crate) low: u16,
     pub(crate) high: u16,

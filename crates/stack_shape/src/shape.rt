@@ -16,7 +16,7 @@ const _: () = prove!(SLOTS == 64);
 
 /// What is known of the words that one activation has on the stack: at most 64 slots, first pushed first
 /// (docs/SHAPES.md).
-#[derive(Drop, PartialEq, Eq)]
+#[derive(Drop, PartialEq, Eq, Hash)]
 pub struct Shape {
     slots: ArrayVec<Slot, SLOTS>,
 }

@@ -4,7 +4,7 @@ ghost use Rattle.std.specs.Prelude.{◌≡◌};
 use intervals::{Domain, Pair};
 
 /// What is known of a word on the stack: the same as of a pair of registers.
-#[derive(Clone, Copy, PartialEq, Eq)]
+#[derive(Clone, Copy, PartialEq, Eq, Hash)]
 pub struct Slot {
     pub pair: Pair,
 }
