@@ -7,4 +7,3 @@ pub mod RowFacts
 pub mod RowLemmas
 pub mod RowLists
 pub mod ShortLines
-pub mod SpellingLemmas

@@ -10,12 +10,9 @@ ghost use Rattle.cert_lines.specs.declared.line.Line.{Line};
 ghost use Rattle.row_fields.specs.Pair.{pair_text};
 ghost use Rattle.texts.specs.Made.{MADE_LEN};
 
-use crate::proc::{Proc, ProcKind};
-use crate::row::RowView;
-use crate::split::Split;
-use crate::version::{BoardMap, Version};
 use abs_state::{KeptCell, Pairs};
 use address_map::Region;
+use cert_lines::{BoardMap, Proc, ProcKind, RowView, Split, Version};
 use intervals::Pair;
 use row_fields::{
     add_facts, add_flag_fact, add_mode, add_pair, add_potential, add_register, add_shape,
@@ -34,7 +31,7 @@ fn line_of(bytes: &[u8]) -> MadeLine
 }
 
 /// `galcert V`.
-#[tactic(auto, unfolding(crate::specs::Line::fields_of))]
+#[tactic(auto, unfolding(cert_lines::specs::Line::fields_of))]
 pub fn header_line(version: Version) -> MadeLine
     ensures { result ≡ fed_line version (Line.Header version) }
 {
@@ -45,7 +42,7 @@ pub fn header_line(version: Version) -> MadeLine
 }
 
 /// `rom LEN`.
-#[tactic(auto, unfolding(crate::specs::Line::fields_of))]
+#[tactic(auto, unfolding(cert_lines::specs::Line::fields_of))]
 pub fn rom_line(len: u16) -> MadeLine
     ensures { result ≡ fed_line Version.One (Line.Rom len) }
 {
@@ -56,7 +53,7 @@ pub fn rom_line(len: u16) -> MadeLine
 }
 
 /// `map NAME`.
-#[tactic(auto, unfolding(crate::specs::Line::fields_of))]
+#[tactic(auto, unfolding(cert_lines::specs::Line::fields_of))]
 pub fn board_line(board: BoardMap) -> MadeLine
     ensures { result ≡ fed_line Version.Two (Line.Board board) }
 {
@@ -67,7 +64,7 @@ pub fn board_line(board: BoardMap) -> MadeLine
 }
 
 /// `stack LOW TOP`.
-#[tactic(auto, unfolding(crate::specs::Line::fields_of))]
+#[tactic(auto, unfolding(cert_lines::specs::Line::fields_of))]
 pub fn stack_line(region: Region) -> MadeLine
     ensures { result ≡ fed_line Version.One (Line.Stack region) }
 {
@@ -92,7 +89,7 @@ fn add_decimal_or_dash(line: &mut MadeLine, number: Option<u32>)
 }
 
 /// `budget N`, or `budget -`.
-#[tactic(auto, unfolding(crate::specs::Line::fields_of))]
+#[tactic(auto, unfolding(cert_lines::specs::Line::fields_of))]
 pub fn budget_line(budget: Option<u16>) -> MadeLine
     ensures { result ≡ fed_line Version.One (Line.Budget budget) }
 {
@@ -125,7 +122,7 @@ fn add_next_number(line: &mut MadeLine, number: u16)
 }
 
 /// `proc KIND ENTRY RANK DEPTH TIME`.
-#[tactic(auto, unfolding(crate::specs::Line::fields_of))]
+#[tactic(auto, unfolding(cert_lines::specs::Line::fields_of))]
 pub fn proc_line(proc: &Proc) -> MadeLine
     ensures { result ≡ fed_line Version.One (Line.Proc proc.now) }
 {
@@ -142,7 +139,7 @@ pub fn proc_line(proc: &Proc) -> MadeLine
 }
 
 /// `split PROC ADDR REG`.
-#[tactic(auto, unfolding(crate::specs::Line::fields_of))]
+#[tactic(auto, unfolding(cert_lines::specs::Line::fields_of))]
 pub fn split_line(split: &Split) -> MadeLine
     ensures { result ≡ fed_line Version.One (Line.Split split.now) }
 {
@@ -157,7 +154,7 @@ pub fn split_line(split: &Split) -> MadeLine
 }
 
 /// `inline ADDR`.
-#[tactic(auto, unfolding(crate::specs::Line::fields_of))]
+#[tactic(auto, unfolding(cert_lines::specs::Line::fields_of))]
 pub fn inline_line(address: u16) -> MadeLine
     ensures { result ≡ fed_line Version.One (Line.Inline address) }
 {
@@ -168,7 +165,7 @@ pub fn inline_line(address: u16) -> MadeLine
 }
 
 /// `cell ADDR LO HI`.
-#[tactic(auto, unfolding(crate::specs::Line::fields_of))]
+#[tactic(auto, unfolding(cert_lines::specs::Line::fields_of))]
 pub fn cell_line(cell: &KeptCell) -> MadeLine
     ensures { result ≡ fed_line Version.Two (Line.Cell cell.now) }
 {
@@ -256,7 +253,7 @@ fn add_last(line: &mut MadeLine, row: &RowView)
 }
 
 /// A row's line in a version.
-#[tactic(auto, unfolding(crate::specs::Line::fields_of, crate::specs::Row::fields_of_row))]
+#[tactic(auto, unfolding(cert_lines::specs::Line::fields_of, cert_lines::specs::Row::fields_of_row))]
 pub fn row_line(version: Version, row: &RowView) -> MadeLine
     ensures { result ≡ fed_line version (Line.Row row.now) }
 {
@@ -271,7 +268,7 @@ pub fn row_line(version: Version, row: &RowView) -> MadeLine
 }
 
 /// `end`.
-#[tactic(auto, unfolding(crate::specs::Line::fields_of))]
+#[tactic(auto, unfolding(cert_lines::specs::Line::fields_of))]
 pub fn end_line() -> MadeLine
     ensures { result ≡ fed_line Version.One Line.End }
 {

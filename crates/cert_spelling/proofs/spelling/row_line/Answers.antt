@@ -3,8 +3,8 @@ use Rattle.std.specs.List.{join_with_byte}
 use Rattle.cert_lines.specs.Line.{fields_of}
 use Rattle.cert_lines.specs.Row.{last_fields, pair_fields, place_fields, place_of}
 use Rattle.cert_lines.specs.declared.row.Row.{Row}
-use Rattle.cert_lines.proofs.SpellingLemmas.{row_text, texts_made}
-use Rattle.cert_lines.proofs.spelling.row_line.Goals as goal
+use Rattle.cert_spelling.proofs.SpellingLemmas.{row_text, texts_made}
+use Rattle.cert_spelling.proofs.spelling.row_line.Goals as goal
 
 pub returns : goal.returns
 unfolding fields_of

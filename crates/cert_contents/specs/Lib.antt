@@ -1,0 +1,2 @@
+-- The definition of a certificate's parts.
+pub mod Parts

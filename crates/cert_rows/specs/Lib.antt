@@ -1,0 +1,2 @@
+-- The definitions of rows whose shapes are kept by number.
+pub mod Rows
