@@ -1,80 +1,86 @@
-use Rattle.std.proofs.Common.{◌≡◌, ◌≢◌, ◌<◌, ◌≤◌, ◌+◌, ◌-◌, ◌&&◌, inl, inr, ℕ, Bool, true, false, List, drop, take, get_or, length, ap, subst, ◌∙◌, arith, nat_eq}
-use Rattle.std.specs.List.{slice_index_or}
+-- Which rows cover a state, by the numbers of those at its address.
+use Rattle.std.proofs.Common.{◌≡◌, ◌<◌, ◌≤◌, ◌+◌, ◌&&◌, ◌↔◌, inl, inr, ℕ, Bool, true, false, List, Option, Some, None, get_or, option_map, slice_get, refl, sym, ap, subst, ◌∙◌, arith, nat_eq}
+use Rattle.std.proofs.lemmas.Bool.{and_parts, cases_lt}
 use Rattle.std.proofs.lemmas.List.Folds.{list_any_none, list_any_at}
-use Rattle.std.proofs.lemmas.Bool.{cases_lt}
-use Rattle.std.proofs.lemmas.List.{get_or_default, get_or-drop, take_all, length-drop}
+use Rattle.std.proofs.lemmas.Option.{get_or_from_slice_get, slice_get-get_or, slice_get_within}
 use Rattle.std.proofs.lemmas.Grind.{common_steps}
-use Rattle.certificate.specs.Contents.{RowsRise}
-use Rattle.certificate.specs.declared.contents.Row.{Row}
+use Rattle.cert_lines.specs.declared.row.Row.{Row}
 use Rattle.abs_state.specs.Mode.{covers_mode}
 use Rattle.abs_state.specs.declared.mode.Mode.{Mode}
 use Rattle.cert_checker.specs.Covers.{row_covers, is_covered}
 
--- a row at another address covers nothing here
-pub elsewhere : (address : ℕ) (mode : Mode) (row : Row) → row.address ≢ address → row_covers address mode row ≡ false
-elsewhere address mode row ne =
-    let h : nat_eq row.address address ≡ false = grind (arith, common_steps) in
-    ap (λ (b : Bool). b && covers_mode row.mode mode) h
+-- the rows of main at an address are those with these numbers
+abbrev pub AreAt : List Row → ℕ → ℕ → ℕ → Type 0
+AreAt rows address from behind = (k : ℕ) (row : Row) → slice_get rows k ≡ Some row → ((from ≤ k) × (k < behind)) ↔ ((row.proc ≡ 0) × (row.address ≡ address))
 
--- no row of these covers
+-- no row with one of these numbers covers
 abbrev pub NoneCover : List Row → ℕ → Mode → ℕ → ℕ → Type 0
-NoneCover rows address mode from to = (k : ℕ) (row : Row) → from ≤ k → k < to → row_covers address mode (slice_index_or rows k row) ≡ false
+NoneCover rows address mode from behind = (k : ℕ) (row : Row) → slice_get rows k ≡ Some row → from ≤ k → k < behind → row_covers address mode row ≡ false
 
--- no row covers if none does from the first place on that may hold the address
-pub none_at_all : (rows : List Row) (address : ℕ) (mode : Mode) (first : ℕ) → ((k : ℕ) (row : Row) → k < first → (slice_index_or rows k row).address < address) →
-    NoneCover rows address mode first (length rows) → is_covered rows address mode ≡ false
+equal : (a b : ℕ) → nat_eq a b ≡ true → a ≡ b
+equal a b e = grind (arith, common_steps)
+
+equals : (a b : ℕ) → a ≡ b → nat_eq a b ≡ true
+equals a b e = grind (arith, common_steps)
+
+-- a row that covers is one of main at the address
+stands_here : (address : ℕ) (mode : Mode) (row : Row) → row_covers address mode row ≡ true → (row.proc ≡ 0) × (row.address ≡ address)
+stands_here address mode row e =
+    let main = and_parts (nat_eq row.proc 0) (nat_eq row.address address && covers_mode row.state.mode mode) e in
+    let at = and_parts (nat_eq row.address address) (covers_mode row.state.mode mode) main.1 in
+    (equal row.proc 0 main.0, equal row.address address at.0)
+
+-- a row of main at the address covers as its mode does
+covers_here : (address : ℕ) (mode : Mode) (row : Row) → row.proc ≡ 0 → row.address ≡ address → row_covers address mode row ≡ covers_mode row.state.mode mode
+covers_here address mode row main at =
+    ap (λ (b : Bool). b && (nat_eq row.address address && covers_mode row.state.mode mode)) (equals row.proc 0 main) ∙
+    ap (λ (b : Bool). b && covers_mode row.state.mode mode) (equals row.address address at)
+
+false_unless : (b : Bool) → (b ≡ true → b ≡ false) → b ≡ false
+false_unless true h = h refl
+false_unless false h = refl
+
+-- no row covers if none of main at the address does
+pub none_at_all : (rows : List Row) (address : ℕ) (mode : Mode) (from behind : ℕ) → AreAt rows address from behind → NoneCover rows address mode from behind → is_covered rows address mode ≡ false
 unfolding is_covered
-none_at_all rows address mode first below none =
-    list_any_none (row_covers address mode) rows (λ k row h.
-    elim (cases_lt k first) [
-      | inl low ↦ let lt : (slice_index_or rows k row).address < address = below k row low in elsewhere address mode (slice_index_or rows k row) (omega arith)
-      | inr high ↦ none k row high h
-    ])
-
--- no row covers if none does before a row of a higher address
-pub none_before : (rows : List Row) (address : ℕ) (mode : Mode) (first i : ℕ) (here : Row) → RowsRise rows →
-    ((k : ℕ) (row : Row) → k < first → (slice_index_or rows k row).address < address) →
-    ((k : ℕ) (row : Row) → first ≤ k → k < length rows → address ≤ (slice_index_or rows k row).address) →
-    NoneCover rows address mode first (first + i) → first + i < length rows → (slice_index_or rows (first + i) here).address ≢ address → is_covered rows address mode ≡ false
-none_before rows address mode first i here rise below from none within other =
-    none_at_all rows address mode first below (λ k row low h.
-    elim (cases_lt k (first + i)) [
-      | inl before ↦ none k row low before
-      | inr after ↦
-          let least : address ≤ (slice_index_or rows (first + i) here).address = from (first + i) here (omega arith) within in
-          let more : (slice_index_or rows (first + i) here).address ≤ (slice_index_or rows k here).address = rise (first + i) k here after h in
-          let same : slice_index_or rows k here ≡ slice_index_or rows k row = get_or_default rows k here row h in
-          let high : (slice_index_or rows k here).address ≢ address = omega arith in
-          elsewhere address mode (slice_index_or rows k row) (subst (λ (r : Row). r.address ≢ address) same high)
-    ])
+none_at_all rows address mode from behind at none =
+    list_any_none (row_covers address mode) rows (λ k default within.
+    let row : Row = get_or rows k default in
+    let is : slice_get rows k ≡ Some row = slice_get-get_or rows k default within in
+    false_unless (row_covers address mode row) (λ covers.
+    let inside = (at k row is).1 (stands_here address mode row covers) in
+    none k row is inside.0 inside.1))
 
 -- one more row that does not cover
-pub none_more : (rows : List Row) (address : ℕ) (mode : Mode) (first i : ℕ) (here : Row) → NoneCover rows address mode first (first + i) → first + i < length rows →
-    row_covers address mode (slice_index_or rows (first + i) here) ≡ false → NoneCover rows address mode first (first + (i + 1))
-none_more rows address mode first i here none within not k row low h =
-    elim (cases_lt k (first + i)) [
-      | inl before ↦ none k row low before
+pub none_more : (rows : List Row) (address : ℕ) (mode : Mode) (from behind id : ℕ) → AreAt rows address from behind → from ≤ id → id < behind → NoneCover rows address mode from id →
+    ((row : Row) → slice_get rows id ≡ Some row → covers_mode row.state.mode mode ≡ false) → NoneCover rows address mode from (id + 1)
+none_more rows address mode from behind id at low high none next k row is from_low to_high =
+    elim (cases_lt k id) [
+      | inl before ↦ none k row is from_low before
       | inr after ↦
-          let at : first + i ≡ k = omega arith in
-          let known : row_covers address mode (slice_index_or rows k here) ≡ false = subst (λ (n : ℕ). row_covers address mode (slice_index_or rows n here) ≡ false) at not in
-          let inside : k < length rows = omega arith in
-          let same : slice_index_or rows k here ≡ slice_index_or rows k row = get_or_default rows k here row inside in
-          subst (λ (r : Row). row_covers address mode r ≡ false) same known
+          let same : k ≡ id = omega (arith, after, to_high) in
+          let here : slice_get rows id ≡ Some row = subst (λ (n : ℕ). slice_get rows n ≡ Some row) same is in
+          let place = (at id row here).0 (low, high) in
+          covers_here address mode row place.0 place.1 ∙ next row here
     ]
 
--- a row at the address whose mode covers settles it
-pub found_at : (rows : List Row) (address : ℕ) (mode : Mode) (n : ℕ) (here : Row) → n < length rows → row_covers address mode (slice_index_or rows n here) ≡ true → is_covered rows address mode ≡ true
+-- the mode of a row that is there
+pub row_of_mode : (rows : List Row) (id : ℕ) (mode : Mode) → option_map (λ (row : Row). row.state.mode) (slice_get rows id) ≡ Some mode →
+    (row : Row) × (slice_get rows id ≡ Some row) × (row.state.mode ≡ mode)
+row_of_mode rows id mode e = by_option (slice_get rows id) refl e
+  where
+    by_option : (found : Option Row) → slice_get rows id ≡ found → option_map (λ (row : Row). row.state.mode) found ≡ Some mode → (row : Row) × (slice_get rows id ≡ Some row) × (row.state.mode ≡ mode)
+    by_option (Some row) is e = (row, is, cc)
+    by_option None is e = cc
+
+-- a row of main at the address whose mode covers settles it
+pub found_at : (rows : List Row) (address : ℕ) (mode by : Mode) (from behind id : ℕ) → AreAt rows address from behind → from ≤ id → id < behind →
+    option_map (λ (row : Row). row.state.mode) (slice_get rows id) ≡ Some by → covers_mode by mode ≡ true → is_covered rows address mode ≡ true
 unfolding is_covered
-found_at rows address mode n here within covers = list_any_at (row_covers address mode) rows n here within covers
-
--- the rows from a place on, as a slice of them is written
-pub tail_is : (rows : List Row) (first : ℕ) → take (length rows - first) (drop first rows) ≡ drop first rows
-tail_is rows first = take_all (length rows - first) (drop first rows) (omega (arith, length-drop first rows))
-
--- a row of the tail
-pub tail_at : (rows : List Row) (first i : ℕ) (here : Row) → get_or (take (length rows - first) (drop first rows)) i here ≡ get_or rows (first + i) here
-tail_at rows first i here = ap (λ (xs : List Row). get_or xs i here) (tail_is rows first) ∙ get_or-drop first rows i here
-
--- where a row of the tail stands
-pub tail_within : (rows : List Row) (first i : ℕ) → i < length (take (length rows - first) (drop first rows)) → first + i < length rows
-tail_within rows first i h = let e : length (take (length rows - first) (drop first rows)) ≡ length rows - first = ap length (tail_is rows first) ∙ length-drop first rows in omega arith
+found_at rows address mode by from behind id at low high e covers =
+    let (row, is, same) = row_of_mode rows id by e in
+    let place = (at id row is).0 (low, high) in
+    let here : get_or rows id row ≡ row = get_or_from_slice_get rows id row row is in
+    let by_row : covers_mode row.state.mode mode ≡ true = subst (λ (m : Mode). covers_mode m mode ≡ true) (sym same) covers in
+    list_any_at (row_covers address mode) rows id row (slice_get_within rows id row is)
+    (subst (λ (r : Row). row_covers address mode r ≡ true) (sym here) (covers_here address mode row place.0 place.1 ∙ by_row))

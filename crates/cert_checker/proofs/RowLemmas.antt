@@ -4,8 +4,8 @@ use Rattle.std.proofs.Math.Bool.{cond}
 use Rattle.std.proofs.lemmas.List.Folds.{Any-from_list_any}
 use Rattle.board_step.specs.Decoded.{StandsAt}
 use Rattle.board_step.specs.Trap.{is_rom, is_unmapped}
-use Rattle.certificate.specs.Contents.{Contents}
-use Rattle.certificate.specs.declared.contents.Row.{Row}
+use Rattle.cert_order.specs.Contents.{Contents}
+use Rattle.cert_lines.specs.declared.row.Row.{Row}
 use Rattle.abs_state.specs.Mode.{is_unset}
 use Rattle.abs_state.specs.declared.mode.Mode.{Mode}
 use Rattle.abs_state.specs.declared.mode.Mode.TheVariants.{Unset, Set, Nmi}
@@ -18,6 +18,7 @@ use Rattle.z80_decode.specs.declared.operands.Place.TheVariants.{Register}
 use Rattle.z80_decode.specs.declared.operands.Register8.TheVariants.{A}
 use Rattle.z80_decode.specs.declared.operands.Register16.TheVariants.{Sp}
 use Rattle.cert_checker.specs.Covers.{is_covered, row_covers, stands_at}
+use Rattle.cert_checker.specs.Known.{is_known}
 use Rattle.address_map.specs.AddressMap.{AddressMap}
 use Rattle.cert_checker.specs.Profile.{map_named}
 use Rattle.cert_checker.specs.Row.{IsConsistent, written_by, has_class, may_enable, target_of, mode_after, is_covered_after, is_supported, leads_on, reason_of, reason_given}
@@ -28,9 +29,10 @@ pub record Stands (rom : List ℕ) (cert : Contents) (row : Row) : Type 0 where
   pub stands : StandsAt rom row.address (Ok instr)
   pub writes_no_rom : has_class (map_named cert) is_rom (written_by instr) ≡ false
   pub writes_no_gap : has_class (map_named cert) is_unmapped (written_by instr) ≡ false
+  pub said : is_known cert row ≡ true
   pub known : is_supported instr ≡ true
-  pub leads : is_covered_after cert.rows (target_of instr ((row.address + length (spelling instr)) % 65536)) (mode_after (map_named cert) instr row.mode) ≡ true
-  pub waits : (may_enable (map_named cert) instr && is_unset row.mode) ≡ false
+  pub leads : is_covered_after cert.rows (target_of instr ((row.address + length (spelling instr)) % 65536)) (mode_after (map_named cert) instr row.state.mode) ≡ true
+  pub waits : (may_enable (map_named cert) instr && is_unset row.state.mode) ≡ false
 
 -- a choice that gives none
 no_first : {A : Type 0} (b : Bool) (x : A) (rest : Option A) → None ≡ cond b (Some x) rest → (b ≡ false) × (None ≡ rest)
@@ -51,13 +53,15 @@ stands_by rom cert row instr stands e =
     let rom_free = no_first (has_class (map_named cert) is_rom (written_by instr)) _ _ e in
     let mapped = no_first (has_class (map_named cert) is_unmapped (written_by instr)) _ _ rom_free.1 in
     let led = no_first (not (leads_on (map_named cert) cert row instr)) _ _ mapped.1 in
-    let both = and_true (is_supported instr) _ (not_false _ led.0) in
-    let waits = no_first (may_enable (map_named cert) instr && is_unset row.mode) _ _ led.1 in
+    let on = and_true (is_known cert row) _ (not_false _ led.0) in
+    let both = and_true (is_supported instr) _ on.1 in
+    let waits = no_first (may_enable (map_named cert) instr && is_unset row.state.mode) _ _ led.1 in
     record {
       instr = instr;
       stands = stands;
       writes_no_rom = rom_free.0;
       writes_no_gap = mapped.0;
+      said = on.0;
       known = both.0;
       leads = both.1;
       waits = waits.0;
@@ -92,13 +96,9 @@ store_in map rows nn at Set true e leads waits =
 
 pub never_enables : (rom : List ℕ) (cert : Contents) (row : Row) (s : Stands rom cert row) → may_enable (map_named cert) s.instr ≡ false
 never_enables rom cert row s =
-    by_known (λ instr. (at : ℕ) → is_covered_after cert.rows at (mode_after (map_named cert) instr row.mode) ≡ true → (may_enable (map_named cert) instr && is_unset row.mode) ≡ false → may_enable (map_named cert) instr ≡ false)
-    (λ at p q. refl) (λ n at p q. refl) (λ nn at p q. store_in (map_named cert) cert.rows nn at row.mode (may_enable (map_named cert) (StoreA (Direct nn))) refl p q) (λ nn at p q. refl) (λ nn at p q. refl) (λ d at p q. refl)
+    by_known (λ instr. (at : ℕ) → is_covered_after cert.rows at (mode_after (map_named cert) instr row.state.mode) ≡ true → (may_enable (map_named cert) instr && is_unset row.state.mode) ≡ false → may_enable (map_named cert) instr ≡ false)
+    (λ at p q. refl) (λ n at p q. refl) (λ nn at p q. store_in (map_named cert) cert.rows nn at row.state.mode (may_enable (map_named cert) (StoreA (Direct nn))) refl p q) (λ nn at p q. refl) (λ nn at p q. refl) (λ d at p q. refl)
     s.instr s.known _ s.leads s.waits
-
-both_first : (a b : Bool) → (a && b) ≡ true → a ≡ true
-both_first true b e = refl
-both_first false b e = cc
 
 -- a row at an address
 pub record RowAt (rows : List Row) (address : ℕ) : Type 0 where
@@ -110,7 +110,7 @@ pub row_at : (rows : List Row) (address : ℕ) (mode : Mode) → is_covered rows
 unfolding is_covered
 row_at rows address mode e =
     let (k, row, within, is, covers) = Any-from_list_any (row_covers address mode) rows e in
-    record { row = row; listed = (k, within, is); at = both_first _ _ covers }
+    record { row = row; listed = (k, within, is); at = (and_true _ _ (and_true _ _ covers).1).0 }
 
 pub row_after : (rows : List Row) (address : ℕ) (mode : Option Mode) → is_covered_after rows address mode ≡ true → RowAt rows address
 row_after rows address (Some mode) e = row_at rows address mode e

@@ -19,8 +19,8 @@ use Rattle.board_step.specs.declared.event.Kind.{Kind}
 use Rattle.board_step.specs.declared.event.Kind.TheVariants as kinds
 use Rattle.board_step.proofs.DecodedLemmas.{decoded_once}
 use Rattle.board_step.proofs.StepLemmas.{traps_executing}
-use Rattle.certificate.specs.Contents.{Contents}
-use Rattle.certificate.specs.declared.contents.Row.{Row}
+use Rattle.cert_order.specs.Contents.{Contents}
+use Rattle.cert_lines.specs.declared.row.Row.{Row}
 use Rattle.abs_state.specs.declared.mode.Mode.TheVariants.{Unset}
 use Rattle.z80_decode.specs.Spelling.{spelling}
 use Rattle.z80_decode.specs.declared.instr.Instr.{Instr}

@@ -1,11 +1,12 @@
 -- When a certificate is accepted for a ROM, and what is told where it is not (docs/CHECKER.md).
-use Rattle.std.specs.Prelude.{ℕ, ◌<◌, ◌≤◌, ◌+◌, ◌-◌, ◌≡◌, true, false, List, Option, Some, None, All, length, slice_get, take}
+use Rattle.std.specs.Prelude.{ℕ, ◌<◌, ◌≤◌, ◌+◌, ◌-◌, ◌≡◌, true, false, List, [], ◌∷◌, Option, Some, None, All, length, slice_get, take}
 use Rattle.address_map.specs.AddressMap.{AddressMap}
 use Rattle.address_map.specs.WorkRam.{work_start}
 use Rattle.address_map.specs.declared.region.Region.{Region}
-use Rattle.certificate.specs.Contents.{Contents}
+use Rattle.cert_order.specs.Contents.{Contents}
 use Rattle.abs_state.specs.declared.mode.Mode.TheVariants.{Unset}
-use Rattle.certificate.specs.declared.contents.Row.{Row}
+use Rattle.cert_lines.specs.declared.proc.Proc.{Proc}
+use Rattle.cert_lines.specs.declared.row.Row.{Row}
 use Rattle.cert_checker.specs.Covers.{is_covered}
 use Rattle.cert_checker.specs.Profile.{map_named}
 use Rattle.cert_checker.specs.Row.{RowReason, IsConsistent}
@@ -24,13 +25,18 @@ pub record FitsWorkRam (map : AddressMap) (region : Region) : Type 0 where
   pub some : region.low < region.top
   pub top : region.top ≤ work_start map + 0x400
 
+-- the stack bytes of main, the first procedure
+abbrev pub first_depth : List Proc → ℕ
+first_depth [] = 0
+first_depth (main ∷ others) = main.depth
+
 -- A certificate is accepted for a ROM: nothing of the table of reasons applies.
 pub record Accepts (rom : List ℕ) (cert : Contents) : Type 0 where
   pub fits_rom : FitsRom rom cert
   pub fits_work_ram : FitsWorkRam (map_named cert) cert.region
   pub entry : is_covered cert.rows 0 Unset ≡ true
   pub rows : All (IsConsistent rom cert) cert.rows
-  pub depth : cert.main.depth ≤ cert.region.top - cert.region.low
+  pub depth : first_depth cert.procs ≤ cert.region.top - cert.region.low
 
 -- reasons 1, 2 and 3 don't apply
 pub record WholeFits (rom : List ℕ) (cert : Contents) : Type 0 where
@@ -43,7 +49,7 @@ abbrev pub WholeApplies : List ℕ → Contents → Reason → Type 0
 WholeApplies rom cert reasons.Rom = FitsRom rom cert → ⊥
 WholeApplies rom cert reasons.Region = FitsWorkRam (map_named cert) cert.region → ⊥
 WholeApplies rom cert reasons.Entry = is_covered cert.rows 0 Unset ≡ false
-WholeApplies rom cert reasons.StackDepth = cert.region.top - cert.region.low < cert.main.depth
+WholeApplies rom cert reasons.StackDepth = cert.region.top - cert.region.low < first_depth cert.procs
 WholeApplies rom cert _ = ⊥
 
 -- the reason applies to the whole, told at address 0000, or to a row, told at its address

@@ -2,7 +2,7 @@
 use Rattle.std.specs.Prelude.{ℕ, List}
 use Rattle.board_step.specs.Hardware.{Hardware}
 use Rattle.board_step.specs.Profile.{Profile}
-use Rattle.certificate.specs.Contents.{Contents}
+use Rattle.cert_order.specs.Contents.{Contents}
 use Rattle.cert_checker.specs.Profile.{certified_profile, hardware_for}
 
 -- a ROM and the certificate that was accepted for it

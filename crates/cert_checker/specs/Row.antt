@@ -7,11 +7,11 @@ use Rattle.address_map.specs.declared.map.WriteClass.TheVariants as classes
 use Rattle.board_step.specs.Decoded.{StandsAt}
 use Rattle.z80_draft.specs.Draft.{displaced}
 use Rattle.board_step.specs.Trap.{is_rom, is_unmapped}
-use Rattle.certificate.specs.Contents.{Contents}
+use Rattle.cert_order.specs.Contents.{Contents}
 use Rattle.abs_state.specs.Mode.{is_unset}
 use Rattle.abs_state.specs.declared.mode.Mode.{Mode}
 use Rattle.abs_state.specs.declared.mode.Mode.TheVariants.{Unset, Set, Nmi}
-use Rattle.certificate.specs.declared.contents.Row.{Row}
+use Rattle.cert_lines.specs.declared.row.Row.{Row}
 use Rattle.z80_decode.specs.Spelling.{spelling}
 use Rattle.z80_decode.specs.declared.fault.DecodeFault.{DecodeFault}
 use Rattle.z80_decode.specs.declared.instr.Instr.{Instr}
@@ -21,6 +21,7 @@ use Rattle.z80_decode.specs.declared.operands.Place.TheVariants.{Register}
 use Rattle.z80_decode.specs.declared.operands.Register8.TheVariants.{A}
 use Rattle.z80_decode.specs.declared.operands.Register16.TheVariants.{Sp}
 use Rattle.cert_checker.specs.Covers.{is_covered}
+use Rattle.cert_checker.specs.Known.{is_known}
 use Rattle.cert_checker.specs.Profile.{map_named}
 use Rattle.abs_step.specs.declared.reason.Reason.{Reason}
 use Rattle.abs_step.specs.declared.reason.Reason.TheVariants as reasons
@@ -76,10 +77,10 @@ abbrev pub is_covered_after : List Row → ℕ → Option Mode → Bool
 is_covered_after rows address (Some mode) = is_covered rows address mode
 is_covered_after rows address None = false
 
--- whether the state that a known instruction leads to is covered
+-- whether all that the row says is known, and the state that a known instruction leads to is covered
 abbrev pub leads_on : AddressMap → Contents → Row → Instr → Bool
 leads_on map cert row instr =
-    is_supported instr && is_covered_after cert.rows (target_of instr ((row.address + length (spelling instr)) % 65536)) (mode_after map instr row.mode)
+    is_known cert row && (is_supported instr && is_covered_after cert.rows (target_of instr ((row.address + length (spelling instr)) % 65536)) (mode_after map instr row.state.mode))
 
 -- whether an instruction sets SP to a word other than the region's top
 abbrev pub sets_sp_wrongly : Contents → Instr → Bool
@@ -92,7 +93,7 @@ reason_of map cert row instr =
     if has_class map is_rom (written_by instr) then Some reasons.WriteRom
     else if has_class map is_unmapped (written_by instr) then Some reasons.WriteUnmapped
     else if not (leads_on map cert row instr) then Some reasons.NotCovered
-    else if may_enable map instr && is_unset row.mode then Some reasons.NmiBeforeStack
+    else if may_enable map instr && is_unset row.state.mode then Some reasons.NmiBeforeStack
     else if sets_sp_wrongly cert instr then Some reasons.SpWrite
     else None
 

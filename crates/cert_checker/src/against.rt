@@ -8,18 +8,19 @@ ghost use Rattle.cert_checker.specs.Profile.{map_named};
 ghost use Rattle.cert_checker.specs.Row.{RowReason, is_supported, written_by, has_class, passes, may_enable, target_of, mode_after, is_covered_after, sets_sp_wrongly, reason_of};
 
 use crate::covering::covers;
+use crate::knowing::is_known;
 use abs_step::Reason;
 use address_map::{Map, Rom, WriteClass};
 use board_step::{displace, fetch};
-use certificate::{Certificate, Mode, Row};
+use certificate::{Certificate, Mode, RowView};
 use z80_decode::{Address, Instr, Place, Register8, Register16};
 
 /// The lowest reason of the table of reasons against a row of the certificate, or None.
-pub fn reason_against(rom: &Rom, map: &Map, cert: &Certificate, row: Row) -> Option<Reason>
+pub fn reason_against(rom: &Rom, map: &Map, cert: &Certificate, row: &RowView) -> Option<Reason>
     requires map { map.now ≡ map_named cert.now }
     requires fits { length rom.now ≤ 0x4000 }
-    ensures reason { RowReason rom.now cert.now row result }
-    ensures inside { IfNone result (row.address < 0x4000) }
+    ensures reason { RowReason rom.now cert.now row.now result }
+    ensures inside { IfNone result (row.now.address < 0x4000) }
 {
     match fetch(rom, row.address) {
         Ok((instr, len)) => reason_for(map, cert, row, &instr, len),
@@ -28,9 +29,15 @@ pub fn reason_against(rom: &Rom, map: &Map, cert: &Certificate, row: Row) -> Opt
 }
 
 #[tactic(auto, unfolding(crate::specs::Row::reason_of))]
-fn reason_for(map: &Map, cert: &Certificate, row: Row, instr: &Instr, len: u8) -> Option<Reason>
+fn reason_for(
+    map: &Map,
+    cert: &Certificate,
+    row: &RowView,
+    instr: &Instr,
+    len: u8,
+) -> Option<Reason>
     requires { len ≡ length (spelling instr.now) }
-    ensures { result ≡ reason_of map.now cert.now row instr.now }
+    ensures { result ≡ reason_of map.now cert.now row.now instr.now }
 {
     let behind = row.address.wrapping_add(u16::from(len));
     let enables = enables_nmi(map, instr);
@@ -38,7 +45,8 @@ fn reason_for(map: &Map, cert: &Certificate, row: Row, instr: &Instr, len: u8) -
         Some(Reason::WriteRom)
     } else if writes_unmapped(map, instr) {
         Some(Reason::WriteUnmapped)
-    } else if !(supports(instr)
+    } else if !(is_known(cert, row)
+        && supports(instr)
         && leads_to_row(cert, target(instr, behind), next_mode(map, instr, row.mode)))
     {
         Some(Reason::NotCovered)
@@ -119,7 +127,7 @@ fn leads_to_row(cert: &Certificate, address: u16, mode: Option<Mode>) -> bool
     ensures { result ≡ is_covered_after cert.now.rows address mode }
 {
     match mode {
-        Some(mode) => covers(cert.rows(), address, mode),
+        Some(mode) => covers(cert, address, mode),
         None => false,
     }
 }

@@ -3,7 +3,7 @@
 ghost use Rattle.std.specs.Prelude.{◌≡◌, ◌<◌, ◌≤◌, ◌-◌, ◌↔◌, length, ℕ, All, IsOk, IfOk, IfErr, OnOk, IsTrue, None, Some, take};
 ghost use Rattle.address_map.specs.Starts.{is_start};
 ghost use Rattle.board_step.specs.Safe.{Safe};
-ghost use Rattle.cert_checker.specs.Accepts.{Accepts, Applies, FitsWorkRam, NothingBefore};
+ghost use Rattle.cert_checker.specs.Accepts.{Accepts, Applies, FitsWorkRam, NothingBefore, first_depth};
 ghost use Rattle.cert_checker.specs.Profile.{certified_profile, has_row, map_named, nmi_time};
 ghost use Rattle.cert_checker.specs.Row.{IsConsistent};
 ghost use Rattle.cert_checker.specs.declared.checking.Refused.{Refused};
@@ -13,7 +13,7 @@ use crate::against::reason_against;
 use crate::covering::covers;
 use abs_step::Reason;
 use address_map::{Map, Region, Rom, Starts};
-use certificate::{Certificate, Mode};
+use certificate::{Certificate, Mode, Proc, RowId};
 use thiserror::Error;
 
 /// The first refused address, and why.
@@ -49,18 +49,18 @@ pub fn check<'r>(rom: &'r [u8], certificate: Certificate) -> Result<Accepted<'r>
         Some(rom) if rom.len() == certificate.rom_len() => rom,
         _ => return Err(against_whole(Reason::Rom)),
     };
-    let map = Map::galaxian(certificate.rom_len());
+    let map = certificate.board().map(certificate.rom_len());
     if !lies_in_work_ram(&map, certificate.region()) {
         return Err(against_whole(Reason::Region));
     }
-    if !covers(certificate.rows(), 0, Mode::Unset) {
+    if !covers(&certificate, 0, Mode::Unset) {
         return Err(against_whole(Reason::Entry));
     }
     let starts = match check_rows(&rom, &map, &certificate) {
         Ok(starts) => starts,
         Err(row) => return Err(CheckFault::Refused(row)),
     };
-    if certificate.main().depth > stack_size(certificate.region()) {
+    if first_depth(certificate.procs()) > stack_size(certificate.region()) {
         return Err(against_whole(Reason::StackDepth));
     }
     Ok(Accepted::new(rom, map, certificate, starts))
@@ -85,6 +85,16 @@ fn lies_in_work_ram(map: &Map, region: Region) -> bool
         && u32::from(region.top) <= u32::from(start) + 0x400
 }
 
+/// The stack bytes of main, the first procedure.
+fn first_depth(procs: &[Proc]) -> u16
+    ensures { result ≡ first_depth procs.now }
+{
+    match procs.first() {
+        Some(main) => main.depth,
+        None => 0,
+    }
+}
+
 fn stack_size(region: Region) -> u16
     requires { region.low < region.top }
     ensures { result ≡ region.top - region.low }
@@ -102,11 +112,14 @@ fn check_rows(rom: &Rom, map: &Map, certificate: &Certificate) -> Result<Starts,
     ensures first { IfErr result (λ r. (number : ℕ) × (r.row ≡ Some number) × All (IsConsistent rom.now certificate.now) (take number certificate.now.rows)) }
 {
     let mut starts = Starts::new();
-    for (number, row) in certificate.rows().iter().enumerate() {
-        match reason_against(rom, map, certificate, *row) {
+    for id in 0..certificate.row_count() {
+        let Some(row) = certificate.row(id) else {
+            break;
+        };
+        match reason_against(rom, map, certificate, &row) {
             Some(reason) => {
                 return Err(Refused {
-                    row: Some(number as u32),
+                    row: Some(id),
                     address: row.address,
                     reason,
                 });

@@ -6,6 +6,7 @@ mod accepted;
 mod against;
 mod checking;
 mod covering;
+mod knowing;
 
 pub use abs_step::{Reason, Saved};
 pub use accepted::Accepted;

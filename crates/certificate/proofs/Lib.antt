@@ -1,5 +1,3 @@
-pub mod CutLemmas
-pub mod LineLemmas
-pub mod ReaderLemmas
-pub mod TextLemmas
-pub mod WholeLemmas
+pub mod PiecesLemmas
+pub mod ReadingLemmas
+pub mod WritingLemmas

@@ -1,5 +1,3 @@
--- The definitions of certificates.
-pub mod Contents
-pub mod Line
-pub mod Reader
-pub mod Text
+-- The definitions of what is read in pieces, and of what is written.
+pub mod Pieces
+pub mod Writing

@@ -1,14 +1,15 @@
-// The certificate: what it says (docs/CERTIFICATE.md), and its text.
+// The certificate: how it is read from its text, whole or in pieces, and written (docs/CERTIFICATE.md).
 #![tactic(auto)]
 
-mod contents;
-mod fault;
-mod line;
-mod reader;
-mod text;
+mod pieces;
+mod reading;
+mod writing;
 
 pub use abs_state::Mode;
-pub use contents::{Certificate, Proc, Row};
-pub use fault::CertFault;
-pub use text::read;
-pub use texts::{DeviceFault, Fields, Sink, Source, decimal_between, flag_field, hex2_field};
+pub use cert_contents::{Certificate, Parts, RowId, migrate};
+pub use cert_lines::{BoardMap, Proc, ProcKind, Row, RowView, Split, Version};
+pub use cert_order::CertFault;
+pub use pieces::{ReadFault, read_from};
+pub use reading::read;
+pub use texts::{DeviceFault, Sink, Source};
+pub use writing::write;

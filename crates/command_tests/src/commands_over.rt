@@ -1,8 +1,8 @@
 // The commands over devices in memory, and what they leave.
 
-use crate::memory_devices::{Bytes, Taken};
 use crate::samples::JUMP_CERTIFICATE;
 use commands::{run_on, verify_on};
+use memory_devices::{Bytes, Taken};
 use std::alloc::Global;
 
 /// A command's status, what was asked of each device behind the ROM, what it left, and what it wrote.

@@ -1,9 +1,9 @@
 // Which devices are asked, and in which order.
 
 use crate::commands_over::{accepted, run, verify};
-use crate::memory_devices::{Bytes, Taken};
 use crate::samples::{JUMP, JUMP_CERTIFICATE, JUMP_INPUT, ROW_MISSING};
 use commands::{FileSource, run_on};
+use memory_devices::{Bytes, Taken};
 use std::alloc::Global;
 use std::test::Fail;
 

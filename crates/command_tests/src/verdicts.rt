@@ -1,11 +1,11 @@
 // Verdicts and runs over devices in memory.
 
 use crate::commands_over::{accepted, run, run_whole, verify, verify_whole};
-use crate::memory_devices::{Bytes, Taken};
 use crate::samples::{
     JUMP, JUMP_CERTIFICATE, JUMP_INPUT, ROW_MISSING, STORES, STORES_CERTIFICATE, certificate_text,
 };
 use commands::steps_of;
+use memory_devices::{Bytes, Taken};
 use std::alloc::Global;
 use std::test::Fail;
 

@@ -1,18 +1,23 @@
 -- From what was read to what the files hold.
-use Rattle.std.proofs.Common.{◌≡◌, ◌<◌, ◌≤◌, ℕ, List, ◌++◌, IfSome, Option, Some, None, length, take, take_all, ap, sym, subst, ◌∙◌, arith, inl, inr}
+use Rattle.std.proofs.Common.{◌≡◌, ◌<◌, ◌≤◌, ℕ, List, ◌++◌, IfSome, IsSome, codes, refl, Option, Some, None, length, take, take_all, ap, sym, subst, ◌∙◌, arith, inl, inr}
 use Rattle.std.proofs.Math.Seq.{take-append_seam}
 use Rattle.std.proofs.lemmas.Bool.{cases_lt}
 use Rattle.std.proofs.lemmas.List.{length-take-le}
 use Rattle.board_step.specs.Safe.{Safe}
-use Rattle.cert_checker.specs.Accepts.{Accepts}
+use Rattle.cert_checker.specs.Accepts.{Accepts, Applies, NothingBefore}
 use Rattle.cert_checker.specs.Profile.{certified_profile, hardware_for, nmi_time}
-use Rattle.certificate.specs.Contents.{Contents}
+use Rattle.cert_checker.specs.declared.checking.CheckFault.{CheckFault}
+use Rattle.cert_checker.specs.declared.checking.CheckFault.TheVariants as faults
+use Rattle.cert_checker.specs.declared.checking.Refused.{Refused}
+use Rattle.cert_order.specs.Contents.{Contents, IsInForm}
+use Rattle.cert_order.specs.Text.{HasTooMany, IsFirstBadLine, text_of}
+use Rattle.certificate.specs.Pieces.{GivesAll, OfBytes}
+use Rattle.texts.proofs.DeviceLemmas.{gives_all}
 use Rattle.texts.specs.Device.{DeviceState, GivesBytes}
-use Rattle.certificate.specs.Text.{IsInForm, text_of}
-use Rattle.commands.specs.Judging.{HoldAccepted, IsAccepted, OnAccepted, TellsAccepted, TellsRefusal, WritesRefusal}
-use Rattle.commands.specs.Reading.{AllBytes, FirstBytes, OfFiles, ROM_READ_LEN}
+use Rattle.commands.specs.Judging.{HoldAccepted, IsAccepted, OnAccepted, TellsAccepted, TellsRefusal, WritesRefusalOf}
+use Rattle.commands.specs.Reading.{FirstBytes, ROM_READ_LEN}
 use Rattle.commands.specs.Running.{PlaysTo, PlaysToBadLine, TellsBadInput, TellsRun}
-use Rattle.commands.specs.Verdict.{accepted_text}
+use Rattle.commands.specs.Verdict.{accepted_text, bad_line_text, refused_text}
 
 first_of : (file after : Option (List ℕ)) (most len : ℕ) (items : List ℕ) → len ≡ length items → len ≤ most → (len < most → IfSome file (λ all. items ≡ all)) → GivesBytes file items after → IfSome file (λ all. items ≡ take most all)
 first_of None after most len items same within whole given = tt
@@ -39,71 +44,101 @@ take_whole most all bytes first few =
       | inr long ↦ absurd (omega (arith, few, ap length first, length-take-le most all long))
     ]
 
--- what holds of the bytes that were read holds of the first bytes of the ROM's file, and of the certificate's
-pub of_first : (rom text : Option (List ℕ)) (bytes lines : List ℕ) (Holds : List ℕ → List ℕ → Type 0) →
-    FirstBytes ROM_READ_LEN rom bytes → AllBytes text lines → Holds bytes lines → OfFiles rom text (λ r t. Holds (take ROM_READ_LEN r) t)
-of_first None None bytes lines Holds first all holds =
-    (bytes, (lines, subst (λ (r : List ℕ). Holds r lines) (sym (take_all ROM_READ_LEN bytes first.within)) holds))
-of_first None (Some t) bytes lines Holds first all holds =
-    (bytes, subst (λ (r : List ℕ). Holds r t) (sym (take_all ROM_READ_LEN bytes first.within)) (subst (λ (l : List ℕ). Holds bytes l) all holds))
-of_first (Some r) None bytes lines Holds first all holds = (lines, subst (λ (x : List ℕ). Holds x lines) first.first holds)
-of_first (Some r) (Some t) bytes lines Holds first all holds =
-    subst (λ (x : List ℕ). Holds x t) first.first (subst (λ (l : List ℕ). Holds bytes l) all holds)
+-- what holds of the bytes that were read holds of the first bytes of the ROM's file
+of_first : (rom : Option (List ℕ)) (bytes : List ℕ) (Holds : List ℕ → Type 0) → FirstBytes ROM_READ_LEN rom bytes → Holds bytes → OfBytes rom (λ all. Holds (take ROM_READ_LEN all))
+of_first None bytes Holds first holds = (bytes, subst Holds (sym (take_all ROM_READ_LEN bytes first.within)) holds)
+of_first (Some all) bytes Holds first holds = subst Holds first.first holds
 
--- where the ROM is short enough, it holds of both files
-of_whole : (rom text : Option (List ℕ)) (bytes lines : List ℕ) (Holds : List ℕ → List ℕ → Type 0) →
-    FirstBytes ROM_READ_LEN rom bytes → AllBytes text lines → length bytes < ROM_READ_LEN → Holds bytes lines → OfFiles rom text Holds
-of_whole None None bytes lines Holds first all few holds = (bytes, (lines, holds))
-of_whole None (Some t) bytes lines Holds first all few holds = (bytes, subst (λ (l : List ℕ). Holds bytes l) all holds)
-of_whole (Some r) None bytes lines Holds first all few holds =
-    (lines, subst (λ (x : List ℕ). Holds x lines) (take_whole ROM_READ_LEN r bytes first.first few) holds)
-of_whole (Some r) (Some t) bytes lines Holds first all few holds =
-    subst (λ (x : List ℕ). Holds x t) (take_whole ROM_READ_LEN r bytes first.first few) (subst (λ (l : List ℕ). Holds bytes l) all holds)
+-- where the ROM is short enough, it holds of the whole file
+of_whole : (rom : Option (List ℕ)) (bytes : List ℕ) (Holds : List ℕ → Type 0) → FirstBytes ROM_READ_LEN rom bytes → length bytes < ROM_READ_LEN → Holds bytes → OfBytes rom Holds
+of_whole None bytes Holds first few holds = (bytes, holds)
+of_whole (Some all) bytes Holds first few holds = subst Holds (take_whole ROM_READ_LEN all bytes first.first few) holds
 
--- and so do an accepted ROM and its certificate
-pub on_accepted : (rom text : Option (List ℕ)) (bytes lines : List ℕ) (certificate : Contents) (Holds : List ℕ → Contents → Type 0) →
-    FirstBytes ROM_READ_LEN rom bytes → AllBytes text lines → IsAccepted bytes lines certificate → Holds bytes certificate → OnAccepted rom text Holds
-on_accepted rom text bytes lines certificate Holds first all accepted holds =
-    of_whole rom text bytes lines (λ b l. (c : Contents) × IsAccepted b l c × Holds b c) first all (omega (arith, accepted.accepts.fits_rom.fits)) (certificate, accepted, holds)
+-- what follows from what holds of the bytes of a source holds of them too
+of_bytes : (text : Option (List ℕ)) (P Q : List ℕ → Type 0) → ((bytes : List ℕ) → P bytes → Q bytes) → OfBytes text P → OfBytes text Q
+of_bytes (Some bytes) P Q follows holds = follows bytes holds
+of_bytes None P Q follows (bytes, holds) = (bytes, follows bytes holds)
 
-pub accepted_of : (rom text : List ℕ) (read kept : Contents) → kept ≡ read → IsInForm read → text ≡ text_of read → Accepts rom read → Safe (certified_profile rom read) (nmi_time read) → IsAccepted rom text kept
+-- it holds of some bytes
+some_bytes : (text : Option (List ℕ)) (P : List ℕ → Type 0) → OfBytes text P → (bytes : List ℕ) × P bytes
+some_bytes (Some bytes) P holds = (bytes, holds)
+some_bytes None P (bytes, holds) = (bytes, holds)
+
+-- what a source gave up to its end are all of its bytes
+pub all_given : (old new : DeviceState) (text : List ℕ) → GivesAll old text new → OfBytes old.bytes (λ bytes. bytes ≡ text)
+all_given old new text gives = by_bytes old.bytes (λ some. gives_all old new text gives.given (gives.all some))
+  where
+    by_bytes : (all : Option (List ℕ)) → (IsSome all → IfSome all (λ bytes. text ≡ bytes)) → OfBytes all (λ bytes. bytes ≡ text)
+    by_bytes (Some bytes) same = sym (same refl)
+    by_bytes None same = (text, refl)
+
+-- a certificate that was read and accepted is that of its source
+pub accepted_of : (rom : List ℕ) (text : Option (List ℕ)) (read kept : Contents) → kept ≡ read → IsInForm read → OfBytes text (λ lines. lines ≡ text_of read) →
+    Accepts rom read → Safe (certified_profile rom read) (nmi_time read) → OfBytes text (λ lines. IsAccepted rom lines kept)
 accepted_of rom text read kept same form is accepts safe =
-    subst (IsAccepted rom text) (sym same) (record { in_form = form; text_is = is; accepts = accepts; safe = safe })
+    subst (λ (c : Contents). OfBytes text (λ lines. IsAccepted rom lines c)) (sym same)
+    (of_bytes text (λ lines. lines ≡ text_of read) (λ lines. IsAccepted rom lines read) (λ lines here. record { in_form = form; text_is = here; accepts = accepts; safe = safe }) is)
 
--- what was read of the two files
-pub record WasRead (rom text : Option (List ℕ)) (bytes lines : List ℕ) : Type 0 where
-  pub first : FirstBytes ROM_READ_LEN rom bytes
-  pub all : AllBytes text lines
+-- the reason that was found first, against a certificate
+abbrev IsRefused : List ℕ → Contents → CheckFault → Type 0
+IsRefused rom read fault = (r : Refused) × (fault ≡ faults.Refused r) × Applies rom read r.row r.address r.reason × NothingBefore rom read r.row r.reason
 
-pub was_read : (rom text : Option (List ℕ)) (items line_items bytes lines : List ℕ) → bytes ≡ items → lines ≡ line_items →
-    FirstBytes ROM_READ_LEN rom items → AllBytes text line_items → WasRead rom text bytes lines
-was_read rom text items line_items bytes lines same same_lines first all = record {
-  first = subst (FirstBytes ROM_READ_LEN rom) (sym same) first;
-  all = subst (AllBytes text) (sym same_lines) all;
-}
+-- its line was printed for a certificate that was read
+pub refused_of : (Writes : DeviceState → List ℕ → DeviceState → Type 0) (rom : List ℕ) (text : Option (List ℕ)) (old new : DeviceState) (read : Contents) (fault : CheckFault) (refused : Refused) (printed : List ℕ) →
+    IsInForm read → OfBytes text (λ lines. lines ≡ text_of read) → fault ≡ faults.Refused refused → IsRefused rom read fault → printed ≡ refused_text refused → Writes old printed new →
+    WritesRefusalOf Writes rom text old new
+refused_of Writes rom text old new read fault refused printed form is told (r, same, applies, first) printed_is writes =
+    let one : refused ≡ r = cc in
+    of_bytes text (λ lines. lines ≡ text_of read) _
+    (λ lines here. (printed, writes, inl (record { certificate = read; in_form = form; text_is = here; refused = r; applies = applies; first = first; printed_is = printed_is ∙ ap refused_text one }))) is
 
-pub tells_refusal : (Writes : DeviceState → List ℕ → DeviceState → Type 0) (rom text : Option (List ℕ)) (old new : DeviceState) (bytes lines : List ℕ) → WasRead rom text bytes lines → WritesRefusal Writes bytes lines old new → TellsRefusal Writes rom text old new
-tells_refusal Writes rom text old new bytes lines was writes = of_first rom text bytes lines (λ b l. WritesRefusal Writes b l old new) was.first was.all writes
+-- the number of the first bad line was printed
+pub bad_line_of : (Writes : DeviceState → List ℕ → DeviceState → Type 0) (rom : List ℕ) (text : Option (List ℕ)) (old new : DeviceState) (line : ℕ) (printed : List ℕ) →
+    OfBytes text (IsFirstBadLine line) → printed ≡ bad_line_text (codes "bad certificate") line → Writes old printed new → WritesRefusalOf Writes rom text old new
+bad_line_of Writes rom text old new line printed bad printed_is writes =
+    of_bytes text (IsFirstBadLine line) _ (λ lines here. (printed, writes, inr (inl (record { line = line; bad = here; printed_is = printed_is })))) bad
 
-pub hold_accepted : (rom text : Option (List ℕ)) (bytes lines : List ℕ) (certificate : Contents) → WasRead rom text bytes lines → IsAccepted bytes lines certificate → HoldAccepted rom text
-hold_accepted rom text bytes lines certificate was accepted = on_accepted rom text bytes lines certificate (λ _ _. Unit {0}) was.first was.all accepted tt
+-- that a count is above its limit was printed
+pub limit_of : (Writes : DeviceState → List ℕ → DeviceState → Type 0) (rom : List ℕ) (text : Option (List ℕ)) (old new : DeviceState) (printed : List ℕ) →
+    OfBytes text HasTooMany → printed ≡ codes "bad certificate limit\n" → Writes old printed new → WritesRefusalOf Writes rom text old new
+limit_of Writes rom text old new printed many printed_is writes =
+    of_bytes text HasTooMany _ (λ lines here. (printed, writes, inr (inr (record { many = here; printed_is = printed_is })))) many
+
+-- what was read of a ROM's file, where it is lent
+pub lent_first : (rom : Option (List ℕ)) (items bytes : List ℕ) → bytes ≡ items → FirstBytes ROM_READ_LEN rom items → FirstBytes ROM_READ_LEN rom bytes
+lent_first rom items bytes same first = subst (FirstBytes ROM_READ_LEN rom) (sym same) first
+
+-- what holds of the ROM that was read, and of the certificate that is accepted for it, holds of the files
+pub on_accepted : (rom text : Option (List ℕ)) (bytes : List ℕ) (certificate : Contents) (Holds : List ℕ → Contents → Type 0) →
+    FirstBytes ROM_READ_LEN rom bytes → OfBytes text (λ lines. IsAccepted bytes lines certificate) → Holds bytes certificate → OnAccepted rom text Holds
+on_accepted rom text bytes certificate Holds first accepted holds =
+    let (lines, one) = some_bytes text (λ l. IsAccepted bytes l certificate) accepted in
+    of_whole rom bytes (λ b. OfBytes text (λ l. (c : Contents) × IsAccepted b l c × Holds b c)) first (omega (arith, one.accepts.fits_rom.fits))
+    (of_bytes text (λ l. IsAccepted bytes l certificate) _ (λ l here. (certificate, here, holds)) accepted)
+
+pub tells_refusal : (Writes : DeviceState → List ℕ → DeviceState → Type 0) (rom text : Option (List ℕ)) (old new : DeviceState) (bytes : List ℕ) →
+    FirstBytes ROM_READ_LEN rom bytes → WritesRefusalOf Writes bytes text old new → TellsRefusal Writes rom text old new
+tells_refusal Writes rom text old new bytes first writes = of_first rom bytes (λ b. WritesRefusalOf Writes b text old new) first writes
+
+pub hold_accepted : (rom text : Option (List ℕ)) (bytes : List ℕ) (certificate : Contents) → FirstBytes ROM_READ_LEN rom bytes → OfBytes text (λ lines. IsAccepted bytes lines certificate) → HoldAccepted rom text
+hold_accepted rom text bytes certificate first accepted = on_accepted rom text bytes certificate (λ _ _. Unit {0}) first accepted tt
 
 -- the same from a sink that is the same
-pub tells_accepted : {X : Type 0} (Writes : DeviceState → List ℕ → DeviceState → Type 0) (state : X → DeviceState) (rom text : Option (List ℕ)) (new : DeviceState) (bytes lines : List ℕ) (certificate shown : Contents) (before same : X) →
-    WasRead rom text bytes lines → IsAccepted bytes lines certificate → shown ≡ certificate → before ≡ same → Writes (state before) (accepted_text shown) new → TellsAccepted Writes rom text (state same) new
-tells_accepted {X} Writes state rom text new bytes lines certificate shown before same was accepted is kept takes =
-    on_accepted rom text bytes lines certificate (λ _ c. Writes (state same) (accepted_text c) new) was.first was.all accepted
+pub tells_accepted : {X : Type 0} (Writes : DeviceState → List ℕ → DeviceState → Type 0) (state : X → DeviceState) (rom text : Option (List ℕ)) (new : DeviceState) (bytes : List ℕ) (certificate shown : Contents) (before same : X) →
+    FirstBytes ROM_READ_LEN rom bytes → OfBytes text (λ lines. IsAccepted bytes lines certificate) → shown ≡ certificate → before ≡ same → Writes (state before) (accepted_text shown) new → TellsAccepted Writes rom text (state same) new
+tells_accepted {X} Writes state rom text new bytes certificate shown before same first accepted is kept takes =
+    on_accepted rom text bytes certificate (λ _ c. Writes (state same) (accepted_text c) new) first accepted
     (subst (λ (x : X). Writes (state x) (accepted_text certificate) new) kept (subst (λ (c : Contents). Writes (state before) (accepted_text c) new) is takes))
 
-pub tells_run : {X : Type 0} (Writes : DeviceState → List ℕ → DeviceState → Type 0) (state : X → DeviceState) (steps : ℕ) (rom text input : Option (List ℕ)) (new : DeviceState) (bytes lines own : List ℕ) (certificate : Contents) (before same : X) →
-    WasRead rom text bytes lines → IsAccepted bytes lines certificate → own ≡ bytes → before ≡ same → PlaysTo Writes (hardware_for own certificate) steps input (state before) new →
+pub tells_run : {X : Type 0} (Writes : DeviceState → List ℕ → DeviceState → Type 0) (state : X → DeviceState) (steps : ℕ) (rom text input : Option (List ℕ)) (new : DeviceState) (bytes own : List ℕ) (certificate : Contents) (before same : X) →
+    FirstBytes ROM_READ_LEN rom bytes → OfBytes text (λ lines. IsAccepted bytes lines certificate) → own ≡ bytes → before ≡ same → PlaysTo Writes (hardware_for own certificate) steps input (state before) new →
     TellsRun Writes steps rom text input (state same) new
-tells_run {X} Writes state steps rom text input new bytes lines own certificate before same was accepted is kept plays =
-    on_accepted rom text bytes lines certificate (λ b c. PlaysTo Writes (hardware_for b c) steps input (state same) new) was.first was.all accepted
+tells_run {X} Writes state steps rom text input new bytes own certificate before same first accepted is kept plays =
+    on_accepted rom text bytes certificate (λ b c. PlaysTo Writes (hardware_for b c) steps input (state same) new) first accepted
     (subst (λ (x : X). PlaysTo Writes (hardware_for bytes certificate) steps input (state x) new) kept (subst (λ (b : List ℕ). PlaysTo Writes (hardware_for b certificate) steps input (state before) new) is plays))
 
-pub tells_bad_input : {X : Type 0} (Writes : DeviceState → List ℕ → DeviceState → Type 0) (state : X → DeviceState) (steps : ℕ) (rom text input : Option (List ℕ)) (new : DeviceState) (bytes lines : List ℕ) (certificate : Contents) (before same : X) →
-    WasRead rom text bytes lines → IsAccepted bytes lines certificate → before ≡ same → PlaysToBadLine Writes steps input (state before) new → TellsBadInput Writes steps rom text input (state same) new
-tells_bad_input {X} Writes state steps rom text input new bytes lines certificate before same was accepted kept plays =
-    on_accepted rom text bytes lines certificate (λ _ _. PlaysToBadLine Writes steps input (state same) new) was.first was.all accepted
+pub tells_bad_input : {X : Type 0} (Writes : DeviceState → List ℕ → DeviceState → Type 0) (state : X → DeviceState) (steps : ℕ) (rom text input : Option (List ℕ)) (new : DeviceState) (bytes : List ℕ) (certificate : Contents) (before same : X) →
+    FirstBytes ROM_READ_LEN rom bytes → OfBytes text (λ lines. IsAccepted bytes lines certificate) → before ≡ same → PlaysToBadLine Writes steps input (state before) new → TellsBadInput Writes steps rom text input (state same) new
+tells_bad_input {X} Writes state steps rom text input new bytes certificate before same first accepted kept plays =
+    on_accepted rom text bytes certificate (λ _ _. PlaysToBadLine Writes steps input (state same) new) first accepted
     (subst (λ (x : X). PlaysToBadLine Writes steps input (state x) new) kept plays)

@@ -4,9 +4,10 @@ use Rattle.board_step.specs.Safe.{Safe}
 use Rattle.cert_checker.specs.Accepts.{Accepts, Applies, NothingBefore}
 use Rattle.cert_checker.specs.Profile.{certified_profile, nmi_time}
 use Rattle.cert_checker.specs.declared.checking.Refused.{Refused}
-use Rattle.certificate.specs.Contents.{Contents}
+use Rattle.cert_order.specs.Contents.{Contents, IsInForm}
+use Rattle.cert_order.specs.Text.{HasTooMany, IsFirstBadLine, text_of}
+use Rattle.certificate.specs.Pieces.{OfBytes}
 use Rattle.texts.specs.Device.{DeviceState}
-use Rattle.certificate.specs.Text.{HasTooManyRows, IsFirstBadLine, IsInForm, text_of}
 use Rattle.commands.specs.Reading.{OfFiles, ROM_READ_LEN}
 use Rattle.commands.specs.Verdict.{accepted_text, bad_line_text, refused_text}
 
@@ -33,9 +34,9 @@ pub record PrintsBadLine (text printed : List ℕ) : Type 0 where
   pub bad : IsFirstBadLine line text
   pub printed_is : printed ≡ bad_line_text (codes "bad certificate") line
 
--- a text in form, but for its many rows
+-- a text in form, but for a count above its limit
 pub record PrintsLimit (text printed : List ℕ) : Type 0 where
-  pub many : HasTooManyRows text
+  pub many : HasTooMany text
   pub printed_is : printed ≡ codes "bad certificate limit\n"
 
 -- why the certificate in this text isn't accepted for a ROM
@@ -45,6 +46,10 @@ PrintsRefusal rom text printed = PrintsRefused rom text printed ⊎ (PrintsBadLi
 -- the line that says why was written to a sink: whole (`Takes`), or it failed amid it (`FailsAmid`)
 abbrev pub WritesRefusal : (DeviceState → List ℕ → DeviceState → Type 0) → List ℕ → List ℕ → DeviceState → DeviceState → Type 0
 WritesRefusal Writes rom text old new = (printed : List ℕ) × Writes old printed new × PrintsRefusal rom text printed
+
+-- a source of a text had such a text, for which a line was written to a sink that says why
+abbrev pub WritesRefusalOf : (DeviceState → List ℕ → DeviceState → Type 0) → List ℕ → Option (List ℕ) → DeviceState → DeviceState → Type 0
+WritesRefusalOf Writes rom text old new = OfBytes text (λ lines. WritesRefusal Writes rom lines old new)
 
 -- the files hold a ROM and a certificate that is accepted for it, and this holds of the two
 abbrev pub OnAccepted : Option (List ℕ) → Option (List ℕ) → (List ℕ → Contents → Type 0) → Type 0

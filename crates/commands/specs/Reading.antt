@@ -1,7 +1,7 @@
 -- What is read of a file.
 use Rattle.std.specs.Prelude.{ℕ, ◌≤◌, ◌≡◌, List, length, take, Option, IfSome}
 use Rattle.texts.specs.Device.{DeviceState, Gives}
-use Rattle.runner.specs.Playing.{OfBytes}
+use Rattle.certificate.specs.Pieces.{OfBytes}
 
 -- of a ROM's file no more is read: one byte more than a ROM may have
 abbrev pub ROM_READ_LEN : ℕ
@@ -15,10 +15,6 @@ GivesUpTo most old new = (given : List ℕ) × (length given ≤ most) × Gives 
 pub record FirstBytes (most : ℕ) (file : Option (List ℕ)) (bytes : List ℕ) : Type 0 where
   pub within : length bytes ≤ most
   pub first : IfSome file (λ all. bytes ≡ take most all)
-
--- all bytes of a file
-abbrev pub AllBytes : Option (List ℕ) → List ℕ → Type 0
-AllBytes file bytes = IfSome file (λ all. bytes ≡ all)
 
 -- this holds of the bytes of two files, where their sources tell them, and else of some bytes
 abbrev pub OfFiles : Option (List ℕ) → Option (List ℕ) → (List ℕ → List ℕ → Type 0) → Type 0

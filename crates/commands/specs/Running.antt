@@ -4,7 +4,8 @@ use Rattle.board_step.specs.Hardware.{Hardware}
 use Rattle.cert_checker.specs.Profile.{hardware_for}
 use Rattle.texts.specs.Device.{DeviceState}
 use Rattle.runner.specs.Output.{summary_text}
-use Rattle.runner.specs.Playing.{IsBadLine, OfBytes, Played}
+use Rattle.certificate.specs.Pieces.{OfBytes}
+use Rattle.runner.specs.Playing.{IsBadLine, Played}
 use Rattle.runner.specs.declared.machine.Summary.{Summary}
 use Rattle.commands.specs.Judging.{OnAccepted}
 use Rattle.commands.specs.Verdict.{bad_line_text}

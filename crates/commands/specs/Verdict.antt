@@ -6,7 +6,8 @@ use Rattle.abs_step.specs.Reason.{number_of, name_of, saved_name_of}
 use Rattle.cert_checker.specs.declared.checking.Refused.{Refused}
 use Rattle.abs_step.specs.declared.reason.Reason.{Reason}
 use Rattle.abs_step.specs.declared.reason.Reason.TheVariants as reasons
-use Rattle.certificate.specs.Contents.{Contents}
+use Rattle.cert_checker.specs.Accepts.{first_depth}
+use Rattle.cert_order.specs.Contents.{Contents}
 use Rattle.texts.specs.Numbers.{hex4}
 use Rattle.z80_decode.specs.declared.fault.DecodeFault.TheVariants as decoding
 
@@ -17,7 +18,7 @@ right_in_5 n = replicate (5 - length (decimal n)) 32 ++ decimal n
 -- the table of an accepted certificate
 abbrev pub accepted_text : Contents → List ℕ
 accepted_text c = concat (
-    codes "accepted\nmain 0000 depth " ∷ right_in_5 c.main.depth ∷ codes " time      -\nstack " ∷ decimal c.main.depth ∷
+    codes "accepted\nmain 0000 depth " ∷ right_in_5 (first_depth c.procs) ∷ codes " time      -\nstack " ∷ decimal (first_depth c.procs) ∷
     codes " of " ∷ decimal (c.region.top - c.region.low) ∷ codes "\nnmi none\n" ∷ [])
 
 -- what is printed behind a reason's name

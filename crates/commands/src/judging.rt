@@ -1,42 +1,45 @@
-// Whether a certificate's text is accepted for a ROM.
+// Whether the certificate in a file is accepted for a ROM.
 
-ghost use Rattle.std.specs.Prelude.{◌≡◌, ◌≢◌, IfOk, OnOk};
-ghost use Rattle.commands.specs.Judging.{IsAccepted, WritesRefusal};
+ghost use Rattle.std.specs.Prelude.{◌≡◌, ◌≢◌, ◌⊎◌, IfOk, OnOk};
+ghost use Rattle.certificate.specs.Pieces.{OfBytes};
+ghost use Rattle.commands.specs.Judging.{IsAccepted, WritesRefusalOf};
 ghost use Rattle.texts.specs.Device.{FailsAmid, HasFailed, IsQuiet, Takes};
 
 use crate::stop::Stop;
 use crate::verdict::{bad_line, refused_line};
 use cert_checker::{Accepted, CheckFault, check};
-use certificate::{CertFault, read};
+use certificate::{ReadFault, read_from};
 use std::alloc::Global;
-use texts::{Sink, put};
+use texts::{Sink, Source, put};
 
-/// Checks a certificate's text for a ROM. Where it is not accepted, the line that says why is written.
-pub fn judge<'r, W: Sink>(
+/// Reads a certificate, and checks it for a ROM. Where it is not accepted, the line that says why is written.
+pub fn judge<'r, B: Source, W: Sink>(
     alloc: Global,
     rom: &'r [u8],
-    text: &[u8],
+    cert: &mut B,
     out: &mut W,
 ) -> Result<Accepted<'r>, Stop>
-    ensures accepted { IfOk result (λ accepted. (accepted.rom ≡ rom.now) × IsAccepted rom.now text.now accepted.certificate) }
+    ensures accepted { IfOk result (λ accepted. (accepted.rom ≡ rom.now) × OfBytes (B.state cert.old).bytes (λ text. IsAccepted rom.now text accepted.certificate)) }
     ensures kept { OnOk result (out.new ≡ out.old) }
-    ensures refused { result ≡ Err Stop.Refused → WritesRefusal Takes rom.now text.now (W.state out.old) (W.state out.new) }
-    ensures device { result ≡ Err Stop.Device → HasFailed (W.state out.old) (W.state out.new) }
-    ensures part { result ≡ Err Stop.Device → WritesRefusal FailsAmid rom.now text.now (W.state out.old) (W.state out.new) }
-    ensures told { result ≢ Err Stop.Device → IsQuiet (W.state out.old) (W.state out.new) }
+    ensures refused { result ≡ Err Stop.Refused → WritesRefusalOf Takes rom.now (B.state cert.old).bytes (W.state out.old) (W.state out.new) }
+    ensures device { result ≡ Err Stop.Device → HasFailed (B.state cert.old) (B.state cert.new) ⊎ HasFailed (W.state out.old) (W.state out.new) }
+    ensures part { result ≡ Err Stop.Device → (out.new ≡ out.old) ⊎ WritesRefusalOf FailsAmid rom.now (B.state cert.old).bytes (W.state out.old) (W.state out.new) }
+    ensures told { result ≢ Err Stop.Device → IsQuiet (B.state cert.old) (B.state cert.new) × IsQuiet (W.state out.old) (W.state out.new) }
+    ensures order { IsQuiet (B.state cert.old) (B.state cert.new) ⊎ (out.new ≡ out.old) }
     ensures memory { result ≡ Err Stop.OutOfMemory → out.new ≡ out.old }
 {
-    let certificate = match read(alloc, text) {
+    let certificate = match read_from(alloc, cert) {
         Ok(certificate) => certificate,
-        Err(CertFault::Line(line)) => {
+        Err(ReadFault::Line(line)) => {
             put(out, bad_line(b"bad certificate", line).bytes())?;
             return Err(Stop::Refused);
         }
-        Err(CertFault::Limit) => {
+        Err(ReadFault::Limit) => {
             put(out, b"bad certificate limit\n")?;
             return Err(Stop::Refused);
         }
-        Err(CertFault::NoMemory) => return Err(Stop::OutOfMemory),
+        Err(ReadFault::NoMemory) => return Err(Stop::OutOfMemory),
+        Err(ReadFault::Read) => return Err(Stop::Device),
     };
     match check(rom, certificate) {
         Ok(accepted) => Ok(accepted),

@@ -9,7 +9,7 @@ ghost use Rattle.commands.specs.Status.{IsStatus};
 ghost use Rattle.texts.specs.Device.{FailsAmid, HasFailed, IsQuiet, Takes};
 
 use crate::judging::judge;
-use crate::reading::read_files;
+use crate::reading::read_rom;
 use crate::stop::{DONE, Stop};
 use crate::verdict::bad_line;
 use cert_checker::Accepted;
@@ -46,11 +46,11 @@ pub fn run_on<A: Source, B: Source, C: Source, W: Sink>(
     ensures out_last { IsQuiet (C.state input.old) (C.state input.new) ⊎ (out.new ≡ out.old) }
     ensures rom_limit { HasFailed (A.state rom.old) (A.state rom.new) ⊎ GivesUpTo 16385 (A.state rom.old) (A.state rom.new) }
 {
-    let (bytes, text) = match read_files(alloc, rom, cert) {
-        Ok(files) => files,
+    let bytes = match read_rom(alloc, rom) {
+        Ok(bytes) => bytes,
         Err(stop) => return stop.status(),
     };
-    let accepted = match judge(alloc, bytes.as_slice(), text.as_slice(), out) {
+    let accepted = match judge(alloc, bytes.as_slice(), cert, out) {
         Ok(accepted) => accepted,
         Err(stop) => return stop.status(),
     };

@@ -1,6 +1,7 @@
 // The lines of a verdict.
 
 ghost use Rattle.std.specs.Prelude.{◌≡◌, ◌≤◌, ◌+◌, ◌++◌, length};
+ghost use Rattle.cert_checker.specs.Accepts.{first_depth};
 ghost use Rattle.commands.specs.Verdict.{accepted_text, bad_line_text, detail_of, gap_before, refused_text, right_in_5};
 ghost use Rattle.texts.specs.Made.{MADE_LEN};
 
@@ -14,7 +15,7 @@ use z80_decode::DecodeFault;
 pub fn accepted_table(certificate: &Certificate) -> MadeLine
     ensures { result ≡ accepted_text certificate.now }
 {
-    let depth = certificate.main().depth;
+    let depth = main_depth(certificate);
     let region = certificate.region();
     let mut table = MadeLine::new();
     table.add(b"accepted\nmain 0000 depth ");
@@ -25,6 +26,16 @@ pub fn accepted_table(certificate: &Certificate) -> MadeLine
     table.add_decimal(u128::from(region.top.saturating_sub(region.low)));
     table.add(b"\nnmi none\n");
     table
+}
+
+/// The stack bytes of main, the first procedure.
+fn main_depth(certificate: &Certificate) -> u16
+    ensures { result ≡ first_depth certificate.now.procs }
+{
+    match certificate.procs().first() {
+        Some(main) => main.depth,
+        None => 0,
+    }
 }
 
 /// Adds a number in decimal, right in five places.

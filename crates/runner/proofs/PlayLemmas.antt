@@ -14,13 +14,14 @@ use Rattle.texts.specs.Device.{DeviceState, GivesBytes}
 use Rattle.texts.proofs.DeviceLemmas.{gives_bytes}
 use Rattle.runner.specs.Input.{IsResetLine, IsEnvLine, reset_of, reset_text, env_text, env_of}
 use Rattle.runner.specs.Machine.{Summarizes}
-use Rattle.runner.specs.Playing.{BeginsWithNo, IsBadLine, OfBytes, Played, TakesEnv, TakesReset, envs_of, text_of}
+use Rattle.runner.specs.Playing.{BeginsWithNo, IsBadLine, Played, TakesEnv, TakesReset, envs_of, text_of}
 use Rattle.runner.specs.declared.input.EnvLine.{EnvLine}
 use Rattle.runner.specs.declared.input.ResetLine.{ResetLine}
 use Rattle.runner.specs.declared.machine.Summary.{Summary}
 use Rattle.runner.proofs.FeedLemmas.{none_in_line}
 use Rattle.runner.proofs.LeadsLemmas.{one_each, runs_to, time_of-append}
 use Rattle.runner.proofs.InputLemmas.{no_feed_env, env_some}
+use Rattle.certificate.specs.Pieces.{OfBytes}
 
 -- a play under way: what was taken off the input, and the run over its lines so far
 pub record Sofar (hardware : Hardware) (steps : ℕ) (old now : Option (List ℕ)) (number left time : ℕ) (state : State) : Type 0 where

@@ -6,12 +6,13 @@ use Rattle.texts.specs.Device.{DeviceState, HasGrown, IsQuiet}
 use Rattle.texts.specs.Incoming.{Unused, EndsWell, left_of}
 use Rattle.texts.proofs.DeviceLemmas.{gives_none}
 use Rattle.runner.specs.Input.{reset_text}
-use Rattle.runner.specs.Playing.{HasNoEnv, HasNoReset, IsBadLine, OfBytes, PlaysInput, ReadsLine, TakesEnv, TakesReset}
+use Rattle.runner.specs.Playing.{HasNoEnv, HasNoReset, IsBadLine, PlaysInput, ReadsLine, TakesEnv, TakesReset}
 use Rattle.runner.specs.declared.fault.PlayFault.{PlayFault}
 use Rattle.runner.specs.declared.fault.PlayFault.TheVariants.{Line, Read, Write}
 use Rattle.runner.proofs.FeedLemmas.{first_holds, second_holds}
 use Rattle.runner.proofs.JudgedLemmas.{judged, judged_later}
 use Rattle.runner.proofs.PlayLemmas.{Sofar, sofar_bad}
+use Rattle.certificate.specs.Pieces.{OfBytes}
 
 first_bad : (steps number : ℕ) (old : Option (List ℕ)) → number ≡ 1 → IfSome old HasNoReset → OfBytes old (IsBadLine steps number)
 first_bad steps number None is bad = ([], inl record { first = is; bad = λ line rest form e. absurd (omega (arith, ap length e, length-append (reset_text line) (10 ∷ rest))) })

@@ -15,6 +15,7 @@ use Rattle.runner.specs.declared.input.ResetLine.{ResetLine}
 use Rattle.runner.specs.declared.machine.Summary.{Summary}
 use Rattle.texts.specs.Device.{DeviceState, FailsAmid, Gives, HasFailed, IsQuiet, Takes}
 use Rattle.texts.specs.Incoming.{HasNoFeed, IsEnough, TakesEnough, TakesNone}
+use Rattle.certificate.specs.Pieces.{OfBytes}
 
 -- the longest line of an input, without its line feed
 abbrev pub LONGEST : ℕ
@@ -68,11 +69,6 @@ pub record IsBadLater (steps number : ℕ) (bytes : List ℕ) : Type 0 where
 -- the first line of an input that is needed and out of form; lines count from 1
 abbrev pub IsBadLine : ℕ → ℕ → List ℕ → Type 0
 IsBadLine steps number bytes = IsBadFirst number bytes ⊎ IsBadLater steps number bytes
-
--- this holds of the bytes of a source, where it tells them, and else of some bytes
-abbrev pub OfBytes : Option (List ℕ) → (List ℕ → Type 0) → Type 0
-OfBytes (Some bytes) Holds = Holds bytes
-OfBytes None Holds = (bytes : List ℕ) × Holds bytes
 
 -- lines as bytes, each with its line feed
 abbrev pub with_feeds : List (List ℕ) → List ℕ

@@ -1,30 +1,27 @@
 use Rattle.std.proofs.Common.{inl, inr, subst, ◌∙◌, List, ℕ}
 use Rattle.texts.specs.Device.{FailsAmid, Takes}
-use Rattle.commands.proofs.FileLemmas.{tells_accepted, tells_refusal, was_read}
+use Rattle.commands.proofs.FileLemmas.{tells_accepted, tells_refusal, lent_first}
 use Rattle.commands.proofs.verifying.verify_on.Goals as goal
 
 pub returns-in-Err-judge-clause-refused : goal.returns-in-Err-judge-clause-refused
 returns-in-Err-judge-clause-refused g c = λ e.
-    tells_refusal Takes _ _ _ _ _ _ (was_read _ _ _ _ _ _ c.as_slice.ensures.value c.as_slice-2.ensures.value c.in-Ok.ensures.rom c.in-Ok.ensures.cert)
+    tells_refusal Takes _ _ _ _ _ (lent_first _ _ _ c.as_slice.ensures.value c.in-Ok.ensures.first)
     (c.in-Err-judge.ensures.refused (cc (c.status-in-Err-judge.ensures.refused e)))
 
 pub returns-in-Ok-put-clause-accepted : goal.returns-in-Ok-put-clause-accepted
 returns-in-Ok-put-clause-accepted g c = λ _.
-    tells_accepted Takes g.W.Sink.state _ _ _ _ _ _ _ _ _ (was_read _ _ _ _ _ _ c.as_slice.ensures.value c.as_slice-2.ensures.value c.in-Ok.ensures.rom c.in-Ok.ensures.cert)
+    tells_accepted Takes g.W.Sink.state _ _ _ _ _ _ _ _ (lent_first _ _ _ c.as_slice.ensures.value c.in-Ok.ensures.first)
     c.in-Ok-judge.ensures.accepted.1 c.certificate.ensures.value c.in-Ok-judge.ensures.kept (subst (λ (text : List ℕ). Takes (g.W.Sink.state c.judge.new.out) text (g.W.Sink.state c.put.new.out)) (c.bytes.ensures.value ∙ c.accepted_table.ensures) c.in-Ok-put.ensures)
 
-pub returns-in-Err-clause-device : goal.returns-in-Err-clause-device
-returns-in-Err-clause-device g c = λ e. elim (c.in-Err.ensures.device (cc (c.status.ensures.device e))) [ inl rom ↦ inl rom | inr cert ↦ inr (inl cert) ]
-
 pub returns-in-Err-judge-clause-part : goal.returns-in-Err-judge-clause-part
-returns-in-Err-judge-clause-part g c = λ e. inr (inr (
-    tells_refusal FailsAmid _ _ _ _ _ _ (was_read _ _ _ _ _ _ c.as_slice.ensures.value c.as_slice-2.ensures.value c.in-Ok.ensures.rom c.in-Ok.ensures.cert)
-    (c.in-Err-judge.ensures.part (cc (c.status-in-Err-judge.ensures.device e)))
-    ))
+returns-in-Err-judge-clause-part g c = λ e. elim (c.in-Err-judge.ensures.part (cc (c.status-in-Err-judge.ensures.device e))) [
+  | inl same ↦ inl same
+  | inr amid ↦ inr (inr (tells_refusal FailsAmid _ _ _ _ _ (lent_first _ _ _ c.as_slice.ensures.value c.in-Ok.ensures.first) amid))
+]
 
 pub returns-clause-part : goal.returns-clause-part
 returns-clause-part g c = λ _. inr (inl (
-    tells_accepted FailsAmid g.W.Sink.state _ _ _ _ _ _ _ _ _ (was_read _ _ _ _ _ _ c.as_slice.ensures.value c.as_slice-2.ensures.value c.in-Ok.ensures.rom c.in-Ok.ensures.cert)
+    tells_accepted FailsAmid g.W.Sink.state _ _ _ _ _ _ _ _ (lent_first _ _ _ c.as_slice.ensures.value c.in-Ok.ensures.first)
     c.in-Ok-judge.ensures.accepted.1 c.certificate.ensures.value c.in-Ok-judge.ensures.kept
     (subst (λ (text : List ℕ). FailsAmid (g.W.Sink.state c.judge.new.out) text (g.W.Sink.state c.put.new.out)) (c.bytes.ensures.value ∙ c.accepted_table.ensures) c.in-Err-put.ensures)
     ))

@@ -1,0 +1,6 @@
+// Devices in memory that can fail at a chosen call, for the tests.
+#![tactic(auto)]
+
+mod devices;
+
+pub use devices::{Bytes, Taken};
