@@ -1,0 +1,4 @@
+pub mod CoveringLemmas
+pub mod Lists
+pub mod OrderedLists
+pub mod ProgramLemmas

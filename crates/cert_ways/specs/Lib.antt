@@ -1,0 +1,3 @@
+-- The definitions of the ways that lead on from a row, of paying, and of walks.
+pub mod Pays
+pub mod Ways

@@ -1,0 +1,2 @@
+-- The definition of what an NMI routine gives back.
+pub mod Lost
