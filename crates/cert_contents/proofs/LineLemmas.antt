@@ -32,7 +32,7 @@ takes_whole old new text line (Err (faults.Line n)) (form, short, fields) takes 
 )
 takes_whole old new text line (Err faults.Limit) (form, short, fields) takes = (line, form, fields, takes.1, takes.2)
 takes_whole old new text line (Err faults.NoMemory) (form, short, fields) takes =
-    (line, form, fields, takes.1, takes.2, takes.3)
+    (line, form, fields, takes.1, takes.2, takes.3, takes.4)
 
 -- a row at this place that has too many parts was read, which may come next or not
 pub takes_crowded : (T : Type 0) (old new : Progress) (text : List ℕ) (place : Place) (fault : CertFault) → IsProgress old →

@@ -8,26 +8,31 @@ use Rattle.cert_lines.specs.declared.line.Line.{Line}
 use Rattle.cert_order.specs.Contents.{Contents, IsInForm}
 use Rattle.cert_order.specs.Text.{BeginsWith, IsFirstBadLine, IsReadable, IsShortText, LINE_LIMIT, lines_of, text_of_lines}
 use Rattle.cert_order.specs.Reader.{Progress, MayFollow, lines_read}
-use Rattle.cert_order.proofs.Completes.{completes, completion_begins, completion_in_form, completion_within}
+use Rattle.cert_order.proofs.Completes.{IsCompletion, completes, completion_begins, completion_in_form, completion_within}
 use Rattle.cert_order.proofs.Cuts.{LinesAreTold, fields_again, split_line}
 use Rattle.cert_order.proofs.Lists.{all_at, all_front}
 use Rattle.cert_order.proofs.Order.{ordered}
 use Rattle.cert_order.proofs.Texts.{HasLine, HasLongLine, HasNext, Stands, next_line}
 use Rattle.texts.specs.Fields.{fields_in}
 
--- the lines before the next one begin a certificate in form
+-- the lines before the next one begin a completion of them
+abbrev pub begun_by : (bytes : List ℕ) (p : Progress) (rest : List ℕ) → Stands bytes p rest → (c : Contents) → IsCompletion p c →
+    BeginsWith IsInForm (length (lines_read p)) bytes
+begun_by bytes p rest stands c is = record {
+  certificate = c;
+  form = completion_in_form p c stands.form is;
+  within = completion_within p c is;
+  rest = rest;
+  begins = stands.text ∙ ap (λ v. text_of_lines v (lines_read p) ++ rest) (sym is.version)
+      ∙ ap (λ ls. text_of_lines c.version ls ++ rest) (sym (completion_begins p c is));
+}
+
+-- so they begin a certificate in form
 pub begins_before : (bytes : List ℕ) (p : Progress) (rest : List ℕ) → Stands bytes p rest →
     BeginsWith IsInForm (length (lines_read p)) bytes
 begins_before bytes p rest stands =
     let whole = completes p (ordered p stands.form) in
-    record {
-      certificate = whole.0;
-      form = completion_in_form p whole.0 stands.form whole.1;
-      within = completion_within p whole.0 whole.1;
-      rest = rest;
-      begins = stands.text ∙ ap (λ v. text_of_lines v (lines_read p) ++ rest) (sym whole.1.version)
-          ∙ ap (λ ls. text_of_lines whole.0.version ls ++ rest) (sym (completion_begins p whole.0 whole.1));
-    }
+    begun_by bytes p rest stands whole.0 whole.1
 
 pub begins_before_next : (bytes : List ℕ) (p : Progress) (rest : List ℕ) → Stands bytes p rest →
     BeginsWith IsInForm (suc (length (lines_read p)) - 1) bytes

@@ -3,6 +3,7 @@ pub mod BadLines
 pub mod Completes
 pub mod Cuts
 pub mod GoesOn
+pub mod Heads
 pub mod Lists
 pub mod Order
 pub mod OrderOfLists

@@ -120,6 +120,15 @@ HasRoom c (lines.Cell cell) = length c.cells < 256
 HasRoom c (lines.Row row) = length c.rows < 65535
 HasRoom c _ = Unit {0}
 
+-- the line belongs to a list, for which memory is taken
+abbrev pub IsListed : Line → Type 0
+IsListed (lines.Proc proc) = Unit {0}
+IsListed (lines.Split split) = Unit {0}
+IsListed (lines.Inline address) = Unit {0}
+IsListed (lines.Cell cell) = Unit {0}
+IsListed (lines.Row row) = Unit {0}
+IsListed _ = ⊥
+
 -- with this line no certificate goes on behind these lines
 abbrev pub NoneGoesOn : List Line → Line → Type 0
 NoneGoesOn before line = (c : Contents) → IsReadable c → take (suc (length before)) (lines_of c) ≢ before ++ line ∷ []
@@ -129,7 +138,8 @@ abbrev pub TakesLine : {T : Type 0} → Progress → Line → Result T CertFault
 TakesLine old line (Ok _) new = (lines_read new ≡ lines_read old ++ line ∷ []) × IsProgress new
 TakesLine old line (Err (faults.Line n)) new = (n ≡ suc (length (lines_read old))) × (IsLine old.contents.version line → MayFollow old line → ⊥)
 TakesLine old line (Err faults.Limit) new = IsLine old.contents.version line × MayFollow old line × ((IsShortLine line × HasRoom old.contents line) → ⊥)
-TakesLine old line (Err faults.NoMemory) new = IsLine old.contents.version line × MayFollow old line × IsShortLine line × HasRoom old.contents line
+TakesLine old line (Err faults.NoMemory) new =
+    IsLine old.contents.version line × MayFollow old line × IsShortLine line × HasRoom old.contents line × IsListed line
 
 -- a row at this place, in form by itself, may come next: of a procedure and with armed cells that there are, and not before the last row
 pub record MayStandAt (p : Progress) (place : Place) : Type 0 where
@@ -153,7 +163,7 @@ TakesText old text (Err (faults.Line n)) new = (n ≡ suc (length (lines_read ol
 TakesText old text (Err faults.Limit) new = (line : Line) × IsLine old.contents.version line × (fields_in text ≡ fields_of old.contents.version line)
     × MayFollow old line × ((IsShortLine line × HasRoom old.contents line) → ⊥)
 TakesText old text (Err faults.NoMemory) new = (line : Line) × IsLine old.contents.version line × (fields_in text ≡ fields_of old.contents.version line)
-    × MayFollow old line × IsShortLine line × HasRoom old.contents line
+    × MayFollow old line × IsShortLine line × HasRoom old.contents line × IsListed line
 
 -- the certificate of the lines that were read, or lines of it are missing
 abbrev pub Ends : Progress → Result Contents CertFault → Type 0

@@ -68,3 +68,9 @@ pub record HasTooMany (bytes : List ℕ) : Type 0 where
   pub before : BeginsWith IsInForm (number - 1) bytes
   pub readable : BeginsWith IsReadable number bytes
   pub many : BeginsWith IsInForm number bytes → ⊥
+
+-- the bytes begin with the lines of a certificate in form up to its budget, behind which come the lists that memory is taken for
+pub record HasHead (bytes : List ℕ) : Type 0 where
+  pub number : ℕ
+  pub begins : BeginsWith IsInForm number bytes
+  pub head : length (head_lines begins.certificate) ≤ number

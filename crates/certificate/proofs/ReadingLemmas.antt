@@ -3,11 +3,12 @@ use Rattle.std.proofs.Common.{◌≡◌, ◌≢◌, ◌<◌, ◌==◌, ℕ, suc,
 use Rattle.std.specs.List.{slice_split}
 use Rattle.std.proofs.lemmas.List.{nil_from_length}
 use Rattle.cert_order.specs.Contents.{Contents, IsInForm}
-use Rattle.cert_order.specs.Text.{HasTooMany, IsFirstBadLine, LINE_LIMIT, text_of}
+use Rattle.cert_order.specs.Text.{HasHead, HasTooMany, IsFirstBadLine, LINE_LIMIT, text_of}
 use Rattle.cert_order.specs.Reader.{Ends, Progress, TakesText, lines_read}
 use Rattle.cert_order.specs.declared.fault.CertFault.{CertFault}
 use Rattle.cert_order.specs.declared.fault.CertFault.TheVariants as faults
 use Rattle.cert_order.proofs.BadLines.{bad_line, long_line, missing_line}
+use Rattle.cert_order.proofs.Heads.{has_head}
 use Rattle.cert_order.proofs.Texts.{HasLine, HasLongLine, Stands}
 use Rattle.cert_order.proofs.Told.{told}
 use Rattle.cert_order.proofs.TooMany.{too_many}
@@ -17,12 +18,12 @@ use Rattle.cert_order.proofs.WholeTexts.{found_whole, only_ended, only_no_bad_li
 abbrev pub IsNoText : List ℕ → Type 0
 IsNoText bytes = (c : Contents) → IsInForm c → bytes ≡ text_of c → ⊥
 
--- the answer to a text: the certificate that has it, or why none has; nothing is said of it where memory was refused
+-- the answer to a text: the certificate that has it, or why none has; memory is refused behind the budget alone
 abbrev pub IsAnswer : List ℕ → Result Contents CertFault → Type 0
 IsAnswer bytes (Ok c) = IsInForm c × (bytes ≡ text_of c)
 IsAnswer bytes (Err (faults.Line n)) = IsFirstBadLine n bytes × IsNoText bytes
 IsAnswer bytes (Err faults.Limit) = HasTooMany bytes × IsNoText bytes
-IsAnswer bytes (Err faults.NoMemory) = Unit {0}
+IsAnswer bytes (Err faults.NoMemory) = HasHead bytes
 
 -- an answer finds a certificate in form that has the text
 pub answer_found : (bytes : List ℕ) (r : Result Contents CertFault) → IsAnswer bytes r →
@@ -49,6 +50,11 @@ pub answer_limit : (bytes : List ℕ) (r : Result Contents CertFault) → IsAnsw
     HasTooMany bytes
 answer_limit bytes r is e = (subst (IsAnswer bytes) e is).0
 
+-- or that memory was refused for a list
+pub answer_memory : (bytes : List ℕ) (r : Result Contents CertFault) → IsAnswer bytes r → r ≡ Err faults.NoMemory →
+    HasHead bytes
+answer_memory bytes r is e = subst (IsAnswer bytes) e is
+
 -- what the test for an empty rest tells
 pub bytes_left : (rest : List ℕ) (empty : Bool) → empty ≡ (length rest == 0) → empty ≡ false → rest ≢ []
 bytes_left rest empty is not none = let no = is ∙ ap (λ xs. length xs == 0) none in cc
@@ -68,7 +74,8 @@ refused T bytes p new rest text after faults.Limit stands next short takes = (
   too_many told bytes p rest text after takes.0 stands next short takes.1 takes.2 takes.3 takes.4,
   only_not_too_many told bytes p rest text after takes.0 stands next takes.1 takes.2 takes.4,
 )
-refused T bytes p new rest text after faults.NoMemory stands next short takes = tt
+refused T bytes p new rest text after faults.NoMemory stands next short takes =
+    has_head bytes p rest takes.0 stands takes.3 takes.6
 
 -- the next line is too long
 pub too_long : (bytes : List ℕ) (p : Progress) (rest : List ℕ) (fault : CertFault) → Stands bytes p rest →

@@ -2,7 +2,7 @@
 
 ghost use Rattle.std.specs.Prelude.{◌≡◌, ℕ, IfOk, IsOkUnless};
 ghost use Rattle.cert_order.specs.Contents.{Contents, IsInForm};
-ghost use Rattle.cert_order.specs.Text.{HasTooMany, IsFirstBadLine, text_of};
+ghost use Rattle.cert_order.specs.Text.{HasHead, HasTooMany, IsFirstBadLine, text_of};
 
 use cert_contents::{Certificate, Reader};
 use cert_order::CertFault;
@@ -19,7 +19,7 @@ pub(crate) const LONGEST_LINE: usize = 1_048_575;
 /// Bytes that are no certificate's text give the fault that is met first, line by line: `Line` with the number of the first line, counted
 /// from 1, with which the lines begin no certificate, or `Limit` where this line is in form, but for a count above its limit. A missing
 /// line, or one without its LF, counts as such a line, and so does anything behind the last line. `NoMemory` is given where memory was
-/// refused.
+/// refused for a line of a list, and these come behind the budget.
 pub fn read(alloc: Global, bytes: &[u8]) -> Result<Certificate, CertFault>
     // What is read is in form, and the bytes are its text.
     ensures found { IfOk result (λ c. IsInForm c × (bytes.now ≡ text_of c)) }
@@ -28,6 +28,8 @@ pub fn read(alloc: Global, bytes: &[u8]) -> Result<Certificate, CertFault>
     // Which fault other bytes give.
     ensures line { (n : ℕ) → result ≡ Err (CertFault.Line n) → IsFirstBadLine n bytes.now }
     ensures limit { result ≡ Err CertFault.Limit → HasTooMany bytes.now }
+    // Memory is asked for lists alone, which come behind the budget.
+    ensures memory { result ≡ Err CertFault.NoMemory → HasHead bytes.now }
 {
     let mut reader = Reader::new(alloc);
     let mut rest = bytes;

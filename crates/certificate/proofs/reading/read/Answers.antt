@@ -2,7 +2,7 @@ use Rattle.std.proofs.Common.{◌≡◌, ◌≢◌, [], Err, arith}
 use Rattle.std.proofs.lemmas.Result.{err_from_is_err_and}
 use Rattle.cert_order.proofs.BadLines.{long_from_line}
 use Rattle.cert_order.proofs.Texts.{HasLine, stands_first, stands_next}
-use Rattle.certificate.proofs.ReadingLemmas.{answer_found, answer_limit, answer_line, answer_only, bytes_left, ended, no_bytes_left, refused, too_long, unended}
+use Rattle.certificate.proofs.ReadingLemmas.{answer_found, answer_limit, answer_line, answer_memory, answer_only, bytes_left, ended, no_bytes_left, refused, too_long, unended}
 use Rattle.certificate.proofs.reading.read.Goals as goal
 
 pub loop-line-init : goal.loop-line-init
@@ -41,6 +41,12 @@ returns-in_err-line-clause-limit c =
     let p = err_from_is_err_and c.from_residual.result c.from_residual.ensures.1 in
     let next : HasLine c.loop-line.rest.now c.in-Some.line.now c.in-Some.after.now = record { text = c.in-Some.ensures.cut; parts = c.in-Some.ensures.parts } in
     rw (p.1, p.2) (answer_limit c.args.bytes.now (Err c.in_err-line.field-0.0) (refused (Unit {0}) _ c.loop-line.reader c.line.new.self _ _ _ _ c.loop-line.invariant next (omega (arith, c.if-line-gt-LONGEST_LINE.false)) c.in_err-line.ensures.line))
+
+pub returns-in_err-line-clause-memory : goal.returns-in_err-line-clause-memory
+returns-in_err-line-clause-memory c =
+    let p = err_from_is_err_and c.from_residual.result c.from_residual.ensures.1 in
+    let next : HasLine c.loop-line.rest.now c.in-Some.line.now c.in-Some.after.now = record { text = c.in-Some.ensures.cut; parts = c.in-Some.ensures.parts } in
+    rw (p.1, p.2) (answer_memory c.args.bytes.now (Err c.in_err-line.field-0.0) (refused (Unit {0}) _ c.loop-line.reader c.line.new.self _ _ _ _ c.loop-line.invariant next (omega (arith, c.if-line-gt-LONGEST_LINE.false)) c.in_err-line.ensures.line))
 
 pub returns-then-not-is_empty-clause-only : goal.returns-then-not-is_empty-clause-only
 returns-then-not-is_empty-clause-only c =
