@@ -1,5 +1,5 @@
 -- The lines up to the budget were read before any line of a list.
-use Rattle.std.proofs.Common.{◌≡◌, ◌≤◌, ◌+◌, ℕ, ◌∷◌, [], ◌++◌, List, length, refl, sym, ap, ◌∙◌, arith, length-append}
+use Rattle.std.proofs.Common.{◌≡◌, ◌≤◌, ℕ, ◌∷◌, [], List, length, refl, ap, ◌∙◌, arith, length-append}
 use Rattle.cert_lines.specs.declared.line.Line.{Line}
 use Rattle.cert_lines.specs.declared.line.Line.TheVariants as lines
 use Rattle.cert_lines.specs.declared.version.BoardMap.{BoardMap}
@@ -31,7 +31,9 @@ length_head c d same suits_c suits_d =
     let boards = length_board d.version c.board d.board (λ old. galaxian c.version c suits_c (same ∙ old)) (galaxian d.version d suits_d) in
     let first = ap (λ v. length (board_lines v c.board)) same in
     omega (
-      arith, boards, first,
+      arith,
+      boards,
+      first,
       length-append (board_lines c.version c.board) (lines.Stack c.region ∷ lines.Budget c.budget ∷ []),
       length-append (board_lines d.version d.board) (lines.Stack d.region ∷ lines.Budget d.budget ∷ []),
     )
@@ -60,7 +62,9 @@ has_head bytes p rest line stands may is =
       number = length (lines_read p);
       begins = begun_by bytes p rest stands whole.0 whole.1;
       head = omega (
-        arith, same, ap length (at_lists p.stage p.contents rank.0 rank.1),
+        arith,
+        same,
+        ap length (at_lists p.stage p.contents rank.0 rank.1),
         length-append (head_lines p.contents) (list_lines p.contents),
       );
     }

@@ -6,8 +6,8 @@ ghost use Rattle.cert_order.specs.Text.{HasTooMany, IsFirstBadLine, text_of};
 ghost use Rattle.certificate.specs.Pieces.{GivesAll, IsReadUnless, OfBytes, read_fault};
 ghost use Rattle.texts.specs.Device.{HasFailed, IsQuiet};
 
-use cert_contents::{Certificate, Reader};
 use crate::reading::LONGEST_LINE;
+use cert_contents::{Certificate, Reader};
 use cert_order::CertFault;
 use std::alloc::Global;
 use texts::{Incoming, LineEnd, LineFault, Source};

@@ -6,12 +6,7 @@ use std::alloc::{AllocError, Global};
 use std::test::Fail;
 
 /// A text with one of its lines, counted from 1, replaced.
-fn with_line(
-    alloc: Global,
-    text: &str,
-    number: usize,
-    line: &str,
-) -> Result<String, AllocError> {
+fn with_line(alloc: Global, text: &str, number: usize, line: &str) -> Result<String, AllocError> {
     let mut changed = String::new(alloc);
     for (place, own) in text.split_terminator('\n').enumerate() {
         changed.push_str(if place + 1 == number { line } else { own })?;
@@ -55,11 +50,19 @@ fn of_version_1(rt: HostRuntime) -> Result<(), Fail> {
         (6, 6, "row 0 0000 u * * * * * * * * * * * - - - -"),
         (6, 6, "row 1 0000 u * * * * * * * * * * - - - -"),
         (6, 6, "row 0 0000 u 0 * * * * * * * * * * - - - -"),
-        (6, 6, "row 0 0000 u 0000-FFFF:00-FF:00-FF * * * * * * * * * - - - -"),
+        (
+            6,
+            6,
+            "row 0 0000 u 0000-FFFF:00-FF:00-FF * * * * * * * * * - - - -",
+        ),
         (6, 6, "row 0 0000 s * * * * * * * * * * - - - 20+0*A"),
         (6, 6, "row 0 0000 s * * * * * * * * * * - - - -0"),
         (6, 6, "row 0 0000 s * * * * * * * * * * - - - 1+1*s0"),
-        (8, 7, "row 0 0003 s * * * * * * * * * * - - - -\nrow 0 0002 s * * * * * * * * * * - - - -"),
+        (
+            8,
+            7,
+            "row 0 0003 s * * * * * * * * * * - - - -\nrow 0 0002 s * * * * * * * * * * - - - -",
+        ),
         (8, 8, "end "),
         (8, 8, ""),
     ];
@@ -113,7 +116,12 @@ fn proper_beginnings(rt: HostRuntime) {
 
 #[test]
 fn behind_the_end(rt: HostRuntime) -> Result<(), Fail> {
-    for more in ["x", "\n", "end\n", "row 0 0003 s * * * * * * * * * * - - - -\n"] {
+    for more in [
+        "x",
+        "\n",
+        "end\n",
+        "row 0 0003 s * * * * * * * * * * - - - -\n",
+    ] {
         let mut text = String::from_str(rt.alloc(), JUMP)?;
         text.push_str(more)?;
         let fault = read(rt.alloc(), text.as_bytes()).err();

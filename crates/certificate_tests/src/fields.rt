@@ -2,7 +2,7 @@
 
 use crate::samples::{EVERY_FORM, ROUTINE};
 use abs_state::{FlagFact, Mode};
-use certificate::{BoardMap, Certificate, CertFault, ProcKind, Version, read};
+use certificate::{BoardMap, CertFault, Certificate, ProcKind, Version, read};
 use intervals::{Pair, RegPair};
 use loop_bounds::{Linear, Part, SlotNumber, Variable};
 use z80_decode::Register8;
@@ -23,8 +23,18 @@ fn numbers_of(certificate: &Certificate) -> (u16, u16, u16, Option<u16>, u32) {
 fn of_the_whole(rt: HostRuntime) -> Result<(), CertFault> {
     let one = read(rt.alloc(), ROUTINE.as_bytes())?;
     let two = read(rt.alloc(), EVERY_FORM.as_bytes())?;
-    assert!(rt; matches!((one.version(), one.board()), (Version::One, BoardMap::Galaxian)));
-    assert!(rt; matches!((two.version(), two.board()), (Version::Two, BoardMap::Raised)));
+    assert!(rt;
+        matches!(
+            (one.version(), one.board()),
+            (Version::One, BoardMap::Galaxian)
+        )
+    );
+    assert!(rt;
+        matches!(
+            (two.version(), two.board()),
+            (Version::Two, BoardMap::Raised)
+        )
+    );
     assert!(rt; numbers_of(&one) == (109, 0x4380, 0x4400, Some(50_665), 9));
     assert!(rt; numbers_of(&two) == (300, 0x8380, 0x83FE, Some(7_000), 5));
     Ok(())
@@ -185,7 +195,9 @@ fn of_facts(rt: HostRuntime) -> Result<(), CertFault> {
     let (Some(third), Some(last)) = (fact_of(&c, 2, 2), fact_of(&c, 4, 0)) else {
         return Err(CertFault::Limit);
     };
-    assert!(rt; has_slot(&third, 0, 1, 0, Part::High) && has_slot(&third, 1, -1_000_000, 1, Part::Low));
+    assert!(rt;
+        has_slot(&third, 0, 1, 0, Part::High) && has_slot(&third, 1, -1_000_000, 1, Part::Low)
+    );
     assert!(rt; last.constant() == 1 && has_term(&last, 0, -2, Variable::E));
     assert!(rt; fact_of(&c, 2, 3).is_none() && fact_of(&c, 0, 0).is_none() && c.facts(5).is_none());
     Ok(())

@@ -48,7 +48,9 @@ fn procedures(rt: HostRuntime) -> Result<(), Fail> {
     assert!(rt; answered(alloc, "proc sub", 0, 1_023, " 0 2 -", "end\n")? == Ok(()));
     assert!(rt; answered(alloc, "proc sub", 0, 1_024, " 0 2 -", "")? == Err(CertFault::Limit));
     let falling = "proc sub 0000 0 2 -\n";
-    assert!(rt; answered(alloc, "proc sub", 0, 1_023, " 0 2 -", falling)? == Err(CertFault::Line(1_030)));
+    assert!(rt;
+        answered(alloc, "proc sub", 0, 1_023, " 0 2 -", falling)? == Err(CertFault::Line(1_030))
+    );
     Ok(())
 }
 

@@ -3,7 +3,9 @@
 use crate::samples::{EVERY_FORM, JUMP, ROUTINE};
 use abs_state::KeptCell;
 use address_map::Region;
-use certificate::{BoardMap, CertFault, Certificate, Parts, Proc, ProcKind, Row, Split, Version, read, write};
+use certificate::{
+    BoardMap, CertFault, Certificate, Parts, Proc, ProcKind, Row, Split, Version, read, write,
+};
 use intervals::ByteRange;
 use memory_devices::Taken;
 use std::alloc::{AllocError, Global};
@@ -88,7 +90,10 @@ fn plain_parts(alloc: Global, version: Version, board: BoardMap) -> Result<Parts
         version,
         rom_len: 6,
         board,
-        region: Region { low: 0x4380, top: 0x4400 },
+        region: Region {
+            low: 0x4380,
+            top: 0x4400,
+        },
         budget: None,
         procs,
         splits: Vec::new(alloc),
@@ -113,7 +118,10 @@ fn of_an_old_version(rt: HostRuntime) -> Result<(), Fail> {
     let new = plain_parts(alloc, Version::Two, BoardMap::Raised)?;
     assert!(rt; fault_of(alloc, new).is_none());
     let mut celled = plain_parts(alloc, Version::One, BoardMap::Galaxian)?;
-    celled.cells.push(KeptCell { at: 0x4000, range: ByteRange::full() })?;
+    celled.cells.push(KeptCell {
+        at: 0x4000,
+        range: ByteRange::full(),
+    })?;
     assert!(rt; fault_of(alloc, celled) == Some(CertFault::Line(6)));
     Ok(())
 }
@@ -131,7 +139,11 @@ fn out_of_order(rt: HostRuntime) -> Result<(), Fail> {
     falling.inlines.extend_from_slice(&[9, 8])?;
     assert!(rt; fault_of(alloc, falling) == Some(CertFault::Line(8)));
     let mut foreign = plain_parts(alloc, Version::Two, BoardMap::Galaxian)?;
-    foreign.splits.push(Split { proc: 1, address: 3, register: z80_decode::Register8::B })?;
+    foreign.splits.push(Split {
+        proc: 1,
+        address: 3,
+        register: z80_decode::Register8::B,
+    })?;
     assert!(rt; fault_of(alloc, foreign) == Some(CertFault::Line(7)));
     Ok(())
 }

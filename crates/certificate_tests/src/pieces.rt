@@ -37,7 +37,10 @@ fn proper_beginnings(rt: HostRuntime) {
     let bytes = JUMP.as_bytes();
     let mut line = 1;
     for (len, byte) in bytes.iter().enumerate() {
-        assert!(rt; fault_in(rt.alloc(), &bytes[..len], 3) == Some(ReadFault::Line(line)), "of {len} bytes");
+        assert!(rt;
+            fault_in(rt.alloc(), &bytes[..len], 3) == Some(ReadFault::Line(line)),
+            "of {len} bytes"
+        );
         if *byte == b'\n' {
             line = line.wrapping_add(1);
         }
