@@ -1,9 +1,11 @@
 -- No two variables have the same name.
-use Rattle.std.proofs.Common.{◌≡◌, ◌<◌, ◌^◌, ◌==◌, ◌+◌, ◌*◌, ◌⊎◌, ℕ, List, [], ◌∷◌, ◌++◌, get_or, refl, sym, ap, subst, ◌∙◌, inl, inr, arith}
+use Rattle.std.proofs.Common.{◌≡◌, ◌≢◌, ◌<◌, ◌^◌, ◌==◌, ◌+◌, ◌*◌, ◌⊎◌, ℕ, List, [], ◌∷◌, ◌++◌, get_or, refl, sym, ap, subst, ◌∙◌, inl, inr, arith}
 use Rattle.std.proofs.lemmas.Fmt.{decimal_injective}
 use Rattle.std.proofs.lemmas.List.{append-nil}
 use Rattle.std.specs.Fmt.{decimal}
+use Rattle.std.specs.Prelude.{Option, Some, None, MatchOption}
 use Rattle.std.specs.List.{position_or_len}
+use Rattle.texts.specs.Numbers.{Reads}
 use Rattle.loop_bounds.specs.declared.variable.Part.{Part}
 use Rattle.loop_bounds.specs.declared.variable.Part.TheVariants as parts
 use Rattle.loop_bounds.specs.declared.variable.Variable.{Variable}
@@ -88,3 +90,20 @@ by_kind v w small too e (inr (n, p, is)) (inr (m, q, also)) =
 
 pub variable_name_injective : (v w : Variable) → IsBelow (2 ^ 64) v → IsBelow (2 ^ 64) w → variable_name v ≡ variable_name w → v ≡ w
 variable_name_injective v w small too e = by_kind v w small too e (plain_or_slot v) (plain_or_slot w)
+
+below_wider : (v : Variable) → IsBelow 64 v → IsBelow (2 ^ 64) v
+below_wider (Slot number part) small = omega (arith, small)
+below_wider _ small = tt
+
+-- a text that names a slot beyond a shape names no other variable
+pub names_no_other : (field : List ℕ) (named : Variable) → IsBelow (2 ^ 64) named → field ≡ variable_name named →
+    (IsBelow 64 named → ⊥) → (v : Variable) → IsBelow 64 v → field ≢ variable_name v
+names_no_other field named small is beyond v within also =
+    beyond (subst (IsBelow 64) (variable_name_injective v named (below_wider v within) small (sym also ∙ is)) within)
+
+-- the variable of a name, where its slot is within the shapes
+pub reads_in_shape : (field : List ℕ) (named : Variable) (result : Option Variable) →
+    Reads variable_name (IsBelow (2 ^ 64)) field (Some named) →
+    MatchOption result (¬ IsBelow 64 named) (λ v. (v ≡ named) × IsBelow 64 v) → Reads variable_name (IsBelow 64) field result
+reads_in_shape field named None reads beyond = λ v within. names_no_other field named reads.0 reads.1 beyond v within
+reads_in_shape field named (Some v) reads is = (is.1, reads.1 ∙ ap variable_name (sym is.0))

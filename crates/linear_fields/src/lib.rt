@@ -13,3 +13,4 @@ pub use counted::Counted;
 pub use linear::{linear_field, potential_field};
 pub use linear_spelling::{add_linear, add_potential};
 pub use values::{is_linear, stays_within};
+pub use variable::variable_field;

@@ -5,7 +5,7 @@ ghost use Rattle.linear_fields.specs.Linear.{sign_of, term_text};
 ghost use Rattle.linear_fields.specs.Terms.{IsCutAtSign, IsTerm, is_sign, term_of};
 ghost use Rattle.texts.specs.Numbers.{Reads};
 
-use crate::variable::{NamedVariable, variable_field};
+use crate::variable::{NamedVariable, named_variable_field};
 use texts::{decimal_between, split_once};
 
 /// The greatest size of a coefficient.
@@ -57,6 +57,6 @@ pub(crate) fn term_field(sign: u8, body: &[u8]) -> Option<(i32, NamedVariable)>
     let (digits, name) = split_once(body, b'*')?;
     let size = decimal_between(digits, 1, GREATEST_COEFFICIENT)?;
     let coefficient = signed(sign, size)?;
-    let variable = variable_field(name)?;
+    let variable = named_variable_field(name)?;
     Some((coefficient, variable))
 }

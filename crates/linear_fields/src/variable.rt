@@ -58,8 +58,8 @@ fn split_part(text: &[u8]) -> (&[u8], Part)
     (text, Part::Word)
 }
 
-/// A variable of this name.
-pub(crate) fn variable_field(field: &[u8]) -> Option<NamedVariable>
+/// A variable of this name, whose slot may be beyond any shape.
+pub(crate) fn named_variable_field(field: &[u8]) -> Option<NamedVariable>
     ensures { Reads variable_name (IsBelow (2 ^ 64)) field.now (option_map variable_of result) }
 {
     match field.split_first()? {
@@ -70,6 +70,13 @@ pub(crate) fn variable_field(field: &[u8]) -> Option<NamedVariable>
         }
         _ => Some(NamedVariable::Register(register_variable_field(field)?)),
     }
+}
+
+/// The variable of a name: a register, a pair, a slot up to number 63, or a byte of one.
+pub fn variable_field(field: &[u8]) -> Option<Variable>
+    ensures { Reads variable_name (IsBelow 64) field.now result }
+{
+    named_variable_field(field)?.in_shape()
 }
 
 impl NamedVariable {
@@ -92,7 +99,7 @@ impl NamedVariable {
 
     /// The variable, or None for a slot from number 64 on.
     pub(crate) fn in_shape(self) -> Option<Variable>
-        ensures { MatchOption result (¬ IsBelow 64 (variable_of self)) (λ variable. variable ≡ variable_of self) }
+        ensures { MatchOption result (¬ IsBelow 64 (variable_of self)) (λ variable. (variable ≡ variable_of self) × IsBelow 64 variable) }
     {
         match self {
             NamedVariable::Register(variable) => Some(variable),

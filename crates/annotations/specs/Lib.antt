@@ -1,0 +1,2 @@
+-- The definitions of what annotations say.
+pub mod Said

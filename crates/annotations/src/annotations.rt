@@ -1,0 +1,213 @@
+// All that a programmer says of a ROM.
+
+ghost use Rattle.std.specs.Prelude.{◌≡◌, pos, IsUtf8, IfOk, IfSome, Err, None, Some, Ok, codes};
+ghost use Rattle.annotations.specs.Said.{Says, SaysBoard, SaysBudget, nmi_said};
+ghost use Rattle.toml.specs.Data.{Members, get_member, integer};
+ghost use Rattle.toml.specs.Parse.{parse_document};
+ghost use Rattle.toml.specs.View.{table_view};
+
+use crate::fault::{AnnotationFault, Wrong};
+use crate::lists::{cells, facts, inlines, loops, splits};
+use crate::notes::{FactNote, LoopNote, SplitNote};
+use crate::tables::{formed, member, unknown_key, value_at};
+use crate::values::word;
+use abs_state::KeptCell;
+use address_map::Region;
+use cert_lines::BoardMap;
+use std::alloc::Global;
+use std::marker::Model;
+use toml::Table;
+
+/// The greatest budget of T-states that annotations can ask for, so that no NMI comes while its routine runs.
+const BUDGET_LIMIT: u16 = 50_665;
+
+/// What is said of a ROM beside its bytes (docs/ANNOTATIONS.md).
+#[derive(Drop)]
+pub struct Annotations {
+    region: Region,
+    budget: Option<u16>,
+    board: BoardMap,
+    inlines: Vec<u16>,
+    splits: Vec<SplitNote>,
+    facts: Vec<FactNote>,
+    loops: Vec<LoopNote>,
+    cells: Vec<KeptCell>,
+}
+
+impl Model for Annotations {
+    ghost use Rattle.annotations.specs.Said.{Said};
+
+    ghost Value = { Said };
+
+    ghost view = { λ a. record { region = a.region; budget = a.budget; board = a.board } };
+}
+
+impl Annotations {
+    /// Reads annotations from a TOML text (docs/ANNOTATIONS.md). Memory is taken for the text's values and for the lists.
+    ///
+    /// # Errors
+    ///
+    /// `Text` where the bytes are not in UTF-8 or no TOML; else `Key` with the first key that is missing, whose value is of a wrong
+    /// form, or that annotations do not have: first those that they have, in the order of the table, then others in the order of their
+    /// bytes. `NoMemory` where memory was refused.
+    pub fn read(alloc: Global, text: &[u8]) -> Result<Annotations, AnnotationFault>
+        // What is said of the whole is what the document says.
+        ensures found { IfOk result (λ said. (members : Members) × (parse_document text.now ≡ Some members) × Says members said) }
+        // A text that is refused as such is none.
+        ensures text { result ≡ Err AnnotationFault.Text → IsUtf8 text.now → parse_document text.now ≡ None }
+    {
+        let table = match toml::table_from_slice(alloc, text) {
+            Ok(table) => table,
+            Err(error) if error.is_memory() => return Err(AnnotationFault::NoMemory),
+            Err(_) => return Err(AnnotationFault::Text),
+        };
+        let annotations = of_table(alloc, &table)?;
+        match unknown_key(&table) {
+            Some(key) => Err(bad_key(alloc, key.as_str())),
+            None => Ok(annotations),
+        }
+    }
+
+    /// The bytes that the stack may use.
+    pub fn region(&self) -> Region
+        ensures { result ≡ self.now.region }
+    {
+        self.region
+    }
+
+    /// The T-states that the NMI routine may take, 0 to 50,665; None where there is no such routine.
+    pub fn budget(&self) -> Option<u16>
+        ensures { result ≡ self.now.budget }
+    {
+        self.budget
+    }
+
+    /// The board's map.
+    pub fn board(&self) -> BoardMap
+        ensures { result ≡ self.now.board }
+    {
+        self.board
+    }
+
+    /// The addresses of inline calls, rising.
+    pub fn inlines(&self) -> &[u16] {
+        self.inlines.as_slice()
+    }
+
+    /// The splits, by rising address.
+    pub fn splits(&self) -> &[SplitNote] {
+        self.splits.as_slice()
+    }
+
+    /// The facts, by address, those of one address in the order in which they were written.
+    pub fn facts(&self) -> &[FactNote] {
+        self.facts.as_slice()
+    }
+
+    /// The loops, by rising address.
+    pub fn loops(&self) -> &[LoopNote] {
+        self.loops.as_slice()
+    }
+
+    /// The kept cells, by rising address.
+    pub fn cells(&self) -> &[KeptCell] {
+        self.cells.as_slice()
+    }
+}
+
+/// What the keys of a table say that annotations have.
+fn of_table(alloc: Global, table: &Table) -> Result<Annotations, AnnotationFault>
+    ensures found { IfOk result (Says (table_view table.now)) }
+    ensures text { result ≡ Err AnnotationFault.Text → ⊥ }
+{
+    let low = judged(alloc, "low", number(table, "low"))?;
+    let top = judged(alloc, "top", number(table, "top"))?;
+    let nmi = judged(alloc, "nmi", has_nmi(table))?;
+    let budget = judged(alloc, "budget", budget(table, nmi))?;
+    let board = board(table);
+    Ok(Annotations {
+        region: Region { low, top },
+        budget,
+        inlines: judged(alloc, "inline", inlines(alloc, table))?,
+        splits: judged(alloc, "split", splits(alloc, table))?,
+        facts: judged(alloc, "fact", facts(alloc, table))?,
+        loops: judged(alloc, "loop", loops(alloc, table))?,
+        cells: judged(
+            alloc,
+            "cell",
+            cells(alloc, table, board.unwrap_or(BoardMap::Galaxian)),
+        )?,
+        board: judged(alloc, "map", formed(board))?,
+    })
+}
+
+/// What a key says, or that it is wrong.
+fn judged<T>(alloc: Global, key: &str, read: Result<T, Wrong>) -> Result<T, AnnotationFault>
+    ensures found { IfOk result (λ value. read ≡ Ok value) }
+    ensures text { result ≡ Err AnnotationFault.Text → ⊥ }
+{
+    match read {
+        Ok(value) => Ok(value),
+        Err(Wrong::Form) => Err(bad_key(alloc, key)),
+        Err(Wrong::NoMemory) => Err(AnnotationFault::NoMemory),
+    }
+}
+
+/// The fault of a key.
+fn bad_key(alloc: Global, key: &str) -> AnnotationFault
+    ensures { result ≡ AnnotationFault.Text → ⊥ }
+{
+    match String::from_str(alloc, key) {
+        Ok(name) => AnnotationFault::Key(name),
+        Err(_) => AnnotationFault::NoMemory,
+    }
+}
+
+/// The number of a key, 0 to 65,535.
+fn number(table: &Table, key: &str) -> Result<u16, Wrong>
+    ensures { IfOk result (λ number. get_member key.now (table_view table.now) ≡ Some (integer (pos number))) }
+{
+    formed(word(member(table, key)?))
+}
+
+/// Whether there is an NMI routine; there is none where nothing is said of it.
+fn has_nmi(table: &Table) -> Result<bool, Wrong>
+    ensures { IfOk result (λ nmi. nmi_said (get_member (codes "nmi") (table_view table.now)) ≡ Some nmi) }
+{
+    match value_at(table, "nmi") {
+        Some(value) => formed(value.as_bool()),
+        None => Ok(false),
+    }
+}
+
+/// The budget of the NMI routine, which is there exactly if the routine is.
+fn budget(table: &Table, nmi: bool) -> Result<Option<u16>, Wrong>
+    requires { nmi_said (get_member (codes "nmi") (table_view table.now)) ≡ Some nmi }
+    ensures { IfOk result (SaysBudget (table_view table.now)) }
+{
+    if nmi {
+        let budget = number(table, "budget")?;
+        if budget > BUDGET_LIMIT {
+            return Err(Wrong::Form);
+        }
+        return Ok(Some(budget));
+    }
+    match value_at(table, "budget") {
+        Some(_) => Err(Wrong::Form),
+        None => Ok(None),
+    }
+}
+
+/// The map that is named, or None where no map is so called; without a name it is the Galaxian's.
+fn board(table: &Table) -> Option<BoardMap>
+    ensures { IfSome result (SaysBoard (table_view table.now)) }
+{
+    match value_at(table, "map") {
+        Some(value) => match value.as_str() {
+            Some("galaxian") => Some(BoardMap::Galaxian),
+            Some("raised") => Some(BoardMap::Raised),
+            _ => None,
+        },
+        None => Some(BoardMap::Galaxian),
+    }
+}

@@ -1,0 +1,69 @@
+// The tables of a TOML text, and the keys that they may have.
+
+ghost use Rattle.std.specs.Prelude.{◌≡◌, Some, IfOk, option_map};
+ghost use Rattle.toml.specs.Data.{get_member};
+ghost use Rattle.toml.specs.View.{table_view, view};
+
+use crate::fault::Wrong;
+use toml::{Table, Value};
+
+/// The keys of annotations, in the order in which they are judged.
+pub(crate) const KEYS: [&str; 10] = [
+    "low", "top", "nmi", "budget", "inline", "split", "fact", "loop", "cell", "map",
+];
+
+/// The first key, in the order of its bytes, that annotations do not have.
+pub(crate) fn unknown_key(table: &Table) -> Option<&String> {
+    table.keys().find(|key| !is_known(key))
+}
+
+/// Whether annotations have a key of this name.
+fn is_known(key: &String) -> bool {
+    KEYS.contains(&key.as_str())
+}
+
+/// The table of a value that has just these keys.
+pub(crate) fn table_with<'a>(value: &'a Value, keys: &[&str]) -> Result<&'a Table, Wrong> {
+    let Some(table) = value.as_table() else {
+        return Err(Wrong::Form);
+    };
+    if table.len() != keys.len() {
+        return Err(Wrong::Form);
+    }
+    Ok(table)
+}
+
+/// The value of a key, if it is there.
+pub(crate) fn value_at<'a>(table: &'a Table, key: &str) -> Option<&'a Value>
+    ensures { option_map (λ value. view value.now) result ≡ get_member key.now (table_view table.now) }
+{
+    table.get(key)
+}
+
+/// The value of a key, which must be there.
+pub(crate) fn member<'a>(table: &'a Table, key: &str) -> Result<&'a Value, Wrong>
+    ensures { IfOk result (λ value. get_member key.now (table_view table.now) ≡ Some (view value.now)) }
+{
+    formed(value_at(table, key))
+}
+
+/// The elements of the array of a key, none where there is no such key.
+pub(crate) fn items<'a>(table: &'a Table, key: &str) -> Result<&'a [Value], Wrong> {
+    match value_at(table, key) {
+        Some(value) => match value.as_array() {
+            Some(items) => Ok(items.as_slice()),
+            None => Err(Wrong::Form),
+        },
+        None => Ok(&[]),
+    }
+}
+
+/// The value that was read, if it is of the right form.
+pub(crate) fn formed<T>(read: Option<T>) -> Result<T, Wrong>
+    ensures { IfOk result (λ value. read ≡ Some value) }
+{
+    match read {
+        Some(value) => Ok(value),
+        None => Err(Wrong::Form),
+    }
+}
