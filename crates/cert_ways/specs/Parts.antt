@@ -1,5 +1,5 @@
 -- The parts of going on, of paying and of walks: what is asked of one way on of a row, and of one row of a callee.
-use Rattle.std.specs.Prelude.{ℕ, ◌≡◌, ◌↔◌, ◌&&◌, Bool, false, List, Option, Some, None, Result, Ok, Err, Contains, IsSome, max}
+use Rattle.std.specs.Prelude.{ℕ, ◌≡◌, ◌↔◌, ◌&&◌, Bool, false, List, Option, Some, None, Result, Ok, Err, Contains, IsSome, max, slice_get}
 use Rattle.abs_state.specs.Entries.{callee_entry}
 use Rattle.abs_state.specs.declared.state.AbsState.{AbsState}
 use Rattle.abs_step.specs.Successors.{is_empty, is_return}
@@ -11,7 +11,7 @@ use Rattle.cert_cover.specs.Program.{callee_at}
 use Rattle.cert_cover.specs.declared.program.Callee.{Callee}
 use Rattle.cert_lines.specs.declared.row.Row.{Row}
 use Rattle.cert_order.specs.Contents.{Contents}
-use Rattle.cert_ways.specs.Pays.{Lands, PaysCall, PaysOut, PaysTo}
+use Rattle.cert_ways.specs.Pays.{IsAsked, Lands, PaysCall, PaysOut, PaysTo}
 use Rattle.cert_ways.specs.Ways.{Subject, IsNumbered, IsExit, Way, call_cost, entry_of, jump_way, nexts_from, return_way}
 use Rattle.z80_decode.specs.declared.fault.DecodeFault.{DecodeFault}
 use Rattle.z80_decode.specs.declared.instr.Instr.{Instr}
@@ -49,16 +49,34 @@ abbrev pub OnExit : (AbsState → Type 0) → Next → Type 0
 OnExit Holds next = next.kind ≡ Exit → Holds next.state
 
 -- this holds of each exit of the row of a number, in the certificate of another row
-abbrev pub AtEachExit : Subject → ℕ → (AbsState → Type 0) → Type 0
-AtEachExit s number Holds = (exit : AbsState) → IsExitAt s.rom s.cert number exit → Holds exit
+pub record AtEachExit (s : Subject) (number : ℕ) (Holds : AbsState → Type 0) : Type 0 where
+  pub each : (exit : AbsState) → IsExitAt s.rom s.cert number exit → Holds exit
 
 -- this holds of each exit of a procedure, in the certificate of a row
-abbrev pub OnEachExit : Subject → ℕ → (AbsState → Type 0) → Type 0
-OnEachExit s proc Holds = (exit : AbsState) → IsExit s.rom s.cert proc exit → Holds exit
+pub record OnEachExit (s : Subject) (proc : ℕ) (Holds : AbsState → Type 0) : Type 0 where
+  pub each : (exit : AbsState) → IsExit s.rom s.cert proc exit → Holds exit
 
--- a procedure has no exit, in the certificate of a row
-abbrev pub HasNoExits : Subject → ℕ → Type 0
-HasNoExits s proc = (exit : AbsState) → IsExit s.rom s.cert proc exit → ⊥
+-- this holds of some exit of the row of a number
+pub record AtSomeExit (s : Subject) (number : ℕ) (Holds : AbsState → Type 0) : Type 0 where
+  pub exit : AbsState
+  pub at : IsExitAt s.rom s.cert number exit
+  pub holds : Holds exit
+
+-- this holds of some exit of a procedure
+pub record OnSomeExit (s : Subject) (proc : ℕ) (Holds : AbsState → Type 0) : Type 0 where
+  pub exit : AbsState
+  pub of : IsExit s.rom s.cert proc exit
+  pub holds : Holds exit
+
+-- this holds of some exit among some ways on
+pub record InSomeExit (nexts : List Next) (Holds : AbsState → Type 0) : Type 0 where
+  pub exit : AbsState
+  pub among : IsExitIn nexts exit
+  pub holds : Holds exit
+
+-- any exit will do
+abbrev pub AnyExit : AbsState → Type 0
+AnyExit exit = Unit {0}
 
 -- ---- going on
 
@@ -88,8 +106,12 @@ NextGoesOn cert s next = KindGoesOn cert s next next.kind
 -- ---- paying
 
 -- a row pays for a way, to each row that is asked where it arrives
-abbrev pub PaysWay : Subject → Way → Type 0
-PaysWay s way = (target : Row) → Lands s.cert way target → PaysTo s.row way.cost way.arrival.effect target
+pub record PaysWay (s : Subject) (way : Way) : Type 0 where
+  pub each : (target : Row) → Lands s.cert way target → PaysTo s.row way.cost way.arrival.effect target
+
+-- a row pays for a way to the row of a number, if that is asked
+pub record PaysToRow (s : Subject) (way : Way) (number : ℕ) : Type 0 where
+  pub asked : (row : Row) → slice_get s.cert.rows number ≡ Some row → IsAsked s.cert way row → PaysTo s.row way.cost way.arrival.effect row
 
 -- a row pays for the way back from a call, from this exit of its callee
 abbrev pub PaysReturn : Subject → Next → Callee → AbsState → Type 0
@@ -126,20 +148,19 @@ abbrev pub ExitLands : Subject → Next → Callee → Row → Next → Type 0
 ExitLands s next callee target exit = (exit.kind ≡ Exit) × ReturnLands s next callee target exit.state
 
 -- so many T-states lie between a row and another by a call of a procedure, or of none
-abbrev pub LiesByCall : Subject → Next → Row → ℕ → Option Callee → Type 0
-LiesByCall s next target cost None = ⊥
-LiesByCall s next target cost (Some callee) =
-    ((exit : AbsState) × IsExit s.rom s.cert callee.number exit × ReturnLands s next callee target exit) × (cost ≡ call_cost next callee)
+abbrev pub LiesByCall : Subject → Next → Row → Option Callee → ℕ → Type 0
+LiesByCall s next target None cost = ⊥
+LiesByCall s next target (Some callee) cost = OnSomeExit s callee.number (ReturnLands s next callee target) × (cost ≡ call_cost next callee)
 
 -- so many T-states lie between a row and another by a way on of a kind
-abbrev pub LiesByKind : Subject → Next → Row → ℕ → NextKind → Type 0
-LiesByKind s next target cost Jump = Lands s.cert (jump_way s next) target × (cost ≡ next.cost)
-LiesByKind s next target cost Call = LiesByCall s next target cost (callee_at s.cert next.address)
-LiesByKind s next target cost Exit = ⊥
+abbrev pub LiesByKind : Subject → Next → Row → NextKind → ℕ → Type 0
+LiesByKind s next target Jump cost = Lands s.cert (jump_way s next) target × (cost ≡ next.cost)
+LiesByKind s next target Call cost = LiesByCall s next target (callee_at s.cert next.address) cost
+LiesByKind s next target Exit cost = ⊥
 
 -- so many T-states lie between a row and another by a way on
 abbrev pub LiesBy : Subject → Row → Next → ℕ → Type 0
-LiesBy s target next cost = LiesByKind s next target cost next.kind
+LiesBy s target next cost = LiesByKind s next target next.kind cost
 
 -- so many T-states are the cost of an exit
 pub record CostsExit (next : Next) (cost : ℕ) : Type 0 where

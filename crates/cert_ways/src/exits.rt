@@ -1,11 +1,10 @@
 // The exits of a callee's rows.
 
 ghost use Rattle.std.specs.Prelude.{◌≡◌, ◌↔◌, IsTrue, MatchOption, Result};
-ghost use Rattle.abs_state.specs.declared.state.AbsState.{AbsState as State};
 ghost use Rattle.abs_step.specs.Successors.{is_return};
+ghost use Rattle.abs_step.specs.declared.next.NextKind.TheVariants.{Exit as Leaving};
 ghost use Rattle.board_step.specs.Decoded.{StandsAt};
-ghost use Rattle.cert_ways.specs.Parts.{HasExits, HasNoExit, IsExitAt, IsExitIn, may_leave};
-ghost use Rattle.cert_ways.specs.Ways.{IsExit};
+ghost use Rattle.cert_ways.specs.Parts.{AnyExit, AtSomeExit, HasExits, HasNoExit, InSomeExit, OnSomeExit, may_leave};
 ghost use Rattle.z80_decode.specs.declared.fault.DecodeFault.{DecodeFault as Fault};
 ghost use Rattle.z80_decode.specs.declared.instr.Instr.{Instr as Instruction};
 
@@ -28,6 +27,7 @@ impl<'a> Subject<'a> {
             return None;
         }
         let other = Subject::of(self.rom, self.map, self.certificate, id)?;
+        other.is_subject();
         match other.step(alloc) {
             Ok(nexts) => Some(nexts),
             Err(_) => None,
@@ -36,7 +36,7 @@ impl<'a> Subject<'a> {
 
     /// Whether a row of this number has an exit.
     fn row_has_exit(&self, alloc: Global, id: RowId) -> bool
-        ensures { IsTrue result ↔ ((exit : State) × IsExitAt self.now.rom self.now.cert id exit) }
+        ensures { IsTrue result ↔ AtSomeExit self.now id AnyExit }
     {
         match self.exits_at(alloc, id) {
             Some(nexts) => some_leaves(nexts.as_slice()),
@@ -46,7 +46,7 @@ impl<'a> Subject<'a> {
 
     /// Whether a procedure of the certificate has an exit.
     pub(crate) fn has_exit(&self, alloc: Global, proc: ProcId) -> bool
-        ensures { IsTrue result ↔ ((exit : State) × IsExit self.now.rom self.now.cert proc exit) }
+        ensures { IsTrue result ↔ OnSomeExit self.now proc AnyExit }
     {
         let rows = self.certificate.rows_of(proc);
         for id in rows.start..rows.end {
@@ -58,12 +58,22 @@ impl<'a> Subject<'a> {
     }
 }
 
+/// Whether a way on is an exit.
+fn leaves(next: &Next) -> bool
+    ensures { IsTrue result ↔ (next.now.kind ≡ Leaving) }
+{
+    match next.kind {
+        NextKind::Exit => true,
+        NextKind::Jump | NextKind::Call => false,
+    }
+}
+
 /// Whether some way on is an exit.
 fn some_leaves(nexts: &[Next]) -> bool
-    ensures { IsTrue result ↔ ((exit : State) × IsExitIn nexts.now exit) }
+    ensures { IsTrue result ↔ InSomeExit nexts.now AnyExit }
 {
     for next in nexts {
-        if next.kind == NextKind::Exit {
+        if leaves(next) {
             return true;
         }
     }

@@ -1,12 +1,12 @@
 // Whether a row pays for its ways on, for its calls and exits, and for its procedure's entry.
 
 ghost use Rattle.std.specs.List.{All};
-ghost use Rattle.std.specs.Prelude.{◌≡◌, ◌↔◌, IsSome, IsTrue, Ok, Some, slice_get};
+ghost use Rattle.std.specs.Prelude.{◌≡◌, ◌≤◌, ◌↔◌, IsSome, IsTrue, Ok, Some};
 ghost use Rattle.cert_cover.specs.Program.{callee_at};
 ghost use Rattle.cert_lines.specs.declared.row.Row.{Row};
-ghost use Rattle.cert_ways.specs.Parts.{AtEachExit, CallPays, HasNoExits, NextPays, OnEachExit, OnExit, PaysReturn, PaysWay};
-ghost use Rattle.cert_ways.specs.Pays.{IsAsked, IsLone, MeetsTime, Pays, PaysOut, PaysTo, cost_before, potential_of};
-ghost use Rattle.cert_ways.specs.Ways.{call_cost, step_of};
+ghost use Rattle.cert_ways.specs.Parts.{AtEachExit, CallPays, NextPays, OnEachExit, OnExit, PaysReturn, PaysToRow, PaysWay};
+ghost use Rattle.cert_ways.specs.Pays.{IsLone, MeetsTime, Pays, PaysCall, PaysOut, PaysTo, constant_sum, cost_before, potential_of};
+ghost use Rattle.cert_ways.specs.Ways.{step_of};
 
 use crate::subject::Subject;
 use crate::ways::Way;
@@ -51,15 +51,32 @@ fn pays_out(row: &RowView, cost: u32) -> bool
     )
 }
 
+/// Whether the row of a subject pays so many T-states.
+fn row_pays_out(subject: &Subject, cost: u32) -> bool
+    ensures { IsTrue result ↔ PaysOut subject.now.row cost }
+{
+    pays_out(&subject.row, cost)
+}
+
+/// Whether the row of a subject pays for a way to another row.
+fn row_pays_to(subject: &Subject, way: &Way, target: &RowView) -> bool
+    ensures { IsTrue result ↔ PaysTo subject.now.row way.now.cost way.now.arrival.effect target.now }
+{
+    pays_to(&subject.row, way.cost, &way.effect, target)
+}
+
 /// Whether a row pays for a way to the row of a number, if that is asked.
 fn pays_row(subject: &Subject, way: &Way, lone: bool, id: RowId) -> bool
     requires { IsTrue lone ↔ IsLone subject.now.cert way.now.arrival }
-    ensures { IsTrue result ↔ ((row : Row) → slice_get subject.now.cert.rows id ≡ Some row → IsAsked subject.now.cert way.now row
-        → PaysTo subject.now.row way.now.cost way.now.arrival.effect row) }
+    ensures { IsTrue result ↔ PaysToRow subject.now way.now id }
 {
-    match subject.certificate.row(id) {
-        Some(row) => { !way.asks(lone, &row) || pays_to(&subject.row, way.cost, &way.effect, &row) }
-        None => true,
+    let Some(row) = subject.certificate.row(id) else {
+        return true;
+    };
+    if way.asks(lone, &row) {
+        row_pays_to(subject, way, &row)
+    } else {
+        true
     }
 }
 
@@ -129,13 +146,15 @@ fn returns_are_paid(alloc: Global, subject: &Subject, next: &Next, callee: &Call
 /// Whether a callee has a time, and an exit, or else its time and the call are paid.
 fn call_is_paid(alloc: Global, subject: &Subject, next: &Next, callee: &Callee) -> bool
     requires { callee_at subject.now.cert next.now.address ≡ Some callee.now }
-    ensures { IsTrue result ↔ (IsSome callee.now.proc.time × (HasNoExits subject.now callee.now.number → PaysOut subject.now.row (call_cost next.now callee.now))) }
+    ensures { IsTrue result ↔ PaysCall subject.now next.now callee.now }
 {
     if callee.proc.time.is_none() {
         return false;
     }
-    subject.has_exit(alloc, callee.number)
-        || pays_out(&subject.row, subject.call_cost(next, callee))
+    if subject.has_exit(alloc, callee.number) {
+        return true;
+    }
+    row_pays_out(subject, subject.call_cost(next, callee))
 }
 
 /// Whether a row pays for a call, and for each way back from it.
@@ -158,7 +177,7 @@ fn next_pays(alloc: Global, subject: &Subject, next: &Next) -> bool
     match next.kind {
         NextKind::Jump => pays_way(subject, &subject.jump_way(next)),
         NextKind::Call => call_pays(alloc, subject, next),
-        NextKind::Exit => pays_out(&subject.row, u32::from(next.cost)),
+        NextKind::Exit => row_pays_out(subject, u32::from(next.cost)),
     }
 }
 
@@ -184,24 +203,43 @@ fn cost_before(kind: ProcKind) -> u32
     }
 }
 
+/// A number of T-states as a linear.
+fn linear_of(time: u32) -> Linear
+    requires { time ≤ 1000000000 }
+    ensures { result ≡ constant_sum time }
+{
+    match Linear::of_constant(time as i32) {
+        Some(linear) => linear,
+        None => Linear::zero(),
+    }
+}
+
 /// Whether a row's potential is at most its procedure's time, less what goes by before its entry.
 fn meets_time(subject: &Subject) -> bool
     ensures { IsTrue result ↔ MeetsTime subject.now.proc subject.now.row }
 {
-    // In form: a time is 1,000,000,000 at most.
-    subject.certificate.is_in_form();
-    let time = subject.proc.time.unwrap_or(0);
+    let left = linear_of(subject.time());
+    let to = potential_of(&subject.row);
+    let before = cost_before(subject.proc.kind);
     let state = subject.row.state();
-    match Linear::of_constant(time as i32) {
-        Some(left) => decreases(
-            &left,
-            &potential_of(&subject.row),
-            cost_before(subject.proc.kind),
-            &Effect::unchanged(),
-            &state,
-            &state,
-        ),
-        None => false,
+    decreases(&left, &to, before, &Effect::unchanged(), &state, &state)
+}
+
+/// Whether a row has a potential.
+fn has_potential(subject: &Subject) -> bool
+    ensures { IsTrue result ↔ IsSome subject.now.row.potential }
+{
+    subject.row.potential.is_some()
+}
+
+/// Whether a row meets its procedure's time, if it stands at the entry.
+fn meets_entry(subject: &Subject) -> bool
+    ensures { IsTrue result ↔ (subject.now.row.address ≡ subject.now.proc.entry → MeetsTime subject.now.proc subject.now.row) }
+{
+    if subject.row.address == subject.proc.entry {
+        meets_time(subject)
+    } else {
+        true
     }
 }
 
@@ -212,10 +250,10 @@ pub fn pays(alloc: Global, subject: &Subject, nexts: &[Next]) -> bool
     requires { step_of subject.now ≡ Ok nexts.now }
     ensures { IsTrue result ↔ Pays subject.now }
 {
-    if subject.row.potential.is_none() {
+    if !has_potential(subject) {
         return false;
     }
-    if subject.row.address == subject.proc.entry && !meets_time(subject) {
+    if !meets_entry(subject) {
         return false;
     }
     nexts_pay(alloc, subject, nexts)

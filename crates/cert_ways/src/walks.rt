@@ -1,12 +1,11 @@
 // What lies between the rows of a walk, and at its end.
 
 ghost use Rattle.std.specs.List.{All};
-ghost use Rattle.std.specs.Prelude.{◌≡◌, ◌↔◌, Contains, IsTrue, Ok, Some, length};
-ghost use Rattle.abs_state.specs.declared.state.AbsState.{AbsState as State};
+ghost use Rattle.std.specs.Prelude.{◌≡◌, ◌↔◌, Contains, IsSome, IsTrue, Ok, Some, length};
 ghost use Rattle.cert_cover.specs.Program.{callee_at};
-ghost use Rattle.cert_ways.specs.Parts.{CostsExit, ExitLands, IsAmong, IsExitAt, IsExitIn, LiesBy, LiesByCall, OnCall, ReturnLands, greater};
+ghost use Rattle.cert_ways.specs.Parts.{AtSomeExit, CostsExit, ExitLands, InSomeExit, IsAmong, LiesBy, LiesByCall, OnCall, OnSomeExit, ReturnLands, greater};
 ghost use Rattle.cert_ways.specs.Pays.{IsExitCost, IsGreatest, IsWalked, LeavesAt, LieBetween, LiesBetween};
-ghost use Rattle.cert_ways.specs.Ways.{IsExit, step_of};
+ghost use Rattle.cert_ways.specs.Ways.{step_of};
 
 use crate::subject::Subject;
 use abs_step::{Next, NextKind};
@@ -56,7 +55,7 @@ fn some_exit_lands(
 ) -> bool
     requires called { callee_at subject.now.cert next.now.address ≡ Some callee.now }
     requires listed { Contains subject.now.cert.rows target.now }
-    ensures { IsTrue result ↔ ((exit : State) × IsExitIn exits.now exit × ReturnLands subject.now next.now callee.now target.now exit) }
+    ensures { IsTrue result ↔ InSomeExit exits.now (ReturnLands subject.now next.now callee.now target.now) }
 {
     for exit in exits {
         if exit_lands(subject, next, callee, exit, target) {
@@ -77,7 +76,7 @@ fn row_lands(
 ) -> bool
     requires called { callee_at subject.now.cert next.now.address ≡ Some callee.now }
     requires listed { Contains subject.now.cert.rows target.now }
-    ensures { IsTrue result ↔ ((exit : State) × IsExitAt subject.now.rom subject.now.cert id exit × ReturnLands subject.now next.now callee.now target.now exit) }
+    ensures { IsTrue result ↔ AtSomeExit subject.now id (ReturnLands subject.now next.now callee.now target.now) }
 {
     match subject.exits_at(alloc, id) {
         Some(exits) => some_exit_lands(subject, next, callee, exits.as_slice(), target),
@@ -95,7 +94,7 @@ fn some_return_lands(
 ) -> bool
     requires called { callee_at subject.now.cert next.now.address ≡ Some callee.now }
     requires listed { Contains subject.now.cert.rows target.now }
-    ensures { IsTrue result ↔ ((exit : State) × IsExit subject.now.rom subject.now.cert callee.now.number exit × ReturnLands subject.now next.now callee.now target.now exit) }
+    ensures { IsTrue result ↔ OnSomeExit subject.now callee.now.number (ReturnLands subject.now next.now callee.now target.now) }
 {
     let rows = subject.certificate.rows_of(callee.number);
     for id in rows.start..rows.end {
@@ -109,7 +108,7 @@ fn some_return_lands(
 /// The T-states that lie between a row and another by a call, or None where it doesn't lead there.
 fn cost_by_call(alloc: Global, subject: &Subject, next: &Next, target: &RowView) -> Option<u32>
     requires { Contains subject.now.cert.rows target.now }
-    ensures { IsGreatest (λ cost. LiesByCall subject.now next.now target.now cost (callee_at subject.now.cert next.now.address)) result }
+    ensures { IsGreatest (LiesByCall subject.now next.now target.now (callee_at subject.now.cert next.now.address)) result }
 {
     let callee = callee_at(subject.certificate, next.address)?;
     if some_return_lands(alloc, subject, next, &callee, target) {
@@ -162,12 +161,19 @@ fn call_is_timed(subject: &Subject, next: &Next) -> bool
     }
 }
 
+/// Whether a row is one of a procedure with a time.
+fn is_timed(subject: &Subject) -> bool
+    ensures { IsTrue result ↔ IsSome subject.now.proc.time }
+{
+    subject.proc.time.is_some()
+}
+
 /// Whether a row is one of a procedure with a time, and calls none without.
 fn is_walked(subject: &Subject, nexts: &[Next]) -> bool
     requires { step_of subject.now ≡ Ok nexts.now }
     ensures { IsTrue result ↔ IsWalked subject.now }
 {
-    subject.proc.time.is_some() && calls_are_timed(subject, nexts)
+    is_timed(subject) && calls_are_timed(subject, nexts)
 }
 
 /// Whether each of these ways on that is a call calls a procedure with a time.
@@ -245,6 +251,7 @@ pub fn compared(
 {
     let map = certificate.board().map(rom.len());
     let subject = Subject::of(rom, &map, certificate, from)?;
+    subject.is_subject();
     let target = certificate.row(to)?;
     cost_between(alloc, &subject, &target)
 }
@@ -257,5 +264,6 @@ pub fn exit_cost(alloc: Global, rom: &Rom, certificate: &Certificate, row: RowId
 {
     let map = certificate.board().map(rom.len());
     let subject = Subject::of(rom, &map, certificate, row)?;
+    subject.is_subject();
     cost_of_leaving(alloc, &subject)
 }

@@ -1,6 +1,6 @@
 // A way on within a procedure, and the rows to which it leads.
 
-ghost use Rattle.std.specs.Prelude.{◌≡◌, ◌≤◌, ◌<◌, ◌↔◌, ◌⊎◌, ℕ, Contains, Some, IsTrue, length, slice_get};
+ghost use Rattle.std.specs.Prelude.{◌≡◌, ◌≤◌, ◌<◌, ◌↔◌, ◌⊎◌, ℕ, Contains, Some, IsTrue, length, slice_get, unwrap_or};
 ghost use Rattle.abs_state.specs.Covers.{MeetsState};
 ghost use Rattle.cert_cover.specs.Program.{callee_at};
 ghost use Rattle.cert_lines.specs.declared.row.Row.{Row};
@@ -86,8 +86,16 @@ impl<'a> Subject<'a> {
     {
         // In form: a time is 1,000,000,000 at most.
         self.certificate.is_in_form();
-        u32::from(next.cost) + callee.proc.time.unwrap_or(0)
+        call_cost(next, callee)
     }
+}
+
+/// The same, where the callee's time is 1,000,000,000 at most.
+fn call_cost(next: &Next, callee: &Callee) -> u32
+    requires { unwrap_or callee.now.proc.time 0 ≤ 1000000000 }
+    ensures { result ≡ call_cost next.now callee.now }
+{
+    u32::from(next.cost) + callee.proc.time.unwrap_or(0)
 }
 
 impl<'a> Way<'a> {

@@ -1,0 +1,10 @@
+use Rattle.std.proofs.Common.{◌≡◌}
+use Rattle.abs_step.specs.declared.next.Next.{Next}
+use Rattle.abs_step.specs.declared.next.NextKind.TheVariants.{Exit}
+use Rattle.cert_ways.proofs.ExitLemmas.{none_more_in}
+use Rattle.cert_ways.proofs.exits.some_leaves.Goals as goal
+
+pub loop-next-preserved : goal.loop-next-preserved
+loop-next-preserved c =
+    none_more_in (λ (n : Next). n.kind ≡ Exit) c.args.nexts.now c.loop-next.next-index c.next-item.result c.leaves.result c.next-item.is c.loop-next-test.true
+    c.if-leaves.false c.leaves.ensures c.loop-next.invariant
