@@ -1,14 +1,14 @@
 -- The exits of a procedure are those of its rows, and those of a row are told by its ways on.
-use Rattle.std.proofs.Common.{◌≡◌, ◌≢◌, ◌<◌, ◌≤◌, ◌↔◌, ◌&&◌, ℕ, zero, suc, if◌then◌else◌, not, Bool, true, false, List, [], ◌∷◌, ◌++◌, get_or, length, Option, Some, None, Result, Ok, Err, slice_get, refl, sym, subst, ap, ◌∙◌, inl, inr, arith, drop, IsTrue, ◌+◌}
+use Rattle.std.proofs.Common.{◌≡◌, ◌<◌, ◌≤◌, ◌↔◌, ◌&&◌, ℕ, zero, suc, if◌then◌else◌, not, Bool, true, false, List, [], ◌∷◌, ◌++◌, get_or, length, Option, Some, None, Result, Ok, Err, slice_get, refl, sym, subst, ap, ◌∙◌, inl, inr, arith, drop, IsTrue, ◌+◌}
 use Rattle.std.specs.List.{All, Contains}
 use Rattle.std.proofs.lemmas.Bool.{cases_lt, false≢true}
 use Rattle.std.proofs.lemmas.List.Elements.{All-contains, Contains-append_cases, Contains-get_or, at_read}
-use Rattle.std.proofs.lemmas.Option.{get_or_from_slice_get, none-some, same_Some, slice_get_read, slice_get_within}
+use Rattle.std.proofs.lemmas.Option.{same_Some, slice_get_read}
 use Rattle.abs_draft.specs.Ground.{Ground}
 use Rattle.abs_draft.specs.Outcomes.{after_moves, before_test, behind_test, known_before, test_of, tested}
 use Rattle.abs_draft.specs.declared.known.Known.{Known}
 use Rattle.abs_state.specs.declared.state.AbsState.{AbsState}
-use Rattle.abs_step.specs.Successors.{answer_by, answer_of, is_call, is_empty, is_return, kind_of, next_of, refusal, nexts_of, way_on, ways_from, ways_on}
+use Rattle.abs_step.specs.Successors.{answer_by, answer_of, is_call, is_empty, is_return, kind_of, next_of, refusal, nexts_of, way_on, ways_on}
 use Rattle.abs_step.specs.declared.next.Next.{Next}
 use Rattle.abs_step.specs.declared.next.NextKind.{NextKind}
 use Rattle.abs_step.specs.declared.next.NextKind.TheVariants.{Jump, Call, Exit}
@@ -20,7 +20,7 @@ use Rattle.cert_lines.specs.declared.proc.Proc.{Proc}
 use Rattle.cert_lines.specs.declared.row.Row.{Row}
 use Rattle.cert_order.specs.Contents.{Contents}
 use Rattle.cert_ways.specs.Parts.{AtEachExit, AtSomeExit, HasExits, HasNoExit, InSomeExit, IsExitAt, IsExitIn, OnEachExit, OnExit, OnSomeExit, may_leave}
-use Rattle.cert_ways.specs.Ways.{Subject, IsExit, IsNumbered, IsSubject, nexts_from, nexts_in, step_of}
+use Rattle.cert_ways.specs.Ways.{Subject, IsExit, IsNumbered, nexts_from, nexts_in, step_of}
 use Rattle.stack_shape.specs.declared.slot.Slot.{Slot}
 use Rattle.z80_decode.specs.declared.fault.DecodeFault.{DecodeFault}
 use Rattle.z80_decode.specs.declared.instr.Instr.{Instr}

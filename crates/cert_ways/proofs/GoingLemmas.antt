@@ -1,8 +1,7 @@
 -- A row goes on exactly where it goes on by each of its ways on.
-use Rattle.std.proofs.Common.{◌≡◌, ◌≢◌, ◌<◌, ◌↔◌, ◌⊎◌, ℕ, List, length, get_or, Option, Some, None, Result, Ok, Err, inl, inr, refl, sym, subst, ap, ◌∙◌}
+use Rattle.std.proofs.Common.{◌≡◌, ◌↔◌, List, get_or, Option, Some, None, Result, Ok, Err, inl, inr, refl, sym, subst, ap}
 use Rattle.std.specs.List.{All, Contains}
 use Rattle.std.proofs.lemmas.List.Elements.{All-contains, Contains-get_or}
-use Rattle.abs_state.specs.declared.state.AbsState.{AbsState}
 use Rattle.abs_step.specs.declared.next.Next.{Next}
 use Rattle.abs_step.specs.declared.next.NextKind.{NextKind}
 use Rattle.abs_step.specs.declared.next.NextKind.TheVariants.{Jump, Call, Exit}
@@ -10,9 +9,8 @@ use Rattle.abs_step.specs.declared.reason.Reason.{Reason}
 use Rattle.abs_step.specs.declared.reason.Reason.TheVariants.{NotCovered}
 use Rattle.cert_cover.specs.Program.{callee_at}
 use Rattle.cert_cover.specs.declared.program.Callee.{Callee}
-use Rattle.cert_order.specs.Contents.{Contents}
 use Rattle.cert_ways.specs.Parts.{CallGoesOn, IsCoveredWay, KindGoesOn, NextGoesOn}
-use Rattle.cert_ways.specs.Ways.{Subject, EntersCallee, GoesOn, IsExit, IsJump, IsReturn, IsWay, Way, jump_way, nexts_from, nexts_in, return_way, step_of}
+use Rattle.cert_ways.specs.Ways.{Subject, EntersCallee, GoesOn, IsJump, IsReturn, IsWay, Way, jump_way, nexts_from, nexts_in, return_way, step_of}
 
 -- ---- from each way on
 

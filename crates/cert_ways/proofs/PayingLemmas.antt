@@ -1,11 +1,10 @@
 -- A row pays exactly where it pays for each of its ways on, owns a potential and meets its time at the entry.
-use Rattle.std.proofs.Common.{◌≡◌, ◌<◌, ◌≤◌, ◌+◌, ◌↔◌, ◌⊎◌, ℕ, Bool, true, false, IsTrue, IsSome, List, length, get_or, slice_get, Option, Some, None, Result, Ok, inl, inr, refl, sym, subst, ap, ◌∙◌, arith}
+use Rattle.std.proofs.Common.{◌≡◌, ◌<◌, ◌≤◌, ◌+◌, ◌↔◌, ◌⊎◌, ℕ, Bool, true, false, IsTrue, IsSome, List, length, get_or, slice_get, Option, Some, None, Ok, inl, inr, refl, sym, subst, ap, ◌∙◌, arith}
 use Rattle.std.specs.List.{All, Contains}
 use Rattle.std.proofs.lemmas.Bool.{cases_lt, false≢true}
 use Rattle.std.proofs.lemmas.List.Elements.{All-contains, Contains-get_or}
 use Rattle.std.proofs.lemmas.Option.{get_or_from_slice_get, same_Some, slice_get_read, slice_get_within}
 use Rattle.abs_state.specs.Covers.{MeetsState}
-use Rattle.abs_state.specs.declared.state.AbsState.{AbsState}
 use Rattle.abs_step.specs.declared.next.Next.{Next}
 use Rattle.abs_step.specs.declared.next.NextKind.{NextKind}
 use Rattle.abs_step.specs.declared.next.NextKind.TheVariants.{Jump, Call, Exit}
@@ -14,8 +13,8 @@ use Rattle.cert_cover.specs.Program.{IsRowAt, callee_at}
 use Rattle.cert_cover.specs.declared.program.Callee.{Callee}
 use Rattle.cert_lines.specs.declared.row.Row.{Row}
 use Rattle.cert_ways.specs.Parts.{AnyExit, CallPays, KindPays, NextPays, OnSomeExit, PaysToRow, PaysWay}
-use Rattle.cert_ways.specs.Pays.{IsAsked, IsLone, LeadsTo, MeetsTime, Pays, PaysCall, PaysOut, PaysTo}
-use Rattle.cert_ways.specs.Ways.{Subject, Calls, IsExit, IsJump, IsReturn, IsWay, Way, call_cost, jump_way, nexts_from, nexts_in, return_way, step_of}
+use Rattle.cert_ways.specs.Pays.{IsAsked, IsLone, MeetsTime, Pays, PaysCall, PaysOut, PaysTo}
+use Rattle.cert_ways.specs.Ways.{Subject, Calls, IsJump, IsWay, Way, call_cost, jump_way, nexts_from, nexts_in, return_way, step_of}
 
 -- ---- the rows where a way arrives
 

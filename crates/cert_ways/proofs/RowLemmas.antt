@@ -1,10 +1,9 @@
 -- The rows at an address: whether there is one, and which of them are asked.
-use Rattle.std.proofs.Common.{◌≡◌, ◌<◌, ◌≤◌, ◌-◌, ◌+◌, ◌↔◌, ℕ, Bool, true, false, leb, IsTrue, length, slice_get, Some, inl, inr, refl, sym, arith}
+use Rattle.std.proofs.Common.{◌≡◌, ◌<◌, ◌≤◌, ◌-◌, ◌+◌, ◌↔◌, ℕ, leb, IsTrue, length, inl, inr, arith}
 use Rattle.std.proofs.lemmas.Bool.{cases_lt, le-leb, leb-true}
-use Rattle.std.proofs.lemmas.Option.{get_or_from_slice_get, slice_get_cases, slice_get_read, slice_get_within}
+use Rattle.std.proofs.lemmas.Option.{slice_get_cases}
 use Rattle.cert_cover.proofs.CoveringLemmas.{AreRowsAt}
 use Rattle.cert_cover.specs.Arrival.{Arrival}
-use Rattle.cert_lines.specs.declared.row.Row.{Row}
 use Rattle.cert_order.specs.Contents.{Contents}
 use Rattle.cert_ways.specs.Pays.{AreOne}
 

@@ -5,7 +5,6 @@ use Rattle.std.proofs.lemmas.Bool.{cases_lt}
 use Rattle.std.proofs.lemmas.List.{take_all, take_more}
 use Rattle.std.proofs.lemmas.List.Elements.{All-contains, Contains-append_left, Contains-get_or, Contains-push, Contains-push_cases}
 use Rattle.std.proofs.lemmas.Option.{get_or_from_slice_get, same_Some, slice_get_within}
-use Rattle.abs_state.specs.declared.state.AbsState.{AbsState}
 use Rattle.abs_step.specs.declared.next.Next.{Next}
 use Rattle.abs_step.specs.declared.next.NextKind.{NextKind}
 use Rattle.abs_step.specs.declared.next.NextKind.TheVariants.{Jump, Call, Exit}
@@ -15,7 +14,7 @@ use Rattle.cert_lines.specs.declared.row.Row.{Row}
 use Rattle.cert_order.specs.Contents.{Contents}
 use Rattle.cert_ways.specs.Parts.{CostsExit, IsAmong, IsTimedCall, LiesBy, LiesByCall, LiesByKind, OnCall, greater}
 use Rattle.cert_ways.specs.Pays.{IsExitCost, IsGreatest, IsWalked, Lands, LeavesAt, LieBetween, LiesBetween}
-use Rattle.cert_ways.specs.Ways.{Subject, Calls, IsJump, IsNumbered, IsReturn, IsWay, Way, jump_way, nexts_from, nexts_in, return_way, step_of}
+use Rattle.cert_ways.specs.Ways.{Subject, IsJump, IsNumbered, IsReturn, IsWay, Way, jump_way, nexts_from, nexts_in, return_way, step_of}
 use Rattle.cert_ways.proofs.ExitLemmas.{subject_once}
 
 -- ---- the greatest of some numbers

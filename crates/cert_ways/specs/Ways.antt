@@ -1,6 +1,5 @@
 -- Where a row leads to, through calls and back from them (docs/CHECKER.md, "Successors, calls and exits").
 use Rattle.std.specs.Prelude.{ℕ, ◌+◌, ◌%◌, ◌≡◌, ◌≢◌, ◌⊎◌, List, [], length, slice_get, Option, Some, None, Result, Ok, Err, Contains, unwrap_or}
-use Rattle.std.specs.List.{All}
 use Rattle.abs_draft.specs.Outcomes.{settled}
 use Rattle.abs_state.specs.Entries.{callee_entry, after_call}
 use Rattle.abs_state.specs.declared.state.AbsState.{AbsState}

@@ -1,4 +1,4 @@
-use Rattle.std.proofs.Common.{◌↔◌, ℕ, IsTrue, subst, sym}
+use Rattle.std.proofs.Common.{◌↔◌, ℕ, IsTrue, subst}
 use Rattle.cert_ways.specs.Pays.{PaysOut}
 use Rattle.cert_ways.proofs.PayingLemmas.{paid_with_exit, paid_without}
 use Rattle.cert_ways.proofs.paying.call_is_paid.Goals as goal

@@ -24,7 +24,7 @@ returns-else-call_is_paid c =
     let callee = c.in-Some.callee in
     let called : Some callee ≡ callee_at s.cert next.address =
     subst (λ (x : Subject). Some callee ≡ callee_at x.cert next.address) c.subject.view_is (c.in-Some.ensures {u = tt}) in (
-      (λ told. absurd (false≢true told)),
+      (λ told. absurd (false≢true (sym c.if-call_is_paid.false ∙ told))),
       (λ pays.
-          sym c.if-call_is_paid.false ∙ c.call_is_paid.ensures.1 (subst (λ (o : Option Callee). CallPays s next o) (sym called) pays).0),
+          c.call_is_paid.ensures.1 (subst (λ (o : Option Callee). CallPays s next o) (sym called) pays).0),
     )

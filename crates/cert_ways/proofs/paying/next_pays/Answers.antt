@@ -3,7 +3,7 @@ use Rattle.abs_step.specs.declared.next.NextKind.{NextKind}
 use Rattle.abs_step.specs.declared.next.NextKind.TheVariants.{Exit, Jump}
 use Rattle.cert_ways.specs.Parts.{KindPays, PaysWay}
 use Rattle.cert_ways.specs.Pays.{PaysOut}
-use Rattle.cert_ways.specs.Ways.{Way, jump_way}
+use Rattle.cert_ways.specs.Ways.{Way}
 use Rattle.cert_ways.proofs.paying.next_pays.Goals as goal
 
 pub returns-in-Jump : goal.returns-in-Jump

@@ -1,6 +1,6 @@
-use Rattle.std.proofs.Common.{Some, sym, ◌∙◌, subst, ap}
+use Rattle.std.proofs.Common.{sym, ◌∙◌, subst, ap}
 use Rattle.cert_ways.specs.Parts.{HasExits, HasNoExit}
-use Rattle.cert_ways.specs.Ways.{Subject, IsNumbered, nexts_in}
+use Rattle.cert_ways.specs.Ways.{Subject, nexts_in}
 use Rattle.cert_ways.proofs.ExitLemmas.{has_exits, may_leave_only, refused_has_none}
 use Rattle.cert_ways.proofs.subject.Subject.exits_at.Goals as goal
 
