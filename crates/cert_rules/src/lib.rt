@@ -2,6 +2,11 @@
 // "The table of reasons").
 #![tactic(auto)]
 
+mod instructions;
 mod refused;
+mod saved;
+mod stack;
+mod whole;
+mod writes;
 
 pub use refused::Refused;
