@@ -1,1 +1,6 @@
+pub mod ExitLemmas
+pub mod GoingLemmas
+pub mod PayingLemmas
+pub mod RowLemmas
 pub mod SubjectLemmas
+pub mod WalkLemmas

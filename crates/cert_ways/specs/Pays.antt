@@ -1,5 +1,5 @@
 -- What a row of a timed procedure pays, and what lies between rows on a walk (docs/CHECKER.md, "Paying").
-use Rattle.std.specs.Prelude.{ℕ, ◌≡◌, ◌≤◌, ◌⊎◌, pos, [], slice_get, Option, Some, None, IsSome, Contains, unwrap_or}
+use Rattle.std.specs.Prelude.{ℕ, List, ◌≡◌, ◌≤◌, ◌⊎◌, pos, [], slice_get, Option, Some, None, IsSome, Contains, unwrap_or}
 use Rattle.abs_state.specs.Covers.{MeetsState}
 use Rattle.abs_state.specs.Variables.{range_of}
 use Rattle.abs_state.specs.declared.state.AbsState.{AbsState}
@@ -17,7 +17,7 @@ use Rattle.loop_bounds.specs.Bounds.{Decreases}
 use Rattle.loop_bounds.specs.Effect.{unchanged}
 use Rattle.loop_bounds.specs.Linear.{Sum}
 use Rattle.loop_bounds.specs.declared.effect.Effect.{Effect}
-use Rattle.cert_ways.specs.Ways.{Subject, Way, IsWay, IsExit, Calls, call_cost, nexts_from}
+use Rattle.cert_ways.specs.Ways.{Subject, IsNumbered, Way, IsWay, IsExit, Calls, call_cost, nexts_from}
 
 abbrev pub constant_sum : ℕ → Sum
 constant_sum constant = record { constant = pos constant; terms = [] }
@@ -33,15 +33,23 @@ abbrev pub AreOne : Contents → Arrival → Type 0
 AreOne cert a = (i j : ℕ) (row other : Row) → slice_get cert.rows i ≡ Some row → (row.proc ≡ a.proc) × (row.address ≡ a.address)
     → slice_get cert.rows j ≡ Some other → (other.proc ≡ a.proc) × (other.address ≡ a.address) → i ≡ j
 
+-- there is one row at most at the address, and states are not told apart there
+abbrev pub IsLone : Contents → Arrival → Type 0
+IsLone cert a = (split_at cert a.proc a.address ≡ None) × AreOne cert a
+
 -- where there is one row and no split, it is asked; else each row that the arriving state meets
 abbrev pub IsAsked : Contents → Way → Row → Type 0
-IsAsked cert way row = ((split_at cert way.arrival.proc way.arrival.address ≡ None) × AreOne cert way.arrival) ⊎ MeetsState row.state way.state
+IsAsked cert way row = IsLone cert way.arrival ⊎ MeetsState row.state way.state
+
+-- a row where a way arrives, and which is asked
+pub record Lands (cert : Contents) (way : Way) (target : Row) : Type 0 where
+  pub at : IsRowAt cert way.arrival.proc way.arrival.address target
+  pub asked : IsAsked cert way target
 
 -- the way leads to this row, and its potential is compared with that of the row from which the way leads
 pub record LeadsTo (s : Subject) (way : Way) (target : Row) : Type 0 where
   pub is_way : IsWay s way
-  pub at : IsRowAt s.cert way.arrival.proc way.arrival.address target
-  pub asked : IsAsked s.cert way target
+  pub lands : Lands s.cert way target
 
 -- ---- paying
 
@@ -96,6 +104,20 @@ pub record IsExitCost (s : Subject) (cost : ℕ) : Type 0 where
   pub leads : Contains (nexts_from s) next
   pub kind : next.kind ≡ Exit
   pub is : cost ≡ next.cost
+
+-- so many T-states lie between the rows of two numbers, of a certificate for a ROM
+pub record LieBetween (rom : List ℕ) (cert : Contents) (from to cost : ℕ) : Type 0 where
+  pub subject : Subject
+  pub is_from : IsNumbered rom cert from subject
+  pub target : Row
+  pub is_to : slice_get cert.rows to ≡ Some target
+  pub lies : LiesBetween subject target cost
+
+-- so many T-states are the cost of an exit of the row of a number
+pub record LeavesAt (rom : List ℕ) (cert : Contents) (number cost : ℕ) : Type 0 where
+  pub subject : Subject
+  pub is_from : IsNumbered rom cert number subject
+  pub leaves : IsExitCost subject cost
 
 -- the greatest of some numbers, or there is none
 abbrev pub IsGreatest : (ℕ → Type 0) → Option ℕ → Type 0

@@ -1,6 +1,5 @@
 -- Where a row leads to, through calls and back from them (docs/CHECKER.md, "Successors, calls and exits").
 use Rattle.std.specs.Prelude.{ℕ, ◌+◌, ◌%◌, ◌≡◌, ◌≢◌, ◌⊎◌, List, [], length, slice_get, Option, Some, None, Result, Ok, Err, Contains, unwrap_or}
-use Rattle.std.specs.List.{All}
 use Rattle.abs_draft.specs.Outcomes.{settled}
 use Rattle.abs_state.specs.Entries.{callee_entry, after_call}
 use Rattle.abs_state.specs.declared.state.AbsState.{AbsState}
@@ -41,6 +40,12 @@ pub record IsSubject (s : Subject) : Type 0 where
   pub listed : Contains s.cert.rows s.row
   pub procedure : slice_get s.cert.procs s.row.proc ≡ Some s.proc
   pub stands : StandsAt s.rom s.row.address s.decoded
+
+-- the row of a number, of a certificate for a ROM
+pub record IsNumbered (rom : List ℕ) (cert : Contents) (number : ℕ) (s : Subject) : Type 0 where
+  pub is_subject : IsSubject s
+  pub same : (s.rom ≡ rom) × (s.cert ≡ cert)
+  pub at : slice_get cert.rows number ≡ Some s.row
 
 -- what the abstract step answers for a row
 abbrev pub step_of : Subject → Result (List Next) Reason
@@ -180,11 +185,3 @@ pub record GoesOn (s : Subject) : Type 0 where
   pub jumps : step_of s ≢ Err NotCovered
   pub ways : (way : Way) → IsWay s way → Covered s.cert way.arrival way.state
   pub entries : (next : Next) → Contains (nexts_from s) next → next.kind ≡ Call → EntersCallee s next (callee_at s.cert next.address)
-
--- a way on of a callee is no exit, or the call comes back from it in a state that is covered
-abbrev pub ExitCovered : Contents → Subject → Next → Callee → Next → Type 0
-ExitCovered cert s next callee exit = exit.kind ≡ Exit → Covered cert (return_way s next callee exit.state).arrival (return_way s next callee exit.state).state
-
--- a call comes back in a state that is covered from each exit among some ways on of its callee
-abbrev pub ExitsCovered : Contents → Subject → Next → Callee → List Next → Type 0
-ExitsCovered cert s next callee exits = All (ExitCovered cert s next callee) exits

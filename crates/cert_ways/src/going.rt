@@ -1,20 +1,25 @@
 // Whether each way on from a row is covered.
 
-ghost use Rattle.std.specs.Prelude.{◌≡◌, ◌↔◌, IsTrue};
+ghost use Rattle.std.specs.Prelude.{◌≡◌, ◌↔◌, IsTrue, Ok};
+ghost use Rattle.std.specs.List.{All};
 ghost use Rattle.abs_state.specs.Entries.{callee_entry};
 ghost use Rattle.cert_cover.specs.Covering.{Covered};
-ghost use Rattle.cert_ways.specs.Ways.{ExitCovered, ExitsCovered, entry_of, jump_way, return_way};
+ghost use Rattle.cert_cover.specs.Program.{callee_at};
+ghost use Rattle.cert_ways.specs.Parts.{AtEachExit, CallGoesOn, IsCoveredWay, NextGoesOn, OnEachExit, OnExit, ReturnCovered};
+ghost use Rattle.cert_ways.specs.Ways.{GoesOn, entry_of, jump_way, step_of};
 
 use crate::effects::effect_of_call;
 use crate::subject::Subject;
 use abs_draft::settled;
 use abs_state::AbsState;
 use abs_step::{Next, NextKind};
-use cert_cover::{Callee, Coverer};
+use cert_cover::{Callee, Coverer, callee_at};
+use certificate::RowId;
+use std::alloc::Global;
 
 /// Whether a jump, or going on, leads to a state that is covered.
 fn jump_is_covered(subject: &Subject, next: &Next, coverer: &mut Coverer) -> bool
-    ensures exact { IsTrue result ↔ Covered coverer.old (jump_way subject.now next.now).arrival next.now.state }
+    ensures exact { IsTrue result ↔ IsCoveredWay coverer.old (jump_way subject.now next.now) }
     ensures same { coverer.new ≡ coverer.old }
 {
     let arrival = subject.arrival_at(subject.row.proc, next.address, &next.effect);
@@ -38,32 +43,13 @@ fn return_is_covered(
     exit: &AbsState,
     coverer: &mut Coverer,
 ) -> bool
-    ensures exact { let way = return_way subject.now next.now callee.now exit.now in IsTrue result ↔ Covered coverer.old way.arrival way.state }
+    ensures exact { IsTrue result ↔ ReturnCovered coverer.old subject.now next.now callee.now exit.now }
     ensures same { coverer.new ≡ coverer.old }
 {
     let after = next.state.after_call(exit);
     let effect = settled(&effect_of_call(&next.effect, exit), &after);
     let arrival = subject.arrival_at(subject.row.proc, subject.behind, &effect);
     coverer.covers(&arrival, &after)
-}
-
-/// Whether a call comes back in a state that is covered from each exit among some ways on of its callee.
-fn exits_are_covered(
-    subject: &Subject,
-    next: &Next,
-    callee: &Callee,
-    exits: &[Next],
-    coverer: &mut Coverer,
-) -> bool
-    ensures exact { IsTrue result ↔ ExitsCovered coverer.old subject.now next.now callee.now exits.now }
-    ensures same { coverer.new ≡ coverer.old }
-{
-    for exit in exits {
-        if !exit_is_covered(subject, next, callee, exit, coverer) {
-            return false;
-        }
-    }
-    true
 }
 
 /// Whether a way on of a callee is no exit, or the call comes back from it in a state that is covered.
@@ -74,11 +60,120 @@ fn exit_is_covered(
     exit: &Next,
     coverer: &mut Coverer,
 ) -> bool
-    ensures exact { IsTrue result ↔ ExitCovered coverer.old subject.now next.now callee.now exit.now }
+    ensures exact { IsTrue result ↔ OnExit (ReturnCovered coverer.old subject.now next.now callee.now) exit.now }
     ensures same { coverer.new ≡ coverer.old }
 {
     match exit.kind {
         NextKind::Exit => return_is_covered(subject, next, callee, &exit.state, coverer),
         NextKind::Jump | NextKind::Call => true,
     }
+}
+
+/// Whether a call comes back in a state that is covered from each exit among some ways on of its callee.
+fn exits_are_covered(
+    subject: &Subject,
+    next: &Next,
+    callee: &Callee,
+    exits: &[Next],
+    coverer: &mut Coverer,
+) -> bool
+    ensures exact { IsTrue result ↔ All (OnExit (ReturnCovered coverer.old subject.now next.now callee.now)) exits.now }
+    ensures same { coverer.new ≡ coverer.old }
+{
+    for exit in exits {
+        if !exit_is_covered(subject, next, callee, exit, coverer) {
+            return false;
+        }
+    }
+    true
+}
+
+/// Whether a call comes back in a state that is covered from each exit of a row of its callee.
+fn row_is_covered(
+    alloc: Global,
+    subject: &Subject,
+    next: &Next,
+    callee: &Callee,
+    id: RowId,
+    coverer: &mut Coverer,
+) -> bool
+    ensures exact { IsTrue result ↔ AtEachExit subject.now id (ReturnCovered coverer.old subject.now next.now callee.now) }
+    ensures same { coverer.new ≡ coverer.old }
+{
+    match subject.exits_at(alloc, id) {
+        Some(exits) => exits_are_covered(subject, next, callee, exits.as_slice(), coverer),
+        None => true,
+    }
+}
+
+/// Whether a call comes back in a state that is covered from each exit of its callee.
+fn returns_are_covered(
+    alloc: Global,
+    subject: &Subject,
+    next: &Next,
+    callee: &Callee,
+    coverer: &mut Coverer,
+) -> bool
+    ensures exact { IsTrue result ↔ OnEachExit subject.now callee.now.number (ReturnCovered coverer.old subject.now next.now callee.now) }
+    ensures same { coverer.new ≡ coverer.old }
+{
+    let rows = subject.certificate.rows_of(callee.number);
+    for id in rows.start..rows.end {
+        if !row_is_covered(alloc, subject, next, callee, id, coverer) {
+            return false;
+        }
+    }
+    true
+}
+
+/// Whether a call enters its callee in a state that is covered, and comes back from each exit in one.
+fn call_goes_on(alloc: Global, subject: &Subject, next: &Next, coverer: &mut Coverer) -> bool
+    ensures exact { IsTrue result ↔ CallGoesOn coverer.old subject.now next.now (callee_at subject.now.cert next.now.address) }
+    ensures same { coverer.new ≡ coverer.old }
+{
+    match callee_at(subject.certificate, next.address) {
+        Some(callee) => {
+            entry_is_covered(subject, next, &callee, coverer)
+                && returns_are_covered(alloc, subject, next, &callee, coverer)
+        }
+        None => false,
+    }
+}
+
+/// Whether a row goes on by one of its ways.
+fn next_goes_on(alloc: Global, subject: &Subject, next: &Next, coverer: &mut Coverer) -> bool
+    ensures exact { IsTrue result ↔ NextGoesOn coverer.old subject.now next.now }
+    ensures same { coverer.new ≡ coverer.old }
+{
+    match next.kind {
+        NextKind::Jump => jump_is_covered(subject, next, coverer),
+        NextKind::Call => call_goes_on(alloc, subject, next, coverer),
+        NextKind::Exit => true,
+    }
+}
+
+/// Whether a row goes on by each of these ways.
+fn nexts_go_on(alloc: Global, subject: &Subject, nexts: &[Next], coverer: &mut Coverer) -> bool
+    ensures exact { IsTrue result ↔ All (NextGoesOn coverer.old subject.now) nexts.now }
+    ensures same { coverer.new ≡ coverer.old }
+{
+    for next in nexts {
+        if !next_goes_on(alloc, subject, next, coverer) {
+            return false;
+        }
+    }
+    true
+}
+
+/// Whether a row goes on, once its ways on are known (docs/CHECKER.md, "Successors, calls and exits"): whether each way on within its
+/// procedure, through a call and back from each exit of the callee too, leads to a state that is covered, and each call enters a
+/// procedure that is called, in such a state. The coverer is one of the row's certificate. It takes no memory, and looks once at each
+/// row of a callee.
+pub fn goes_on(alloc: Global, subject: &Subject, nexts: &[Next], coverer: &mut Coverer) -> bool
+    requires certificate { coverer.old ≡ subject.now.cert }
+    requires step { step_of subject.now ≡ Ok nexts.now }
+    ensures exact { IsTrue result ↔ GoesOn subject.now }
+    ensures same { coverer.new ≡ coverer.old }
+{
+    nexts_go_on(alloc, subject, nexts, coverer)
 }

@@ -2,8 +2,15 @@
 #![tactic(auto)]
 
 mod effects;
+mod exits;
 mod going;
 mod paying;
 mod subject;
+mod walks;
+mod ways;
 
+pub use going::goes_on;
+pub use paying::pays;
 pub use subject::Subject;
+pub use walks::{compared, exit_cost};
+pub use ways::Way;

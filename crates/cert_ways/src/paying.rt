@@ -1,13 +1,20 @@
-// Whether a row's potential pays for a way on, or for an exit.
+// Whether a row pays for its ways on, for its calls and exits, and for its procedure's entry.
 
-ghost use Rattle.std.specs.Prelude.{◌≡◌, ◌↔◌, ◌≤◌, IsTrue, unwrap_or};
-ghost use Rattle.cert_ways.specs.Pays.{PaysOut, PaysTo, potential_of};
-ghost use Rattle.cert_ways.specs.Ways.{call_cost};
+ghost use Rattle.std.specs.List.{All};
+ghost use Rattle.std.specs.Prelude.{◌≡◌, ◌≤◌, ◌↔◌, IsSome, IsTrue, Ok, Some};
+ghost use Rattle.cert_cover.specs.Program.{callee_at};
+ghost use Rattle.cert_lines.specs.declared.row.Row.{Row};
+ghost use Rattle.cert_ways.specs.Parts.{AtEachExit, CallPays, NextPays, OnEachExit, OnExit, PaysReturn, PaysToRow, PaysWay};
+ghost use Rattle.cert_ways.specs.Pays.{IsLone, MeetsTime, Pays, PaysCall, PaysOut, PaysTo, constant_sum, cost_before, potential_of};
+ghost use Rattle.cert_ways.specs.Ways.{step_of};
 
-use abs_step::Next;
-use cert_cover::Callee;
-use certificate::RowView;
+use crate::subject::Subject;
+use crate::ways::Way;
+use abs_step::{Next, NextKind};
+use cert_cover::{Callee, callee_at};
+use certificate::{ProcKind, RowId, RowView};
 use loop_bounds::{Effect, Linear, decreases};
+use std::alloc::Global;
 
 /// A row's potential; one that has none counts as 0 for the others.
 fn potential_of(row: &RowView) -> Linear
@@ -44,10 +51,210 @@ fn pays_out(row: &RowView, cost: u32) -> bool
     )
 }
 
-/// The T-states that a call costs with its callee's time; a callee without a time adds none.
-fn call_cost(next: &Next, callee: &Callee) -> u32
-    requires { unwrap_or callee.now.proc.time 0 ≤ 1000000000 }
-    ensures { result ≡ call_cost next.now callee.now }
+/// Whether the row of a subject pays so many T-states.
+fn row_pays_out(subject: &Subject, cost: u32) -> bool
+    ensures { IsTrue result ↔ PaysOut subject.now.row cost }
 {
-    u32::from(next.cost) + callee.proc.time.unwrap_or(0)
+    pays_out(&subject.row, cost)
+}
+
+/// Whether the row of a subject pays for a way to another row.
+fn row_pays_to(subject: &Subject, way: &Way, target: &RowView) -> bool
+    ensures { IsTrue result ↔ PaysTo subject.now.row way.now.cost way.now.arrival.effect target.now }
+{
+    pays_to(&subject.row, way.cost, &way.effect, target)
+}
+
+/// Whether a row pays for a way to the row of a number, if that is asked.
+fn pays_row(subject: &Subject, way: &Way, lone: bool, id: RowId) -> bool
+    requires { IsTrue lone ↔ IsLone subject.now.cert way.now.arrival }
+    ensures { IsTrue result ↔ PaysToRow subject.now way.now id }
+{
+    let Some(row) = subject.certificate.row(id) else {
+        return true;
+    };
+    if way.asks(lone, &row) {
+        row_pays_to(subject, way, &row)
+    } else {
+        true
+    }
+}
+
+/// Whether a row pays for a way, to each row that is asked where it arrives.
+fn pays_way(subject: &Subject, way: &Way) -> bool
+    ensures { IsTrue result ↔ PaysWay subject.now way.now }
+{
+    let lone = way.is_lone(subject.certificate);
+    let rows = way.rows(subject.certificate);
+    for id in rows.start..rows.end {
+        if !pays_row(subject, way, lone, id) {
+            return false;
+        }
+    }
+    true
+}
+
+/// Whether a way on of a callee is no exit, or a row pays for the way back from it.
+fn exit_is_paid(subject: &Subject, next: &Next, callee: &Callee, exit: &Next) -> bool
+    requires { callee_at subject.now.cert next.now.address ≡ Some callee.now }
+    ensures { IsTrue result ↔ OnExit (PaysReturn subject.now next.now callee.now) exit.now }
+{
+    match exit.kind {
+        NextKind::Exit => { pays_way(subject, &subject.return_way(next, callee, &exit.state)) }
+        NextKind::Jump | NextKind::Call => true,
+    }
+}
+
+/// Whether a row pays for the way back from each exit among some ways on of its callee.
+fn exits_are_paid(subject: &Subject, next: &Next, callee: &Callee, exits: &[Next]) -> bool
+    requires { callee_at subject.now.cert next.now.address ≡ Some callee.now }
+    ensures { IsTrue result ↔ All (OnExit (PaysReturn subject.now next.now callee.now)) exits.now }
+{
+    for exit in exits {
+        if !exit_is_paid(subject, next, callee, exit) {
+            return false;
+        }
+    }
+    true
+}
+
+/// Whether a row pays for the way back from each exit of a row of its callee.
+fn row_is_paid(alloc: Global, subject: &Subject, next: &Next, callee: &Callee, id: RowId) -> bool
+    requires { callee_at subject.now.cert next.now.address ≡ Some callee.now }
+    ensures { IsTrue result ↔ AtEachExit subject.now id (PaysReturn subject.now next.now callee.now) }
+{
+    match subject.exits_at(alloc, id) {
+        Some(exits) => exits_are_paid(subject, next, callee, exits.as_slice()),
+        None => true,
+    }
+}
+
+/// Whether a row pays for the way back from each exit of its callee.
+fn returns_are_paid(alloc: Global, subject: &Subject, next: &Next, callee: &Callee) -> bool
+    requires { callee_at subject.now.cert next.now.address ≡ Some callee.now }
+    ensures { IsTrue result ↔ OnEachExit subject.now callee.now.number (PaysReturn subject.now next.now callee.now) }
+{
+    let rows = subject.certificate.rows_of(callee.number);
+    for id in rows.start..rows.end {
+        if !row_is_paid(alloc, subject, next, callee, id) {
+            return false;
+        }
+    }
+    true
+}
+
+/// Whether a callee has a time, and an exit, or else its time and the call are paid.
+fn call_is_paid(alloc: Global, subject: &Subject, next: &Next, callee: &Callee) -> bool
+    requires { callee_at subject.now.cert next.now.address ≡ Some callee.now }
+    ensures { IsTrue result ↔ PaysCall subject.now next.now callee.now }
+{
+    if callee.proc.time.is_none() {
+        return false;
+    }
+    if subject.has_exit(alloc, callee.number) {
+        return true;
+    }
+    row_pays_out(subject, subject.call_cost(next, callee))
+}
+
+/// Whether a row pays for a call, and for each way back from it.
+fn call_pays(alloc: Global, subject: &Subject, next: &Next) -> bool
+    ensures { IsTrue result ↔ CallPays subject.now next.now (callee_at subject.now.cert next.now.address) }
+{
+    match callee_at(subject.certificate, next.address) {
+        Some(callee) => {
+            call_is_paid(alloc, subject, next, &callee)
+                && returns_are_paid(alloc, subject, next, &callee)
+        }
+        None => true,
+    }
+}
+
+/// Whether a row pays for one of its ways on.
+fn next_pays(alloc: Global, subject: &Subject, next: &Next) -> bool
+    ensures { IsTrue result ↔ NextPays subject.now next.now }
+{
+    match next.kind {
+        NextKind::Jump => pays_way(subject, &subject.jump_way(next)),
+        NextKind::Call => call_pays(alloc, subject, next),
+        NextKind::Exit => row_pays_out(subject, u32::from(next.cost)),
+    }
+}
+
+/// Whether a row pays for each of these ways on.
+fn nexts_pay(alloc: Global, subject: &Subject, nexts: &[Next]) -> bool
+    ensures { IsTrue result ↔ All (NextPays subject.now) nexts.now }
+{
+    for next in nexts {
+        if !next_pays(alloc, subject, next) {
+            return false;
+        }
+    }
+    true
+}
+
+/// The T-states that an acceptance takes before the NMI routine's entry.
+fn cost_before(kind: ProcKind) -> u32
+    ensures { result ≡ cost_before kind }
+{
+    match kind {
+        ProcKind::Nmi => 11,
+        ProcKind::Main | ProcKind::Sub => 0,
+    }
+}
+
+/// A number of T-states as a linear.
+fn linear_of(time: u32) -> Linear
+    requires { time ≤ 1000000000 }
+    ensures { result ≡ constant_sum time }
+{
+    match Linear::of_constant(time as i32) {
+        Some(linear) => linear,
+        None => Linear::zero(),
+    }
+}
+
+/// Whether a row's potential is at most its procedure's time, less what goes by before its entry.
+fn meets_time(subject: &Subject) -> bool
+    ensures { IsTrue result ↔ MeetsTime subject.now.proc subject.now.row }
+{
+    let left = linear_of(subject.time());
+    let to = potential_of(&subject.row);
+    let before = cost_before(subject.proc.kind);
+    let state = subject.row.state();
+    decreases(&left, &to, before, &Effect::unchanged(), &state, &state)
+}
+
+/// Whether a row has a potential.
+fn has_potential(subject: &Subject) -> bool
+    ensures { IsTrue result ↔ IsSome subject.now.row.potential }
+{
+    subject.row.potential.is_some()
+}
+
+/// Whether a row meets its procedure's time, if it stands at the entry.
+fn meets_entry(subject: &Subject) -> bool
+    ensures { IsTrue result ↔ (subject.now.row.address ≡ subject.now.proc.entry → MeetsTime subject.now.proc subject.now.row) }
+{
+    if subject.row.address == subject.proc.entry {
+        meets_time(subject)
+    } else {
+        true
+    }
+}
+
+/// Whether a row pays, once its ways on are known (docs/CHECKER.md, "Paying"): whether it has a potential, which pays for each way on
+/// to each row that is asked there, for each call of a procedure and for each exit, and meets its procedure's time at the entry. It is
+/// asked of rows of procedures with a time, and takes no memory.
+pub fn pays(alloc: Global, subject: &Subject, nexts: &[Next]) -> bool
+    requires { step_of subject.now ≡ Ok nexts.now }
+    ensures { IsTrue result ↔ Pays subject.now }
+{
+    if !has_potential(subject) {
+        return false;
+    }
+    if !meets_entry(subject) {
+        return false;
+    }
+    nexts_pay(alloc, subject, nexts)
 }

@@ -1,6 +1,6 @@
 // A row of a certificate for a ROM, with what is asked of it often.
 
-ghost use Rattle.std.specs.Prelude.{◌≡◌, IfOk, IfErr, Ok, Err, IfSome, MatchOption, None, Some, length, slice_get};
+ghost use Rattle.std.specs.Prelude.{◌≡◌, ◌≤◌, IfOk, IfErr, Ok, Err, IfSome, MatchOption, None, Some, length, slice_get, unwrap_or};
 ghost use Rattle.cert_cover.specs.Program.{is_main, map_of_board};
 ghost use Rattle.board_step.specs.Decoded.{StandsAt};
 ghost use Rattle.cert_ways.specs.Ways.{IsSubject, behind_of, step_of};
@@ -83,6 +83,17 @@ impl<'a> Subject<'a> {
         ensures { IsSubject self.now }
     {
         let _ = &self.row;
+    }
+
+    /// The time of the row's procedure, 0 to 1,000,000,000 T-states; 0 where it has none.
+    pub(crate) fn time(&self) -> u32
+        ensures value { result ≡ unwrap_or self.now.proc.time 0 }
+        ensures fits { result ≤ 1000000000 }
+    {
+        // In form: a time is 1,000,000,000 at most.
+        self.certificate.is_in_form();
+        self.is_subject();
+        self.proc.time.unwrap_or(0)
     }
 
     /// Where the row leads on, or why the abstract step refuses it.

@@ -1,0 +1,359 @@
+-- The exits of a procedure are those of its rows, and those of a row are told by its ways on.
+use Rattle.std.proofs.Common.{◌≡◌, ◌<◌, ◌≤◌, ◌↔◌, ◌&&◌, ℕ, zero, suc, if◌then◌else◌, not, Bool, true, false, List, [], ◌∷◌, ◌++◌, get_or, length, Option, Some, None, Result, Ok, Err, slice_get, refl, sym, subst, ap, ◌∙◌, inl, inr, arith, drop, IsTrue, ◌+◌}
+use Rattle.std.specs.List.{All, Contains}
+use Rattle.std.proofs.lemmas.Bool.{cases_lt, false≢true}
+use Rattle.std.proofs.lemmas.List.Elements.{All-contains, Contains-append_cases, Contains-get_or, at_read}
+use Rattle.std.proofs.lemmas.Option.{same_Some, slice_get_read}
+use Rattle.abs_draft.specs.Ground.{Ground}
+use Rattle.abs_draft.specs.Outcomes.{after_moves, before_test, behind_test, known_before, test_of, tested}
+use Rattle.abs_draft.specs.declared.known.Known.{Known}
+use Rattle.abs_state.specs.declared.state.AbsState.{AbsState}
+use Rattle.abs_step.specs.Successors.{answer_by, answer_of, is_call, is_empty, is_return, kind_of, next_of, refusal, nexts_of, way_on, ways_on}
+use Rattle.abs_step.specs.declared.next.Next.{Next}
+use Rattle.abs_step.specs.declared.next.NextKind.{NextKind}
+use Rattle.abs_step.specs.declared.next.NextKind.TheVariants.{Jump, Call, Exit}
+use Rattle.abs_step.specs.declared.reason.Reason.{Reason}
+use Rattle.board_step.proofs.DecodedLemmas.{decoded_once}
+use Rattle.board_step.specs.Decoded.{StandsAt}
+use Rattle.cert_cover.specs.Program.{ground_for, is_inline, is_main}
+use Rattle.cert_lines.specs.declared.proc.Proc.{Proc}
+use Rattle.cert_lines.specs.declared.row.Row.{Row}
+use Rattle.cert_order.specs.Contents.{Contents}
+use Rattle.cert_ways.specs.Parts.{AtEachExit, AtSomeExit, HasExits, HasNoExit, InSomeExit, IsExitAt, IsExitIn, OnEachExit, OnExit, OnSomeExit, may_leave}
+use Rattle.cert_ways.specs.Ways.{Subject, IsExit, IsNumbered, nexts_from, nexts_in, step_of}
+use Rattle.stack_shape.specs.declared.slot.Slot.{Slot}
+use Rattle.z80_decode.specs.declared.fault.DecodeFault.{DecodeFault}
+use Rattle.z80_decode.specs.declared.instr.Instr.{Instr}
+use Rattle.z80_moves.specs.declared.moves.Test.{Test}
+use Rattle.z80_moves.specs.Moves.{moves_of}
+
+-- ---- one row has one subject
+
+abbrev made : List ℕ → Contents → Row → Proc → Result Instr DecodeFault → Subject
+made rom cert row proc decoded = record { rom = rom; cert = cert; row = row; proc = proc; decoded = decoded }
+
+same_parts : (rom : List ℕ) (cert : Contents) (row : Row) (p q : Proc) (d e : Result Instr DecodeFault) → p ≡ q → d ≡ e →
+    made rom cert row p d ≡ made rom cert row q e
+same_parts rom cert row p q d e same_proc same_decoded =
+    ap (λ (x : Proc). made rom cert row x d) same_proc ∙ ap (λ (x : Result Instr DecodeFault). made rom cert row q x) same_decoded
+
+-- subjects of one row have one procedure, and one thing stands there
+one_subject : (rom : List ℕ) (cert : Contents) (row : Row) (p q : Proc) (d e : Result Instr DecodeFault) →
+    slice_get cert.procs row.proc ≡ Some p → slice_get cert.procs row.proc ≡ Some q → StandsAt rom row.address d → StandsAt rom row.address e →
+    made rom cert row p d ≡ made rom cert row q e
+one_subject rom cert row p q d e has_p has_q stands_d stands_e =
+    same_parts rom cert row p q d e (same_Some p q (sym has_p ∙ has_q)) (decoded_once (drop row.address rom) d e stands_d stands_e)
+
+-- a subject with its ROM, its certificate and its row put in the place of equal ones
+moved : (s : Subject) (rom : List ℕ) (cert : Contents) (row : Row) → s.rom ≡ rom → s.cert ≡ cert → s.row ≡ row → s ≡ made rom cert row s.proc s.decoded
+moved s rom cert row same_rom same_cert same_row =
+    ap (λ (x : List ℕ). made x s.cert s.row s.proc s.decoded) same_rom
+    ∙ ap (λ (x : Contents). made rom x s.row s.proc s.decoded) same_cert
+    ∙ ap (λ (x : Row). made rom cert x s.proc s.decoded) same_row
+
+-- what is known of a subject, said of its ROM, certificate and row
+pub record Stated (rom : List ℕ) (cert : Contents) (row : Row) (p : Proc) (d : Result Instr DecodeFault) : Type 0 where
+  pub procedure : slice_get cert.procs row.proc ≡ Some p
+  pub stands : StandsAt rom row.address d
+
+stated : (rom : List ℕ) (cert : Contents) (number : ℕ) (row : Row) (s : Subject) → slice_get cert.rows number ≡ Some row → IsNumbered rom cert number s →
+    (s.row ≡ row) × Stated rom cert row s.proc s.decoded
+stated rom cert number row s at is =
+    let same : s.row ≡ row = same_Some s.row row (sym is.at ∙ at) in (
+      same,
+      record {
+        procedure = subst (λ (c : Contents). slice_get c.procs row.proc ≡ Some s.proc) is.same.1
+            (subst (λ (r : Row). slice_get s.cert.procs r.proc ≡ Some s.proc) same is.is_subject.procedure);
+        stands = subst (λ (x : List ℕ). StandsAt x row.address s.decoded) is.same.0
+            (subst (λ (r : Row). StandsAt s.rom r.address s.decoded) same is.is_subject.stands);
+      },
+    )
+
+-- the row of a number is one subject
+pub subject_once : (rom : List ℕ) (cert : Contents) (number : ℕ) (s t : Subject) → IsNumbered rom cert number s → IsNumbered rom cert number t → s ≡ t
+subject_once rom cert number s t is other =
+    let here = stated rom cert number s.row s is.at is in
+    let there = stated rom cert number s.row t is.at other in
+    moved s rom cert s.row is.same.0 is.same.1 refl
+    ∙ one_subject rom cert s.row s.proc t.proc s.decoded t.decoded here.1.procedure there.1.procedure here.1.stands there.1.stands
+    ∙ sym (moved t rom cert s.row other.same.0 other.same.1 there.0)
+
+-- ---- exits of a row
+
+-- the ways on of the row of a number tell its exits
+pub has_exits : (rom : List ℕ) (cert : Contents) (number : ℕ) (s : Subject) (nexts : List Next) → IsNumbered rom cert number s → nexts_from s ≡ nexts →
+    HasExits rom cert number nexts
+has_exits rom cert number s nexts is same exit = (
+  (λ at. subst (λ (ns : List Next). IsExitIn ns exit) same
+      (subst (λ (t : Subject). IsExitIn (nexts_from t) exit) (subject_once rom cert number at.subject s at.is is) at.leaves)),
+  (λ leaves. record { subject = s; is = is; leaves = subst (λ (ns : List Next). IsExitIn ns exit) (sym same) leaves }),
+)
+
+none_in : (x : Next) → Contains [] x → ⊥
+none_in x listed = absurd (omega (arith, listed.1))
+
+no_exit_in : (exit : AbsState) → IsExitIn [] exit → ⊥
+no_exit_in exit leaves = none_in leaves.next leaves.leads
+
+-- a row that the abstract step refuses has no exit
+pub refused_has_none : (rom : List ℕ) (cert : Contents) (number : ℕ) (s : Subject) (why : Reason) → IsNumbered rom cert number s →
+    step_of s ≡ Err why → HasNoExit rom cert number
+refused_has_none rom cert number s why is refused exit at =
+    no_exit_in exit ((has_exits rom cert number s [] is (ap nexts_in refused) exit).0 at)
+
+-- ---- rows that may leave
+
+-- the one way on in a list of one
+in_one : (x n : Next) → Contains (x ∷ []) n → x ≡ n
+in_one x n (zero, within, is) = is
+in_one x n (suc k, within, is) = absurd (omega (arith, within))
+
+-- a way on that is an exit is the one where the instruction is taken
+exit_way : (k : Option Known) (f : Known → Next) (n : Next) → Contains (way_on k f) n → (k' : Known) × (f k' ≡ n)
+exit_way None f n listed = absurd (none_in n listed)
+exit_way (Some k) f n listed = (k, in_one (f k) n listed)
+
+-- where each way on by one of two tests is of this kind, or a jump, one that leads out tells the kind
+two_ways : (o p : Option Known) (f h : Known → Next) (kind : NextKind) (n : Next) → ((k : Known) → (f k).kind ≡ kind) → ((k : Known) → (h k).kind ≡ Jump) →
+    Contains (way_on o f ++ way_on p h) n → n.kind ≡ Exit → kind ≡ Exit
+two_ways o p f h kind n taken left listed leaves =
+    elim (Contains-append_cases (way_on o f) (way_on p h) n listed) [
+      | inl first ↦
+          let way = exit_way o f n first in
+          sym (taken way.0) ∙ ap (λ (x : Next). x.kind) way.1 ∙ leaves
+      | inr second ↦
+          let way = exit_way p h n second in
+          let jumps : Jump ≡ Exit = sym (left way.0) ∙ ap (λ (x : Next). x.kind) way.1 ∙ leaves in
+          cc
+    ]
+
+-- an exit is a way on of an instruction that leads out when it is taken
+exit_kind : (g : Ground) (main inline : Bool) (instr : Instr) (kind : NextKind) (test : Option Test) (k : Known) (n : Next) →
+    Contains (ways_on g main inline instr kind test k) n → n.kind ≡ Exit → kind ≡ Exit
+exit_kind g main inline instr kind None k n listed leaves =
+    ap (λ (x : Next). x.kind) (in_one (next_of main instr true kind k) n listed) ∙ leaves
+exit_kind g main inline instr kind (Some test) k n listed leaves =
+    two_ways (tested test true k) (tested test false k)
+    (λ (t : Known). next_of main instr true kind (after_moves g inline (behind_test (moves_of instr)) t))
+    (λ (l : Known). next_of main instr false Jump l) kind n (λ t. refl) (λ l. refl) listed leaves
+
+-- an instruction that leads out when it is taken is a return, where there are no words
+abbrev kind_by : Bool → Bool → Bool → Bool → NextKind
+kind_by call inline return empty = if call && not inline then Call else if return && empty then Exit else Jump
+
+kind_leaves : (inline : Bool) (instr : Instr) (shape : List Slot) → kind_of inline instr shape ≡ Exit → (is_empty shape && is_return instr) ≡ true
+kind_leaves inline instr shape leaves = kinds (is_call instr) inline (is_return instr) (is_empty shape) leaves
+  where
+    kinds : (call inline return empty : Bool) → kind_by call inline return empty ≡ Exit → (empty && return) ≡ true
+    kinds true true true true e = refl
+    kinds true true true false e = cc
+    kinds true true false empty e = cc
+    kinds true false return empty e = cc
+    kinds false inline true true e = refl
+    kinds false inline true false e = cc
+    kinds false inline false empty e = cc
+
+-- a row with an exit is one that may leave
+leaves_by : (g : Ground) (address : ℕ) (main inline : Bool) (state : AbsState) (decoded : Result Instr DecodeFault) (exit : AbsState) →
+    IsExitIn (nexts_in (answer_of g address main inline state decoded)) exit → may_leave state decoded ≡ true
+leaves_by g address main inline state (Err fault) exit leaves = absurd (no_exit_in exit leaves)
+leaves_by g address main inline state (Ok instr) exit leaves = by (refusal main inline instr state) leaves
+  where
+    by : (reason : Option Reason) → IsExitIn (nexts_in (answer_by reason (nexts_of g address main inline instr state))) exit →
+        may_leave state (Ok instr) ≡ true
+    by (Some reason) h = absurd (no_exit_in exit h)
+    by None h =
+        kind_leaves inline instr state.shape
+        (exit_kind g main inline instr (kind_of inline instr state.shape) (test_of (moves_of instr))
+        (after_moves g inline (before_test (moves_of instr)) (known_before address instr state)) h.next h.leads h.kind)
+
+-- a row that may not leave has no exit
+pub may_leave_only : (rom : List ℕ) (cert : Contents) (number : ℕ) (row : Row) → slice_get cert.rows number ≡ Some row →
+    ((decoded : Result Instr DecodeFault) → StandsAt rom row.address decoded → false ≡ may_leave row.state decoded) → HasNoExit rom cert number
+may_leave_only rom cert number row at never exit leaves =
+    let s = leaves.subject in
+    let here = stated rom cert number row s at leaves.is in
+    let may : may_leave s.row.state s.decoded ≡ true =
+    leaves_by (ground_for s.rom s.cert) s.row.address (is_main s.row.proc) (is_inline s.cert s.row.address) s.row.state s.decoded exit leaves.leaves in
+    let may_here : may_leave row.state s.decoded ≡ true = subst (λ (r : Row). may_leave r.state s.decoded ≡ true) here.0 may in
+    let not : false ≡ may_leave row.state s.decoded = never s.decoded here.1.stands in
+    false≢true (not ∙ may_here)
+
+-- a row without words, where this instruction stands, may leave where this is a return
+pub leaves_if : (rom : List ℕ) (row : Row) (instr : Instr) (answer : Bool) → row.state.shape ≡ [] → StandsAt rom row.address (Ok instr) →
+    answer ≡ is_return instr → (decoded : Result Instr DecodeFault) → StandsAt rom row.address decoded → answer ≡ may_leave row.state decoded
+leaves_if rom row instr answer empty stands is decoded other =
+    let here : answer ≡ (is_empty row.state.shape && is_return instr) =
+    subst (λ (shape : List Slot). answer ≡ (is_empty shape && is_return instr)) (sym empty) is in
+    subst (λ (d : Result Instr DecodeFault). answer ≡ may_leave row.state d) (decoded_once (drop row.address rom) (Ok instr) decoded stands other) here
+
+-- a row where no instruction stands does not leave
+pub stays_if : (rom : List ℕ) (row : Row) (fault : DecodeFault) → StandsAt rom row.address (Err fault) → (decoded : Result Instr DecodeFault) →
+    StandsAt rom row.address decoded → false ≡ may_leave row.state decoded
+stays_if rom row fault stands decoded other =
+    subst (λ (d : Result Instr DecodeFault). false ≡ may_leave row.state d) (decoded_once (drop row.address rom) (Err fault) decoded stands other) refl
+
+-- ---- exits of a procedure
+
+-- the rows of a procedure have these numbers, and no others have
+abbrev pub AreRowsOf : Contents → ℕ → ℕ → ℕ → Type 0
+AreRowsOf cert proc start end = (k : ℕ) (row : Row) → slice_get cert.rows k ≡ Some row → ((start ≤ k) × (k < end)) ↔ (row.proc ≡ proc)
+
+-- an exit of one of the rows of a procedure is one of the procedure
+pub is_exit : (rom : List ℕ) (cert : Contents) (proc start end k : ℕ) (exit : AbsState) → AreRowsOf cert proc start end → start ≤ k → k < end →
+    IsExitAt rom cert k exit → IsExit rom cert proc exit
+is_exit rom cert proc start end k exit rows from below at = record {
+  subject = at.subject;
+  is_subject = at.is.is_subject;
+  same = at.is.same;
+  of = (rows k at.subject.row at.is.at).0 (from, below);
+  next = at.leaves.next;
+  leads = at.leaves.leads;
+  kind = at.leaves.kind;
+  state = at.leaves.state;
+}
+
+-- an exit of a row of a procedure, by the row's number
+pub record NumberedExit (rom : List ℕ) (cert : Contents) (start end : ℕ) (exit : AbsState) : Type 0 where
+  pub number : ℕ
+  pub from : start ≤ number
+  pub below : number < end
+  pub at : IsExitAt rom cert number exit
+
+-- an exit of a procedure is one of its rows
+pub numbered : (rom : List ℕ) (cert : Contents) (proc start end : ℕ) (exit : AbsState) → AreRowsOf cert proc start end → IsExit rom cert proc exit →
+    NumberedExit rom cert start end exit
+numbered rom cert proc start end exit rows leaves =
+    let s = leaves.subject in
+    let (k, within, is) = leaves.is_subject.listed in
+    let own : slice_get s.cert.rows k ≡ Some s.row = slice_get_read s.cert.rows _ k s.row refl within (sym is) in
+    let at : slice_get cert.rows k ≡ Some s.row = subst (λ (c : Contents). slice_get c.rows k ≡ Some s.row) leaves.same.1 own in
+    let place = (rows k s.row at).1 leaves.of in
+    record {
+      number = k;
+      from = place.0;
+      below = place.1;
+      at = record {
+        subject = s;
+        is = record { is_subject = leaves.is_subject; same = leaves.same; at = at };
+        leaves = record { next = leaves.next; leads = leaves.leads; kind = leaves.kind; state = leaves.state };
+      };
+    }
+
+-- where this is not so of each exit of one of its rows, it is not so of each of its exits
+pub not_each : (s : Subject) (proc start end k : ℕ) (P : AbsState → Type 0) (answer : Bool) → AreRowsOf s.cert proc start end → start ≤ k → k < end →
+    answer ≡ false → (IsTrue answer ↔ AtEachExit s k P) → IsTrue false ↔ OnEachExit s proc P
+not_each s proc start end k P answer rows from below refused exact = (
+  (λ yes. absurd (false≢true yes)),
+  (λ all. sym refused ∙ exact.1 record { each = λ exit at. all.each exit (is_exit s.rom s.cert proc start end k exit rows from below at) }),
+)
+
+-- where this is so of each exit of each of its rows, it is so of each of its exits
+pub each_exit : (s : Subject) (proc start end : ℕ) (P : AbsState → Type 0) → AreRowsOf s.cert proc start end →
+    ((k : ℕ) → start ≤ k → k < end → AtEachExit s k P) → IsTrue true ↔ OnEachExit s proc P
+each_exit s proc start end P rows all = (
+  (λ yes. record { each = λ exit leaves. let n = numbered s.rom s.cert proc start end exit rows leaves in (all n.number n.from n.below).each exit n.at }),
+  (λ each. refl),
+)
+
+-- where this is so of some exit of one of its rows, it is so of one of its exits
+pub some_exit : (s : Subject) (proc start end k : ℕ) (P : AbsState → Type 0) (answer : Bool) → AreRowsOf s.cert proc start end → start ≤ k → k < end →
+    answer ≡ true → (IsTrue answer ↔ AtSomeExit s k P) → IsTrue true ↔ OnSomeExit s proc P
+some_exit s proc start end k P answer rows from below found exact =
+    let some = exact.0 found in (
+      (λ _. record { exit = some.exit; of = is_exit s.rom s.cert proc start end k some.exit rows from below some.at; holds = some.holds }),
+      (λ _. refl),
+    )
+
+-- where this is so of no exit of any of its rows, it is so of none of its exits
+pub no_exit : (s : Subject) (proc start end : ℕ) (P : AbsState → Type 0) → AreRowsOf s.cert proc start end →
+    ((k : ℕ) → start ≤ k → k < end → AtSomeExit s k P → ⊥) → IsTrue false ↔ OnSomeExit s proc P
+no_exit s proc start end P rows none = (
+  (λ yes. absurd (false≢true yes)),
+  (λ some.
+      let n = numbered s.rom s.cert proc start end some.exit rows some.of in
+      absurd (none n.number n.from n.below record { exit = some.exit; at = n.at; holds = some.holds })),
+)
+
+-- one more row without such an exit
+pub none_more : (s : Subject) (start k : ℕ) (P : AbsState → Type 0) (answer : Bool) → answer ≡ false → (IsTrue answer ↔ AtSomeExit s k P) →
+    ((n : ℕ) → start ≤ n → n < k → AtSomeExit s n P → ⊥) → (n : ℕ) → start ≤ n → n < k + 1 → AtSomeExit s n P → ⊥
+none_more s start k P answer refused exact none n from below some =
+    elim (cases_lt n k) [
+      | inl before ↦ none n from before some
+      | inr behind ↦
+          let same : n ≡ k = omega (arith, below, behind) in
+          let here : AtSomeExit s k P = subst (λ (m : ℕ). AtSomeExit s m P) same some in
+          false≢true (sym refused ∙ exact.1 here)
+    ]
+
+-- one more row of which this is so at each exit
+pub each_more : (s : Subject) (start k : ℕ) (P : AbsState → Type 0) (answer : Bool) → answer ≡ true → (IsTrue answer ↔ AtEachExit s k P) →
+    ((n : ℕ) → start ≤ n → n < k → AtEachExit s n P) → (n : ℕ) → start ≤ n → n < k + 1 → AtEachExit s n P
+each_more s start k P answer found exact each n from below =
+    elim (cases_lt n k) [
+      | inl before ↦ each n from before
+      | inr behind ↦
+          let same : k ≡ n = omega (arith, below, behind) in
+          subst (λ (m : ℕ). AtEachExit s m P) same (exact.0 found)
+    ]
+
+-- ---- exits among ways on
+
+-- what holds of each way on that is an exit holds of each exit among them
+pub of_exits_in : (P : AbsState → Type 0) (nexts : List Next) → All (OnExit P) nexts → (exit : AbsState) → IsExitIn nexts exit → P exit
+of_exits_in P nexts all exit leaves =
+    subst P (sym leaves.state) (All-contains (OnExit P) nexts leaves.next all leaves.leads leaves.kind)
+
+pub at_exits_in : (P : AbsState → Type 0) (nexts : List Next) → ((exit : AbsState) → IsExitIn nexts exit → P exit) → All (OnExit P) nexts
+at_exits_in P nexts all k d within leaves =
+    all (get_or nexts k d).state record { next = get_or nexts k d; leads = Contains-get_or nexts k d within; kind = leaves; state = refl }
+
+-- each exit of a row, by its ways on
+pub at_each_exit : (s : Subject) (number : ℕ) (P : AbsState → Type 0) (nexts : List Next) (answer : Bool) → HasExits s.rom s.cert number nexts →
+    (IsTrue answer ↔ All (OnExit P) nexts) → IsTrue answer ↔ AtEachExit s number P
+at_each_exit s number P nexts answer has exact = (
+  (λ yes. record { each = λ exit at. of_exits_in P nexts (exact.0 yes) exit ((has exit).0 at) }),
+  (λ all. exact.1 (at_exits_in P nexts (λ exit leaves. all.each exit ((has exit).1 leaves)))),
+)
+
+-- a row without an exit
+pub at_no_exit : (s : Subject) (number : ℕ) (P : AbsState → Type 0) → HasNoExit s.rom s.cert number → IsTrue true ↔ AtEachExit s number P
+at_no_exit s number P none = ((λ yes. record { each = λ exit at. absurd (none exit at) }), (λ all. refl))
+
+-- some exit of a row, by its ways on
+pub at_some_exit : (s : Subject) (number : ℕ) (P : AbsState → Type 0) (nexts : List Next) (answer : Bool) → HasExits s.rom s.cert number nexts →
+    (IsTrue answer ↔ InSomeExit nexts P) → IsTrue answer ↔ AtSomeExit s number P
+at_some_exit s number P nexts answer has exact = (
+  (λ yes. let some = exact.0 yes in record { exit = some.exit; at = (has some.exit).1 some.among; holds = some.holds }),
+  (λ some. exact.1 record { exit = some.exit; among = (has some.exit).0 some.at; holds = some.holds }),
+)
+
+-- a row without an exit has none of which this is so
+pub at_none : (s : Subject) (number : ℕ) (P : AbsState → Type 0) → HasNoExit s.rom s.cert number → IsTrue false ↔ AtSomeExit s number P
+at_none s number P none = ((λ yes. absurd (false≢true yes)), (λ some. absurd (none some.exit some.at)))
+
+-- ---- loops over ways on
+
+-- one more way on of which this is not so
+pub none_more_in : (Q : Next → Type 0) (xs : List Next) (i : ℕ) (item : Next) (answer : Bool) → item ≡ get_or xs i item → i < length xs → answer ≡ false →
+    (IsTrue answer ↔ Q item) → ((k : ℕ) (d : Next) → k < i → Q (get_or xs k d) → ⊥) → (k : ℕ) (d : Next) → k < i + 1 → Q (get_or xs k d) → ⊥
+none_more_in Q xs i item answer is within refused exact none k d below =
+    elim (cases_lt k i) [
+      | inl before ↦ none k d before
+      | inr behind ↦
+          let here : Q (get_or xs i d) → ⊥ = at_read xs (λ (x : Next). Q x → ⊥) i item within is (λ q. false≢true (sym refused ∙ exact.1 q)) d in
+          let same : i ≡ k = omega (arith, below, behind) in
+          subst (λ (m : ℕ). Q (get_or xs m d) → ⊥) same here
+    ]
+
+-- one more way on of which this is so
+pub each_more_in : (Q : Next → Type 0) (xs : List Next) (i : ℕ) (item : Next) (answer : Bool) → item ≡ get_or xs i item → i < length xs → answer ≡ true →
+    (IsTrue answer ↔ Q item) → ((k : ℕ) (d : Next) → k < i → Q (get_or xs k d)) → (k : ℕ) (d : Next) → k < i + 1 → Q (get_or xs k d)
+each_more_in Q xs i item answer is within found exact each k d below =
+    elim (cases_lt k i) [
+      | inl before ↦ each k d before
+      | inr behind ↦
+          let same : i ≡ k = omega (arith, below, behind) in
+          subst (λ (m : ℕ). Q (get_or xs m d)) same (at_read xs Q i item within is (exact.0 found) d)
+    ]

@@ -1,0 +1,26 @@
+use Rattle.std.proofs.Common.{subst, arith}
+use Rattle.cert_cover.proofs.CoveringLemmas.{AreRowsAt}
+use Rattle.cert_ways.specs.Ways.{Subject}
+use Rattle.cert_ways.proofs.PayingLemmas.{pays_each, pays_more, pays_not}
+use Rattle.cert_ways.proofs.paying.pays_way.Goals as goal
+
+pub returns-then-not-pays_row : goal.returns-then-not-pays_row
+returns-then-not-pays_row c =
+    let start = c.rows-rows.result.start in
+    let end = c.rows-rows.result.end in
+    pays_not c.args.subject.now c.args.way.now start end c.loop-id.id c.pays_row.result
+    (subst (λ (s : Subject). AreRowsAt s.cert c.args.way.now.arrival start end) c.subject.view_is c.rows-rows.ensures.at) c.loop-id.auto.id c.loop-id-test.true
+    c.if-not-pays_row.true c.pays_row.ensures
+
+pub loop-id-preserved : goal.loop-id-preserved
+loop-id-preserved c =
+    pays_more c.args.subject.now c.args.way.now c.rows-rows.result.start c.loop-id.id c.pays_row.result c.if-not-pays_row.false c.pays_row.ensures
+    c.loop-id.invariant
+
+pub returns : goal.returns
+returns c =
+    let start = c.rows-rows.result.start in
+    let end = c.rows-rows.result.end in
+    pays_each c.args.subject.now c.args.way.now start end
+    (subst (λ (s : Subject). AreRowsAt s.cert c.args.way.now.arrival start end) c.subject.view_is c.rows-rows.ensures.at)
+    (λ k from below. c.loop-id.invariant k from (omega (arith, below, c.loop-id-test.false)))

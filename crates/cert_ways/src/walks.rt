@@ -1,0 +1,269 @@
+// What lies between the rows of a walk, and at its end.
+
+ghost use Rattle.std.specs.List.{All};
+ghost use Rattle.std.specs.Prelude.{◌≡◌, ◌↔◌, Contains, IsSome, IsTrue, Ok, Some, length};
+ghost use Rattle.cert_cover.specs.Program.{callee_at};
+ghost use Rattle.cert_ways.specs.Parts.{AtSomeExit, CostsExit, ExitLands, InSomeExit, IsAmong, LiesBy, LiesByCall, OnCall, OnSomeExit, ReturnLands, greater};
+ghost use Rattle.cert_ways.specs.Pays.{IsExitCost, IsGreatest, IsWalked, LeavesAt, LieBetween, LiesBetween};
+ghost use Rattle.cert_ways.specs.Ways.{step_of};
+
+use crate::subject::Subject;
+use abs_step::{Next, NextKind};
+use address_map::Rom;
+use cert_cover::{Callee, callee_at};
+use certificate::{Certificate, RowId, RowView};
+use std::alloc::Global;
+
+/// The greater of two numbers, where there are two.
+fn greater(one: Option<u32>, other: Option<u32>) -> Option<u32>
+    ensures { result ≡ greater one other }
+{
+    match (one, other) {
+        (Some(a), Some(b)) => Some(a.max(b)),
+        (Some(a), None) => Some(a),
+        (None, b) => b,
+    }
+}
+
+/// Whether a way on of a callee is an exit, and a call comes back from it to a row that is asked.
+fn exit_lands(
+    subject: &Subject,
+    next: &Next,
+    callee: &Callee,
+    exit: &Next,
+    target: &RowView,
+) -> bool
+    requires called { callee_at subject.now.cert next.now.address ≡ Some callee.now }
+    requires listed { Contains subject.now.cert.rows target.now }
+    ensures { IsTrue result ↔ ExitLands subject.now next.now callee.now target.now exit.now }
+{
+    match exit.kind {
+        NextKind::Exit => subject
+            .return_way(next, callee, &exit.state)
+            .lands(subject.certificate, target),
+        NextKind::Jump | NextKind::Call => false,
+    }
+}
+
+/// Whether a call comes back to a row that is asked, from some exit among some ways on of its callee.
+fn some_exit_lands(
+    subject: &Subject,
+    next: &Next,
+    callee: &Callee,
+    exits: &[Next],
+    target: &RowView,
+) -> bool
+    requires called { callee_at subject.now.cert next.now.address ≡ Some callee.now }
+    requires listed { Contains subject.now.cert.rows target.now }
+    ensures { IsTrue result ↔ InSomeExit exits.now (ReturnLands subject.now next.now callee.now target.now) }
+{
+    for exit in exits {
+        if exit_lands(subject, next, callee, exit, target) {
+            return true;
+        }
+    }
+    false
+}
+
+/// Whether a call comes back to a row that is asked, from some exit of a row of its callee.
+fn row_lands(
+    alloc: Global,
+    subject: &Subject,
+    next: &Next,
+    callee: &Callee,
+    id: RowId,
+    target: &RowView,
+) -> bool
+    requires called { callee_at subject.now.cert next.now.address ≡ Some callee.now }
+    requires listed { Contains subject.now.cert.rows target.now }
+    ensures { IsTrue result ↔ AtSomeExit subject.now id (ReturnLands subject.now next.now callee.now target.now) }
+{
+    match subject.exits_at(alloc, id) {
+        Some(exits) => some_exit_lands(subject, next, callee, exits.as_slice(), target),
+        None => false,
+    }
+}
+
+/// Whether a call comes back to a row that is asked, from some exit of its callee.
+fn some_return_lands(
+    alloc: Global,
+    subject: &Subject,
+    next: &Next,
+    callee: &Callee,
+    target: &RowView,
+) -> bool
+    requires called { callee_at subject.now.cert next.now.address ≡ Some callee.now }
+    requires listed { Contains subject.now.cert.rows target.now }
+    ensures { IsTrue result ↔ OnSomeExit subject.now callee.now.number (ReturnLands subject.now next.now callee.now target.now) }
+{
+    let rows = subject.certificate.rows_of(callee.number);
+    for id in rows.start..rows.end {
+        if row_lands(alloc, subject, next, callee, id, target) {
+            return true;
+        }
+    }
+    false
+}
+
+/// The T-states that lie between a row and another by a call, or None where it doesn't lead there.
+fn cost_by_call(alloc: Global, subject: &Subject, next: &Next, target: &RowView) -> Option<u32>
+    requires { Contains subject.now.cert.rows target.now }
+    ensures { IsGreatest (LiesByCall subject.now next.now target.now (callee_at subject.now.cert next.now.address)) result }
+{
+    let callee = callee_at(subject.certificate, next.address)?;
+    if some_return_lands(alloc, subject, next, &callee, target) {
+        Some(subject.call_cost(next, &callee))
+    } else {
+        None
+    }
+}
+
+/// The T-states that lie between a row and another by a way on, or None where it doesn't lead there.
+fn cost_by(alloc: Global, subject: &Subject, next: &Next, target: &RowView) -> Option<u32>
+    requires { Contains subject.now.cert.rows target.now }
+    ensures { IsGreatest (LiesBy subject.now target.now next.now) result }
+{
+    match next.kind {
+        NextKind::Jump => {
+            if subject.jump_way(next).lands(subject.certificate, target) {
+                Some(u32::from(next.cost))
+            } else {
+                None
+            }
+        }
+        NextKind::Call => cost_by_call(alloc, subject, next, target),
+        NextKind::Exit => None,
+    }
+}
+
+/// The most T-states that lie between a row and another by some of these ways on, or None where none leads there.
+fn greatest_cost(alloc: Global, subject: &Subject, nexts: &[Next], target: &RowView) -> Option<u32>
+    requires { Contains subject.now.cert.rows target.now }
+    ensures { IsGreatest (IsAmong nexts.now (LiesBy subject.now target.now)) result }
+{
+    let mut greatest = None;
+    for next in nexts {
+        greatest = greater(greatest, cost_by(alloc, subject, next, target));
+    }
+    greatest
+}
+
+/// Whether a way on is no call, or it calls a procedure with a time.
+fn call_is_timed(subject: &Subject, next: &Next) -> bool
+    ensures { IsTrue result ↔ OnCall subject.now next.now }
+{
+    if next.kind != NextKind::Call {
+        return true;
+    }
+    match callee_at(subject.certificate, next.address) {
+        Some(callee) => callee.proc.time.is_some(),
+        None => true,
+    }
+}
+
+/// Whether a row is one of a procedure with a time.
+fn is_timed(subject: &Subject) -> bool
+    ensures { IsTrue result ↔ IsSome subject.now.proc.time }
+{
+    subject.proc.time.is_some()
+}
+
+/// Whether a row is one of a procedure with a time, and calls none without.
+fn is_walked(subject: &Subject, nexts: &[Next]) -> bool
+    requires { step_of subject.now ≡ Ok nexts.now }
+    ensures { IsTrue result ↔ IsWalked subject.now }
+{
+    is_timed(subject) && calls_are_timed(subject, nexts)
+}
+
+/// Whether each of these ways on that is a call calls a procedure with a time.
+fn calls_are_timed(subject: &Subject, nexts: &[Next]) -> bool
+    ensures { IsTrue result ↔ All (OnCall subject.now) nexts.now }
+{
+    for next in nexts {
+        if !call_is_timed(subject, next) {
+            return false;
+        }
+    }
+    true
+}
+
+/// The most T-states that lie between a row and another, where a walk may go from it to that.
+fn cost_between(alloc: Global, subject: &Subject, target: &RowView) -> Option<u32>
+    requires { Contains subject.now.cert.rows target.now }
+    ensures { IsGreatest (LiesBetween subject.now target.now) result }
+{
+    let Ok(nexts) = subject.step(alloc) else {
+        return None;
+    };
+    if is_walked(subject, nexts.as_slice()) {
+        greatest_cost(alloc, subject, nexts.as_slice(), target)
+    } else {
+        None
+    }
+}
+
+/// The T-states of an exit.
+fn cost_of_exit(next: &Next) -> Option<u32>
+    ensures { IsGreatest (CostsExit next.now) result }
+{
+    match next.kind {
+        NextKind::Exit => Some(u32::from(next.cost)),
+        NextKind::Jump | NextKind::Call => None,
+    }
+}
+
+/// The most T-states of an exit among some ways on, or None where there is none.
+fn greatest_exit(nexts: &[Next]) -> Option<u32>
+    ensures { IsGreatest (IsAmong nexts.now CostsExit) result }
+{
+    let mut greatest = None;
+    for next in nexts {
+        greatest = greater(greatest, cost_of_exit(next));
+    }
+    greatest
+}
+
+/// The most T-states of an exit of a row, or None where it has none.
+fn cost_of_leaving(alloc: Global, subject: &Subject) -> Option<u32>
+    ensures { IsGreatest (IsExitCost subject.now) result }
+{
+    match subject.step(alloc) {
+        Ok(nexts) => greatest_exit(nexts.as_slice()),
+        Err(_) => None,
+    }
+}
+
+/// The T-states that lie between two rows of a certificate, by their numbers, where the second may come next after the first on a walk:
+/// the most of those of the ways on of the first that lead to the second, with the time of a callee where a way leads through a call
+/// (docs/CHECKER.md, "Paying"). None where there is no such row, where no way leads from one to the other, and where the first is a row
+/// of a procedure without a time, calls one, or is refused for itself. The ROM has as many bytes as the certificate says. It takes no
+/// memory.
+pub fn compared(
+    alloc: Global,
+    rom: &Rom,
+    certificate: &Certificate,
+    from: RowId,
+    to: RowId,
+) -> Option<u32>
+    requires { certificate.now.rom_len ≡ length rom.now }
+    ensures { IsGreatest (LieBetween rom.now certificate.now from to) result }
+{
+    let map = certificate.board().map(rom.len());
+    let subject = Subject::of(rom, &map, certificate, from)?;
+    subject.is_subject();
+    let target = certificate.row(to)?;
+    cost_between(alloc, &subject, &target)
+}
+
+/// The T-states of the exit of a row, by its number, also in a procedure without a time; None where there is no such row, or it has no
+/// exit. The ROM has as many bytes as the certificate says. It takes no memory.
+pub fn exit_cost(alloc: Global, rom: &Rom, certificate: &Certificate, row: RowId) -> Option<u32>
+    requires { certificate.now.rom_len ≡ length rom.now }
+    ensures { IsGreatest (LeavesAt rom.now certificate.now row) result }
+{
+    let map = certificate.board().map(rom.len());
+    let subject = Subject::of(rom, &map, certificate, row)?;
+    subject.is_subject();
+    cost_of_leaving(alloc, &subject)
+}

@@ -1,0 +1,143 @@
+// A way on within a procedure, and the rows to which it leads.
+
+ghost use Rattle.std.specs.Prelude.{◌≡◌, ◌≤◌, ◌<◌, ◌↔◌, ◌⊎◌, ℕ, Contains, Some, IsTrue, length, slice_get, unwrap_or};
+ghost use Rattle.abs_state.specs.Covers.{MeetsState};
+ghost use Rattle.cert_cover.specs.Program.{callee_at};
+ghost use Rattle.cert_lines.specs.declared.row.Row.{Row};
+ghost use Rattle.cert_ways.specs.Pays.{AreOne, IsLone, Lands};
+ghost use Rattle.cert_ways.specs.Ways.{call_cost, jump_way, return_way};
+
+use crate::effects::effect_of_call;
+use crate::subject::Subject;
+use abs_draft::settled;
+use abs_state::AbsState;
+use abs_step::Next;
+use call_graph::ProcId;
+use cert_cover::{Arrival, Callee, split_at};
+use certificate::{Certificate, RowId, RowView};
+use loop_bounds::{Effect, Linear};
+use std::marker::Model;
+use std::ops::Range;
+
+/// A way on within a procedure: where it arrives, from a row that knows these facts and the state before, by which effect, in which
+/// state, and what it costs in T-states.
+#[derive(Drop)]
+pub struct Way<'a> {
+    pub proc: ProcId,
+    pub address: u16,
+    pub facts: &'a [Linear],
+    pub before: &'a AbsState,
+    pub effect: Effect,
+    pub state: AbsState,
+    /// With the callee's time where the way leads through a call, at most 1,000,000,023.
+    pub cost: u32,
+}
+
+impl<'a> Model for Way<'a> {
+    ghost use Rattle.cert_ways.specs.Ways.{Way as Led};
+
+    ghost Value = { Led };
+
+    ghost view = { λ w. record {
+      arrival = record { proc = w.proc; address = w.address; facts = w.facts.now; before = w.before.now; effect = w.effect };
+      state = w.state;
+      cost = w.cost;
+    } };
+}
+
+impl<'a> Subject<'a> {
+    /// The way by a jump, or by going on.
+    pub fn jump_way<'s>(&'s self, next: &Next) -> Way<'s>
+        ensures { result ≡ jump_way self.now next.now }
+    {
+        Way {
+            proc: self.row.proc,
+            address: next.address,
+            facts: self.row.facts.as_slice(),
+            before: &self.state,
+            effect: next.effect,
+            state: next.state.copied(),
+            cost: u32::from(next.cost),
+        }
+    }
+
+    /// The way through a call, back from its callee where that leaves at an exit in this state.
+    pub fn return_way<'s>(&'s self, next: &Next, callee: &Callee, exit: &AbsState) -> Way<'s>
+        requires { callee_at self.now.cert next.now.address ≡ Some callee.now }
+        ensures { result ≡ return_way self.now next.now callee.now exit.now }
+    {
+        let state = next.state.after_call(exit);
+        let effect = settled(&effect_of_call(&next.effect, exit), &state);
+        Way {
+            proc: self.row.proc,
+            address: self.behind,
+            facts: self.row.facts.as_slice(),
+            before: &self.state,
+            effect,
+            state,
+            cost: self.call_cost(next, callee),
+        }
+    }
+
+    /// The T-states that a call costs with its callee's time, at most 1,000,000,023; a callee without a time adds none.
+    pub fn call_cost(&self, next: &Next, callee: &Callee) -> u32
+        requires { callee_at self.now.cert next.now.address ≡ Some callee.now }
+        ensures { result ≡ call_cost next.now callee.now }
+    {
+        // In form: a time is 1,000,000,000 at most.
+        self.certificate.is_in_form();
+        call_cost(next, callee)
+    }
+}
+
+/// The same, where the callee's time is 1,000,000,000 at most.
+fn call_cost(next: &Next, callee: &Callee) -> u32
+    requires { unwrap_or callee.now.proc.time 0 ≤ 1000000000 }
+    ensures { result ≡ call_cost next.now callee.now }
+{
+    u32::from(next.cost) + callee.proc.time.unwrap_or(0)
+}
+
+impl<'a> Way<'a> {
+    /// The numbers of the rows where the way arrives.
+    pub fn rows(&self, certificate: &Certificate) -> Range<RowId>
+        ensures within { result.end ≤ length certificate.now.rows }
+        ensures at { (k : ℕ) (row : Row) → slice_get certificate.now.rows k ≡ Some row
+            → ((result.start ≤ k) × (k < result.end)) ↔ ((row.proc ≡ self.now.arrival.proc) × (row.address ≡ self.now.arrival.address)) }
+    {
+        certificate.rows_at(self.proc, self.address)
+    }
+
+    /// Whether there is one row at most where the way arrives, and states are not told apart there: it is asked then, whatever it says.
+    pub fn is_lone(&self, certificate: &Certificate) -> bool
+        ensures { IsTrue result ↔ IsLone certificate.now self.now.arrival }
+    {
+        split_at(certificate, self.proc, self.address).is_none() && self.has_one_row(certificate)
+    }
+
+    /// Whether there is one row at most where the way arrives.
+    fn has_one_row(&self, certificate: &Certificate) -> bool
+        ensures { IsTrue result ↔ AreOne certificate.now self.now.arrival }
+    {
+        let rows = self.rows(certificate);
+        rows.end.saturating_sub(rows.start) <= 1
+    }
+
+    /// Whether a row where the way arrives is asked: it is lone, or the state that arrives meets its state.
+    pub fn asks(&self, lone: bool, row: &RowView) -> bool
+        ensures { IsTrue result ↔ (IsTrue lone ⊎ MeetsState row.now.state self.now.state) }
+    {
+        lone || row.state().meets(&self.state)
+    }
+
+    /// Whether the way arrives at a row of the certificate, and this is asked.
+    pub fn lands(&self, certificate: &Certificate, row: &RowView) -> bool
+        requires { Contains certificate.now.rows row.now }
+        ensures { IsTrue result ↔ Lands certificate.now self.now row.now }
+    {
+        if row.proc != self.proc || row.address != self.address {
+            return false;
+        }
+        self.asks(self.is_lone(certificate), row)
+    }
+}
