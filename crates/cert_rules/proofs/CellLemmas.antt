@@ -1,5 +1,5 @@
 -- What is asked of the data writes that are left, of which each may arm a cell.
-use Rattle.std.proofs.Common.{◌≡◌, ◌+◌, ◌<◌, ◌≤◌, ◌↔◌, ℕ, List, [], ◌∷◌, true, drop, take, get_or, length, sym, subst, arith}
+use Rattle.std.proofs.Common.{◌≡◌, ◌+◌, ◌<◌, ◌≤◌, ◌↔◌, ℕ, List, true, drop, take, get_or, length, sym, subst}
 use Rattle.std.proofs.lemmas.List.{drop_all}
 use Rattle.abs_draft.specs.Ground.{Ground, armed_after, may_enable}
 use Rattle.abs_draft.specs.declared.data_write.DataWrite.{DataWrite}

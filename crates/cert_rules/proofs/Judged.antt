@@ -1,5 +1,5 @@
 -- What is decided of some data writes is decided of those of a row.
-use Rattle.std.proofs.Common.{◌≡◌, ◌↔◌, Bool, true, List, sym, subst}
+use Rattle.std.proofs.Common.{◌≡◌, ◌↔◌, Bool, true, List, subst}
 use Rattle.std.specs.List.{All}
 use Rattle.abs_draft.specs.declared.data_write.DataWrite.{DataWrite}
 use Rattle.address_map.specs.AddressMap.{AddressMap}

@@ -1,5 +1,5 @@
 -- What holds of the elements of a list, and of its first ones.
-use Rattle.std.proofs.Common.{◌≡◌, ◌+◌, ◌<◌, ◌↔◌, ◌∷◌, ℕ, Bool, true, false, not, List, drop, get_or, length, refl, sym, ap, subst, ◌∙◌, arith}
+use Rattle.std.proofs.Common.{◌≡◌, ◌+◌, ◌<◌, ◌↔◌, ◌∷◌, ℕ, Bool, true, false, not, List, drop, get_or, length, refl, sym, ap, ◌∙◌}
 use Rattle.std.proofs.lemmas.List.{at_drop_more}
 
 -- what is true where something does not hold

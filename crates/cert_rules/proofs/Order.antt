@@ -1,14 +1,12 @@
 -- Reasons by their numbers, and what is known of a row below one.
-use Rattle.std.proofs.Common.{◌≡◌, ◌≢◌, ◌<◌, ◌==◌, ◌||◌, ◌∙◌, inl, inr, if◌then◌else◌, ℕ, suc, Bool, true, false, Ok, Err, List, refl, sym, ap, subst, arith}
+use Rattle.std.proofs.Common.{◌≡◌, ◌==◌, ◌||◌, ◌∙◌, inl, inr, if◌then◌else◌, ℕ, suc, Bool, false, Result, Ok, Err, OnOk, refl, sym, ap, subst, arith}
 use Rattle.std.proofs.lemmas.Bool.{cases_lt}
 use Rattle.abs_step.specs.Reason.{number_of}
-use Rattle.abs_step.specs.declared.next.Next.{Next}
 use Rattle.abs_step.specs.declared.reason.Reason.{Reason}
 use Rattle.abs_step.specs.declared.reason.Reason.TheVariants as reasons
 use Rattle.abs_step.specs.declared.reason.Saved.{Saved}
-use Rattle.abs_step.specs.declared.reason.Saved.TheVariants as saved
-use Rattle.cert_rules.specs.Table.{IsConsistent, IsLowest, Passes, PassesBelow}
-use Rattle.cert_ways.specs.Ways.{Subject, step_of}
+use Rattle.cert_rules.specs.Table.{IsConsistent, Passes, PassesBelow, Tells}
+use Rattle.cert_ways.specs.Ways.{Subject}
 use Rattle.z80_decode.specs.declared.fault.DecodeFault.{DecodeFault}
 
 -- the reasons with these numbers have a detail
@@ -191,3 +189,8 @@ all_pass s below reasons.HaltInNmi = below reasons.HaltInNmi (omega arith)
 all_pass s below reasons.SpWrite = below reasons.SpWrite (omega arith)
 all_pass s below reasons.CellRange = below reasons.CellRange (omega arith)
 all_pass s below reasons.CellUnarmed = below reasons.CellUnarmed (omega arith)
+
+-- what was found of all reasons
+pub told_ok : {T : Type 0} (s : Subject) (found : Result T Reason) → Tells s 23 found → OnOk found (IsConsistent s)
+told_ok s (Ok _) below = all_pass s below
+told_ok s (Err _) lowest = tt

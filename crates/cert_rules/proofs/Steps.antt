@@ -1,5 +1,5 @@
 -- What the abstract step's answer tells of a row.
-use Rattle.std.proofs.Common.{◌≡◌, ◌≢◌, ◌<◌, ◌≤◌, ◌*◌, ◌+◌, ◌∙◌, if◌then◌else◌, ℕ, suc, Bool, true, false, ◌&&◌, Option, Some, None, Result, Ok, Err, List, [], Contains, refl, sym, ap, subst, arith}
+use Rattle.std.proofs.Common.{◌≡◌, ◌<◌, ◌≤◌, if◌then◌else◌, Bool, true, false, ◌&&◌, Some, None, Result, Ok, Err, List, [], Contains, refl, sym, ap, subst, arith}
 use Rattle.abs_step.specs.Reason.{number_of}
 use Rattle.abs_step.specs.Successors.{answer_by, answer_of, has_no_shape, jumps_anywhere, nexts_of, uses_stack}
 use Rattle.abs_state.specs.Mode.{is_unset}
@@ -7,9 +7,9 @@ use Rattle.abs_step.specs.declared.next.Next.{Next}
 use Rattle.abs_step.specs.declared.reason.Reason.{Reason}
 use Rattle.abs_step.specs.declared.reason.Reason.TheVariants as reasons
 use Rattle.cert_cover.specs.Program.{ground_for, is_inline, is_main}
-use Rattle.cert_rules.specs.Table.{IsDeep, IsLowest, Passes, PassesBelow, bytes_in}
+use Rattle.cert_rules.specs.Table.{IsDeep, IsLowest, PassesBelow, bytes_in}
 use Rattle.cert_rules.proofs.Order.{begins, decode_passes, passes}
-use Rattle.cert_ways.specs.Ways.{Subject, GoesOn, nexts_from, nexts_in, step_of}
+use Rattle.cert_ways.specs.Ways.{Subject, nexts_from, nexts_in, step_of}
 use Rattle.t_states.specs.Io.{is_io}
 use Rattle.z80_decode.specs.declared.fault.DecodeFault.{DecodeFault}
 use Rattle.z80_decode.specs.declared.instr.Instr.{Instr}

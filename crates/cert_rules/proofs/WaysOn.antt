@@ -1,5 +1,5 @@
 -- What is asked of each way on of a row is asked of each of its ways on and callees.
-use Rattle.std.proofs.Common.{◌≡◌, ◌<◌, ◌≤◌, ◌+◌, ℕ, Option, Some, None, IfSome, Ok, List, Contains, get_or, length, refl, sym, ap, subst, ◌∙◌}
+use Rattle.std.proofs.Common.{◌≡◌, ◌<◌, ◌≤◌, ◌+◌, Option, Some, None, IfSome, Ok, List, Contains, get_or, refl, sym, ap, subst}
 use Rattle.std.specs.List.{All}
 use Rattle.std.proofs.lemmas.List.Elements.{All-contains, Contains-get_or}
 use Rattle.abs_step.specs.declared.next.Next.{Next}

@@ -1,11 +1,9 @@
 -- When a certificate is accepted for a ROM, and what is told where it is not (docs/CHECKER.md).
-use Rattle.std.specs.Prelude.{ℕ, ◌<◌, ◌≤◌, ◌+◌, ◌-◌, ◌≡◌, ◌⊎◌, List, [], ◌∷◌, length, slice_get, Option, Some, None, IfSome, Contains}
+use Rattle.std.specs.Prelude.{ℕ, ◌<◌, ◌≤◌, ◌+◌, ◌-◌, ◌≡◌, ◌⊎◌, List, [], ◌∷◌, length, slice_get, Option, Some, None, IfSome}
 use Rattle.std.specs.List.{All}
-use Rattle.abs_laws.specs.Writes.{IsPlaced}
 use Rattle.abs_state.specs.declared.cell.KeptCell.{KeptCell}
 use Rattle.abs_step.specs.declared.reason.Reason.{Reason}
 use Rattle.abs_step.specs.declared.reason.Reason.TheVariants as reasons
-use Rattle.address_map.specs.AddressMap.{AddressMap}
 use Rattle.address_map.specs.WorkRam.{work_start}
 use Rattle.address_map.specs.declared.region.Region.{Region}
 use Rattle.cert_cover.specs.Covering.{CoversMain, CoversNmi}

@@ -1,5 +1,5 @@
 -- The table of reasons against a row: what each of them asks (docs/CHECKER.md, "The table of reasons").
-use Rattle.std.specs.Prelude.{ℕ, ◌+◌, ◌*◌, ◌<◌, ◌≤◌, ◌≡◌, ◌≢◌, ◌⊎◌, true, List, [], ◌∷◌, length, take, Option, Some, None, IsSome, Result, Ok, Err, Contains}
+use Rattle.std.specs.Prelude.{ℕ, ◌+◌, ◌*◌, ◌<◌, ◌≤◌, ◌≡◌, ◌≢◌, ◌⊎◌, true, List, [], ◌∷◌, length, None, IsSome, Result, Ok, Err, Contains}
 use Rattle.std.specs.List.{All}
 use Rattle.abs_draft.specs.Ground.{may_enable, armed_after, Ground}
 use Rattle.abs_draft.specs.declared.data_write.DataWrite.{DataWrite}

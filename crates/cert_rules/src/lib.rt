@@ -2,11 +2,15 @@
 // "The table of reasons").
 #![tactic(auto)]
 
+mod examining;
 mod instructions;
 mod refused;
+mod rows;
 mod saved;
 mod stack;
 mod whole;
 mod writes;
 
+pub use examining::{examine, same_verdict};
 pub use refused::Refused;
+pub use rows::check_row;

@@ -1,5 +1,5 @@
-use Rattle.std.proofs.Common.{◌≡◌, ◌+◌, ℕ, List, true, false, drop, take, sym, subst, refl, ap, arith, ◌↔◌, ◌∙◌}
-use Rattle.abs_draft.specs.Ground.{Ground, armed_after}
+use Rattle.std.proofs.Common.{◌≡◌, ◌+◌, ℕ, List, true, false, drop, take, sym, subst, refl, arith, ◌↔◌}
+use Rattle.abs_draft.specs.Ground.{Ground}
 use Rattle.abs_draft.specs.declared.data_write.DataWrite.{DataWrite}
 use Rattle.abs_laws.specs.Writes.{AllKeep, KeepsCells}
 use Rattle.abs_state.specs.declared.cell.KeptCell.{KeptCell}

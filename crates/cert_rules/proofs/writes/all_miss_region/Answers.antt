@@ -1,8 +1,6 @@
 use Rattle.std.proofs.Common.{◌≡◌, true, false, refl, sym, subst, arith}
 use Rattle.abs_laws.specs.Writes.{MissesRegion}
-use Rattle.address_map.specs.declared.map.WriteClass.TheVariants as classes
 use Rattle.cert_cover.proofs.Lists.{one_more}
-use Rattle.cert_rules.specs.Table.{MissesClass}
 use Rattle.cert_rules.proofs.writes.all_miss_region.Goals as goal
 
 never : false ≡ true → ⊥

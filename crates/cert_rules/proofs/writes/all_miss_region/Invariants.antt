@@ -1,8 +1,6 @@
 use Rattle.std.proofs.Common.{ℕ, ◌<◌, get_or}
 use Rattle.abs_draft.specs.declared.data_write.DataWrite.{DataWrite}
 use Rattle.abs_laws.specs.Writes.{MissesRegion}
-use Rattle.address_map.specs.declared.map.WriteClass.TheVariants as classes
-use Rattle.cert_rules.specs.Table.{MissesClass}
 use Rattle.cert_rules.proofs.writes.all_miss_region.Given as goal
 
 -- the data writes so far miss

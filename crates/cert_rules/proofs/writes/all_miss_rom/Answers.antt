@@ -1,5 +1,4 @@
 use Rattle.std.proofs.Common.{◌≡◌, true, false, refl, sym, subst, arith}
-use Rattle.abs_laws.specs.Writes.{MissesRegion}
 use Rattle.address_map.specs.declared.map.WriteClass.TheVariants as classes
 use Rattle.cert_cover.proofs.Lists.{one_more}
 use Rattle.cert_rules.specs.Table.{MissesClass}

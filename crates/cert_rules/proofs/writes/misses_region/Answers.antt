@@ -1,4 +1,3 @@
-use Rattle.std.proofs.Common.{◌↔◌}
 use Rattle.address_map.specs.Ranges.{SomeInRegion}
 use Rattle.cert_rules.proofs.Lists.{not_true}
 use Rattle.cert_rules.proofs.writes.misses_region.Goals as goal

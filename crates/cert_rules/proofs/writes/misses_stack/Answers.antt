@@ -1,9 +1,9 @@
-use Rattle.std.proofs.Common.{◌≡◌, ◌↔◌, ◌∙◌, ◌⊎◌, true, false, inl, inr, ap, refl, subst}
+use Rattle.std.proofs.Common.{◌≡◌, ◌↔◌, ◌∙◌, true, false, inl, inr, ap, subst}
 use Rattle.abs_laws.specs.Writes.{MissesRegion}
 use Rattle.address_map.specs.AddressMap.{AddressMap}
 use Rattle.address_map.specs.declared.region.Region.{Region}
 use Rattle.cert_cover.specs.Program.{map_of_board}
-use Rattle.cert_rules.specs.Table.{AllWrites, HasNoStack}
+use Rattle.cert_rules.specs.Table.{AllWrites}
 use Rattle.cert_rules.proofs.Judged.{of_row}
 use Rattle.cert_ways.specs.Ways.{Subject}
 use Rattle.cert_rules.proofs.writes.misses_stack.Goals as goal
