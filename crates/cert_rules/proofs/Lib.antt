@@ -1,0 +1,8 @@
+pub mod CellLemmas
+pub mod InOrder
+pub mod Judged
+pub mod Lists
+pub mod Order
+pub mod Steps
+pub mod Versions
+pub mod WaysOn
