@@ -3,7 +3,9 @@ use Rattle.std.proofs.Common.{◌≡◌, ◌≢◌, ◌+◌, ◌∙◌, ℕ, Boo
 use Rattle.std.specs.Prelude.{◌%◌}
 use Rattle.z80_decode.specs.Spelling.{spelling}
 use Rattle.z80_decode.specs.declared.instr.Instr.{Instr}
+use Rattle.z80_alu.specs.declared.regs.Regs.{Regs}
 use Rattle.z80_draft.specs.Draft.{Draft, word_in}
+use Rattle.z80_draft.specs.Registers.{IsRegs}
 use Rattle.z80_moves.specs.declared.registers.WordRegister.TheVariants as registers
 use Rattle.address_map.specs.declared.region.Region.{Region}
 use Rattle.board_step.specs.Context.{Context}
@@ -21,6 +23,7 @@ use Rattle.stack_words.proofs.EachInstruction.{pop_done, push_done}
 use Rattle.stack_words.proofs.WordLaws.{on_top-length}
 use Rattle.abs_state.specs.Cell.{HoldsCells}
 use Rattle.abs_state.specs.Holds.{Holds, HoldsMode}
+use Rattle.abs_state.specs.Pairs.{HoldsPairs}
 use Rattle.abs_state.specs.Variables.{value_in}
 use Rattle.abs_state.specs.declared.mode.Mode.TheVariants.{Unset, Nmi}
 use Rattle.abs_state.specs.declared.state.AbsState.{AbsState}
@@ -34,7 +37,7 @@ use Rattle.abs_step.specs.declared.next.NextKind.{NextKind}
 use Rattle.abs_step.specs.declared.next.NextKind.TheVariants as kinds
 use Rattle.abs_step.proofs.Asides.{End}
 use Rattle.abs_step.proofs.GoesStack.{as_many}
-use Rattle.abs_step.proofs.Here.{address_after, here, holds_after}
+use Rattle.abs_step.proofs.Here.{address_after, here, holds_after, through_after}
 use Rattle.abs_step.proofs.KeepsAside.{known_zip}
 use Rattle.abs_step.proofs.KeepsStack.{is_set}
 use Rattle.abs_step.proofs.Scenes.{Done, Scene, all_at, keeps_board, trap_inside}
@@ -100,7 +103,8 @@ module _ (g : Ground) (address : ℕ) (main inline : Bool) (a : AbsState) (regio
       let n = next_of main instr e.taken kinds.Call e.known in
       let set = is_set a (uses_stack instr) u x.set in
       let h = x.before.laid set in
-      let room : HasRoom region (1 + (length n.state.shape + length running.under)) = all_at (λ n. n.kind ≡ kinds.Call → HasRoom region (1 + (length n.state.shape + length running.under))) _ n x.order.calls e.listed refl in
+      let room : HasRoom region (1 + (length n.state.shape + length running.under)) = all_at (λ n. n.kind ≡ kinds.Call → (regs : Regs) → IsRegs regs → HoldsPairs n.state.pairs running.entry regs → HasRoom region (1 + (length n.state.shape + length running.under))) _ n x.order.calls e.listed refl
+      (instr_draft (here g s env) instr).regs e.fits.regs (subst (λ (y : AbsState). HoldsPairs y.pairs running.entry (instr_draft (here g s env) instr).regs) (sym (stack_same main instr e.known.state sets)) e.fits.pairs) in
       let shape : length n.state.shape ≡ length e.known.state.shape = ap (λ (y : AbsState). length y.shape) (stack_same main instr e.known.state sets) in
       let many : length running.words ≡ length e.known.state.shape = as_many _ _ _ e.fits.shape in
       let count = on_top-length running.words running.under in
@@ -117,6 +121,7 @@ module _ (g : Ground) (address : ℕ) (main inline : Bool) (a : AbsState) (regio
             same = k.same;
             enable = k.enable;
             holds = k.holds;
+            through = through_after g s env a instr running e.known running.words e.fits;
             laid = subst (λ w. HasWords g.map region (done (here g s env) instr) (w ∷ on_top running.words running.under)) word d.has;
           };
         },

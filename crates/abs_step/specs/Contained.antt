@@ -13,6 +13,7 @@ use Rattle.z80_decode.specs.declared.instr.Instr.{Instr}
 use Rattle.z80_decode.specs.declared.instr.Instr.TheVariants as instrs
 use Rattle.z80_decode.specs.declared.operands.Register16.TheVariants.{Sp}
 use Rattle.z80_decode.specs.declared.operands.Special.TheVariants as specials
+use Rattle.z80_draft.specs.Registers.{IsRegs}
 use Rattle.board_step.specs.Context.{Context}
 use Rattle.board_step.specs.Env.{IsEnv}
 use Rattle.board_step.specs.Hardware.{hardware_of}
@@ -25,6 +26,7 @@ use Rattle.stack_words.specs.Region.{IsStackRegion, HasRoom}
 use Rattle.stack_words.specs.Uses.{sets_sp}
 use Rattle.stack_words.specs.Words.{on_top}
 use Rattle.abs_state.specs.Holds.{Holds}
+use Rattle.abs_state.specs.Pairs.{HoldsPairs}
 use Rattle.abs_state.specs.Seen.{Seen}
 use Rattle.abs_state.specs.Variables.{value_in}
 use Rattle.abs_state.specs.declared.cell.KeptCell.{KeptCell}
@@ -80,14 +82,14 @@ SetsTop main region instr = (main ≡ true) × (instr ≡ instrs.LoadPair Sp reg
 
 -- An instruction of which nothing is wrong that a certificate judges: the stack's region is not written but by main code with
 -- no slots, NMIs are not enabled before SP is set, SP is set to the top alone, armed cells keep their ranges, and the stack has
--- room for what the instruction leads to.
+-- room for what the instruction leads to; at a call that no registers can make, there need be none.
 pub record IsInOrder (g : Ground) (region : Region) (running : Running) (a : AbsState) (instr : Instr) (ws : List DataWrite) (nexts : List Next) : Type 0 where
   pub overwrites : (running.main ≡ true → a.shape ≢ []) → All (MissesRegion g.map region) ws
   pub enables : a.mode ≡ Unset → All (NeverEnables g.map) ws
   pub sets : sets_sp instr ≡ true → SetsTop running.main region instr
   pub keeps : AllKeep g a.armed ws
   pub jumps : All (λ n. n.kind ≡ kinds.Jump → HasRoom region (length n.state.shape + length running.under)) nexts
-  pub calls : All (λ n. n.kind ≡ kinds.Call → HasRoom region (1 + (length n.state.shape + length running.under))) nexts
+  pub calls : All (λ n. n.kind ≡ kinds.Call → (regs : Regs) → IsRegs regs → HoldsPairs n.state.pairs running.entry regs → HasRoom region (1 + (length n.state.shape + length running.under))) nexts
 
 -- ---- before the instruction
 
@@ -132,6 +134,7 @@ pub record Called (cells : List KeptCell) (region : Region) (running : Running) 
   pub same : SameRegs c.state.regs new.regs
   pub enable : new.enable ≡ c.state.enable
   pub holds : Holds n.state cells running.entry (seen_of cells running.words new)
+  pub through : Through n (seen_of cells running.words c.state) (seen_of cells running.words new)
   pub laid : HasWords c.hardware.map region new ((c.state.regs.pc + length (spelling instr)) % 65536 ∷ on_top running.words running.under)
 
 -- the activation ends: it takes the address that it returns to, which lay under it
