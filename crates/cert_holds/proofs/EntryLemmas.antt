@@ -1,30 +1,25 @@
 -- Main code, the NMI routine and callees begin at rows.
-use Rattle.std.proofs.Common.{◌≡◌, ◌≤◌, ◌<◌, ◌∙◌, ℕ, Bool, List, [], length, Option, Some, None, refl, sym, ap, subst, arith, rules}
-use Rattle.std.specs.Prelude.{◌+◌, ◌*◌}
+use Rattle.std.proofs.Common.{◌≡◌, ◌<◌, ℕ, List, [], length, Some, refl, sym, subst, arith}
 use Rattle.intervals.specs.Domain.{Entry}
 use Rattle.intervals.specs.Pair.{HoldsPair, full_pair}
 use Rattle.intervals.specs.declared.pair.Pair.{Pair}
 use Rattle.intervals.specs.declared.reg_pair.RegPair.{RegPair}
 use Rattle.intervals.specs.declared.reg_pair.RegPair.TheVariants as pairs
-use Rattle.loop_bounds.specs.Effect.{change_of, unchanged}
-use Rattle.loop_bounds.specs.declared.variable.Variable.{Variable}
+use Rattle.loop_bounds.specs.Effect.{unchanged}
 use Rattle.loop_bounds.specs.declared.variable.Variable.TheVariants.{Slot}
 use Rattle.stack_shape.specs.Shape.{HoldsShape}
-use Rattle.stack_shape.specs.declared.slot.Slot.{Slot as ShapeSlot}
 use Rattle.z80_alu.specs.declared.regs.Regs.{Regs}
 use Rattle.z80_draft.specs.Registers.{IsRegs}
-use Rattle.abs_laws.specs.Fits.{Follows, IsThere}
 use Rattle.abs_state.specs.Cell.{HoldsCells}
 use Rattle.abs_state.specs.Entries.{callee_entry, main_entry, nmi_entry}
 use Rattle.abs_state.specs.Holds.{Holds, IsQuiet}
 use Rattle.abs_state.specs.Pairs.{HoldsPairs, entry_of, full_pairs, own_pairs, word_in}
 use Rattle.abs_state.specs.Seen.{Seen}
-use Rattle.abs_state.specs.Variables.{value_in}
 use Rattle.abs_state.specs.declared.cell.KeptCell.{KeptCell}
 use Rattle.abs_state.specs.declared.pairs.Pairs.{Pairs}
 use Rattle.abs_state.specs.declared.state.AbsState.{AbsState}
 use Rattle.abs_step.specs.declared.next.Next.{Next}
-use Rattle.cert_cover.specs.Arrival.{Arrival, first_arrival}
+use Rattle.cert_cover.specs.Arrival.{first_arrival}
 use Rattle.cert_cover.specs.Covering.{Covered, CoversMain, CoversNmi}
 use Rattle.cert_cover.specs.declared.program.Callee.{Callee}
 use Rattle.cert_order.specs.Contents.{Contents, IsInForm}
@@ -38,7 +33,7 @@ use Rattle.cert_holds.proofs.LandingLemmas.{lands}
 full_held : (entry : Entry) (n : ℕ) → n < 65536 → HoldsPair full_pair entry n
 full_held entry n h = record { word = (omega arith, omega (arith, h)); high = (omega arith, omega (arith, h)); low = (omega arith, omega arith); origin = tt }
 
-word_small : (r : RegPair) (regs : Regs) → IsRegs regs → word_in r regs < 65536
+pub word_small : (r : RegPair) (regs : Regs) → IsRegs regs → word_in r regs < 65536
 word_small pairs.Af regs i = let h = i.main.a in let l = i.main.f in omega arith
 word_small pairs.Bc regs i = let h = i.main.b in let l = i.main.c in omega arith
 word_small pairs.De regs i = let h = i.main.d in let l = i.main.e in omega arith
@@ -86,7 +81,7 @@ no_shape entry words e = subst (λ (ws : List ℕ). HoldsShape [] entry ws) (sym
 
 -- ---- where nothing was before
 
-own_values : (m : Seen) → CameBy unchanged m m
+pub own_values : (m : Seen) → CameBy unchanged m m
 own_values m (Slot number part) there = refl
 own_values m v there = refl
 

@@ -1,20 +1,19 @@
 -- The facts of a row that covers what arrives are 0, and tightening by them cuts nothing that is there.
-use Rattle.std.proofs.Common.{◌≡◌, ◌≤◌, ◌<◌, ◌∙◌, ℕ, Bool, true, false, cond, eqb, List, [], ◌∷◌, length, get_or, Option, Some, None, ℤ, pos, neg_ℤ, Contains, inl, inr, ◌⊎◌, refl, sym, ap, subst, arith}
-use Rattle.std.specs.Prelude.{◌+ℤ◌, IfSome, IsSomeAnd, option_and_then}
-use Rattle.std.specs.List.{All, AllByRecursion}
+use Rattle.std.proofs.Common.{◌≡◌, ◌∙◌, ℕ, Bool, true, false, cond, eqb, List, [], ◌∷◌, length, get_or, Option, Some, None, pos, neg_ℤ, Contains, inl, inr, ◌⊎◌, refl, sym, ap, subst, arith}
+use Rattle.std.specs.Prelude.{◌+ℤ◌, IsSomeAnd, option_and_then}
+use Rattle.std.specs.List.{AllByRecursion}
 use Rattle.std.proofs.lemmas.Bool.{eqb-true}
 use Rattle.std.proofs.lemmas.List.Elements.{All-head, All-tail}
 use Rattle.intervals.specs.Domain.{Entry}
-use Rattle.intervals.specs.Range.{Interval, Within}
+use Rattle.intervals.specs.Range.{Within}
 use Rattle.linear_fields.specs.Linear.{IsBelow, IsShort, IsSum, IsWithin}
-use Rattle.loop_bounds.specs.Bounds.{Becomes, BecomesNegation, Vanishes}
+use Rattle.loop_bounds.specs.Bounds.{Becomes, BecomesNegation}
 use Rattle.loop_bounds.specs.Effect.{Valuation, after_from, change_of, changed, constant_before, whole}
-use Rattle.loop_bounds.specs.Linear.{IsLinear, Sum, total, value}
+use Rattle.loop_bounds.specs.Linear.{IsLinear, Sum, value}
 use Rattle.loop_bounds.specs.Ranges.{Box}
 use Rattle.loop_bounds.specs.Tighten.{tightened}
 use Rattle.loop_bounds.specs.declared.effect.Change.{Change}
 use Rattle.loop_bounds.specs.declared.effect.Change.TheVariants.{Old, Raised, Lowered, Constant, Unknown}
-use Rattle.loop_bounds.specs.declared.linear.Term.{Term}
 use Rattle.loop_bounds.specs.declared.variable.Variable.{Variable}
 use Rattle.loop_bounds.specs.declared.variable.Variable.TheVariants.{Slot}
 use Rattle.loop_bounds.proofs.Boxes.{total_agree}
@@ -28,7 +27,7 @@ use Rattle.abs_state.specs.declared.cell.KeptCell.{KeptCell}
 use Rattle.abs_state.specs.declared.state.AbsState.{AbsState}
 use Rattle.abs_state.proofs.TightenHolds.{tightened_holds}
 use Rattle.cert_cover.specs.Arrival.{Arrival}
-use Rattle.cert_cover.specs.Covering.{ComesFrom, IsKnown, tightened_by}
+use Rattle.cert_cover.specs.Covering.{IsKnown, tightened_by}
 use Rattle.cert_holds.specs.Comes.{Comes}
 use Rattle.cert_holds.specs.RowHolds.{AreZeroAt, value_at}
 

@@ -1,5 +1,5 @@
 -- The rows of a certificate in form, one by one.
-use Rattle.std.proofs.Common.{◌≡◌, ◌<◌, ◌≤◌, ℕ, zero, suc, List, [], ◌∷◌, length, get_or, Contains, subst, arith}
+use Rattle.std.proofs.Common.{◌<◌, ℕ, zero, suc, List, [], ◌∷◌, length, get_or, Contains, subst, arith}
 use Rattle.std.specs.List.{AllByRecursion}
 use Rattle.cert_lines.specs.Row.{IsShortRow}
 use Rattle.cert_lines.specs.declared.row.Row.{Row}

@@ -1,11 +1,9 @@
 -- What is covered lands: the only lemmas that look inside covering.
-use Rattle.std.proofs.Common.{◌≡◌, ◌≤◌, ◌<◌, ◌∙◌, ℕ, Bool, true, false, eqb, List, [], ◌∷◌, length, get_or, Option, Some, None, Contains, refl, sym, ap, subst, arith}
+use Rattle.std.proofs.Common.{◌≡◌, ◌≤◌, ◌∙◌, ℕ, true, false, eqb, List, [], length, get_or, Option, Some, None, Contains, refl, sym, subst, arith}
 use Rattle.std.specs.Prelude.{IfSome, IsSome, IsSomeAnd, option_map}
-use Rattle.std.proofs.lemmas.Bool.{eqb-true}
 use Rattle.intervals.specs.Domain.{Entry}
 use Rattle.intervals.specs.declared.pair.Pair.{Pair}
 use Rattle.linear_fields.specs.Linear.{IsSum, IsWithin}
-use Rattle.loop_bounds.specs.Linear.{Sum}
 use Rattle.z80_alu.specs.declared.regs.Regs.{Regs}
 use Rattle.z80_decode.specs.declared.operands.Register8.{Register8}
 use Rattle.z80_decode.specs.declared.operands.Register8.TheVariants.{A, B, C, D, E, H, L}

@@ -5,3 +5,4 @@ pub mod Facts
 pub mod LandingLemmas
 pub mod EntryLemmas
 pub mod ReturnLemmas
+pub mod PayLemmas

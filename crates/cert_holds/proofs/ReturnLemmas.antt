@@ -1,6 +1,6 @@
 -- A way on leads to a row, and a call comes back to one.
-use Rattle.std.proofs.Common.{◌≡◌, ◌≤◌, ◌<◌, ◌∙◌, ℕ, Bool, true, false, cond, eqb, List, [], length, get_or, Option, Some, None, pos, refl, sym, ap, subst, arith}
-use Rattle.std.specs.Prelude.{IfSome, option_map, ◌*◌, ◌+◌}
+use Rattle.std.proofs.Common.{◌≡◌, ◌<◌, ℕ, Bool, true, false, cond, eqb, List, get_or, Option, Some, None, pos, refl, sym, ap, subst, arith}
+use Rattle.std.specs.Prelude.{IfSome, option_map}
 use Rattle.std.proofs.lemmas.Bool.{eqb-true}
 use Rattle.intervals.specs.Domain.{Entry}
 use Rattle.intervals.specs.Pair.{HoldsPair}
@@ -15,17 +15,16 @@ use Rattle.loop_bounds.specs.declared.effect.Effect.{Effect}
 use Rattle.loop_bounds.specs.declared.effect.SlotChange.{SlotChange}
 use Rattle.loop_bounds.specs.declared.variable.Part.{Part}
 use Rattle.loop_bounds.specs.declared.variable.Part.TheVariants.{Word, High, Low}
-use Rattle.loop_bounds.specs.declared.variable.Variable.{Variable}
 use Rattle.loop_bounds.specs.declared.variable.Variable.TheVariants as variables
 use Rattle.stack_shape.specs.declared.slot.Slot.{Slot as ShapeSlot}
 use Rattle.z80_alu.specs.Word.{word_of}
 use Rattle.z80_draft.specs.Registers.{IsRegs}
 use Rattle.abs_draft.specs.Outcomes.{constant_first, settled, settled_slot}
-use Rattle.abs_laws.specs.Fits.{Follows, IsThere}
+use Rattle.abs_laws.specs.Fits.{Follows}
 use Rattle.abs_state.specs.CutLaws.{variable_lies}
 use Rattle.abs_state.specs.Entries.{after_call}
 use Rattle.abs_state.specs.Holds.{Holds}
-use Rattle.abs_state.specs.Pairs.{HoldsPairs, entry_of, word_in}
+use Rattle.abs_state.specs.Pairs.{HoldsPairs, entry_of}
 use Rattle.abs_state.specs.Seen.{Seen}
 use Rattle.abs_state.specs.Variables.{full_slot, part_range, range_of, value_in}
 use Rattle.abs_state.specs.declared.cell.KeptCell.{KeptCell}

@@ -1,5 +1,5 @@
 -- How the machine comes to a row: from what was seen before a step (docs/CHECKER.md, "Covering").
-use Rattle.std.specs.Prelude.{ℕ, List, [], length}
+use Rattle.std.specs.Prelude.{List, [], length}
 use Rattle.intervals.specs.Domain.{Entry}
 use Rattle.loop_bounds.specs.Effect.{change_of}
 use Rattle.loop_bounds.specs.declared.effect.Effect.{Effect}

@@ -4,4 +4,5 @@
 
 mod entries;
 mod landing;
+mod paying;
 mod returns;
