@@ -62,7 +62,7 @@ all_full entry regs i = record {
 own_held : (p : Pair) (r : RegPair) (entry : Entry) (regs : Regs) → HoldsPair p entry (word_in r regs) → HoldsPair (record p { origin = Some r }) (entry_of regs) (word_in r regs)
 own_held p r entry regs h = record { word = h.word; high = h.high; low = h.low; origin = refl }
 
-all_own : (p : Pairs) (entry : Entry) (regs : Regs) → HoldsPairs p entry regs → HoldsPairs (own_pairs p) (entry_of regs) regs
+pub all_own : (p : Pairs) (entry : Entry) (regs : Regs) → HoldsPairs p entry regs → HoldsPairs (own_pairs p) (entry_of regs) regs
 all_own p entry regs h = record {
   af = own_held p.af pairs.Af entry regs h.af;
   bc = own_held p.bc pairs.Bc entry regs h.bc;
