@@ -5,3 +5,4 @@ pub mod Boards
 pub mod Depth
 pub mod Going
 pub mod ExecutingLemmas
+pub mod OwingLemmas

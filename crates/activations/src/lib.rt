@@ -3,3 +3,4 @@
 #![tactic(auto)]
 
 mod executing;
+mod owing;
