@@ -278,9 +278,9 @@ module _ (rom : List ℕ) (cert : Contents) (acc : IsAccepted rom cert) (lowest 
             (return_waits t n.cost (worth r.row (seen_back w m)) w.later (worth c.row old_seen) (later_all ws) cost (r.owes caller) (exit_pays n listed kind b));
       }
 
-  out : (n : Next) → Contains (nexts_from here) n → n.kind ≡ kinds.Exit → t ≡ n.cost → (c.row.state.mode ≡ Nmi → n.state.mode ≡ Nmi) → Ended cert.cells cert.region running_here j.instr ctx n new → c.waiting ≡ [] → LeavesNow
+  out : (n : Next) → Contains (nexts_from here) n → n.kind ≡ kinds.Exit → t ≡ n.cost → (c.row.state.mode ≡ Nmi → n.state.mode ≡ Nmi) → c.row.state.armed ≤ n.state.armed → Ended cert.cells cert.region running_here j.instr ctx n new → c.waiting ≡ [] → LeavesNow
   unfolding Chain waiting_words later_all
-  out n listed kind cost nmi e is =
+  out n listed kind cost nmi arms e is =
       let chain : (c.of ≡ lowest) × (c.entry ≡ c.first) = subst (Chain rom cert lowest c.first c.of c.entry) is p.chain in
       record {
         returns = e.returns;
@@ -289,6 +289,7 @@ module _ (rom : List ℕ) (cert : Contents) (acc : IsAccepted rom cert) (lowest 
         not_main = subst (λ (q : Callee). is_main q.number ≡ false) chain.0 (ap is_main (sym p.is_of) ∙ e.main);
         holds = subst (λ (entry : Entry). Holds n.state cert.cells entry (seen_of cert.cells [] new)) chain.1 e.holds;
         nmi = nmi;
+        arms = arms;
         rest = e.rest;
         under_is = ap (λ (v : List Waiting). waiting_words v ++ under) (sym is) ∙ e.under;
         laid = e.laid;
@@ -297,14 +298,14 @@ module _ (rom : List ℕ) (cert : Contents) (acc : IsAccepted rom cert) (lowest 
         pays = λ b. subst (λ (z : ℤ). pos t ≤ℤ (worth c.row old_seen +ℤ z)) (sym (ap later_all is)) (out_waits t n.cost (worth c.row old_seen) cost (exit_pays n listed kind b));
       }
 
-  leaving : (n : Next) → Contains (nexts_from here) n → n.kind ≡ kinds.Exit → t ≡ n.cost → (c.row.state.mode ≡ Nmi → n.state.mode ≡ Nmi) → Ended cert.cells cert.region running_here j.instr ctx n new → (ws : List Waiting) → c.waiting ≡ ws → Going
-  leaving n listed kind cost nmi e [] is = leaves (out n listed kind cost nmi e is)
-  leaving n listed kind cost nmi e (w ∷ ws) is = stays (returns_on n listed kind cost nmi e w ws is)
+  leaving : (n : Next) → Contains (nexts_from here) n → n.kind ≡ kinds.Exit → t ≡ n.cost → (c.row.state.mode ≡ Nmi → n.state.mode ≡ Nmi) → c.row.state.armed ≤ n.state.armed → Ended cert.cells cert.region running_here j.instr ctx n new → (ws : List Waiting) → c.waiting ≡ ws → Going
+  leaving n listed kind cost nmi arms e [] is = leaves (out n listed kind cost nmi arms e is)
+  leaving n listed kind cost nmi arms e (w ∷ ws) is = stays (returns_on n listed kind cost nmi e w ws is)
 
-  by_kind : (n : Next) (k : NextKind) → n.kind ≡ k → Contains (nexts_from here) n → t ≡ n.cost → (c.row.state.mode ≡ Nmi → n.state.mode ≡ Nmi) → GoesBy k cert.cells cert.region running_here j.instr ctx n → Going
-  by_kind n kinds.Jump kind listed cost nmi g = stays (went_on n listed kind cost nmi g)
-  by_kind n kinds.Call kind listed cost nmi g = stays (calls_on n listed kind cost nmi g)
-  by_kind n kinds.Exit kind listed cost nmi g = leaving n listed kind cost nmi g c.waiting refl
+  by_kind : (n : Next) (k : NextKind) → n.kind ≡ k → Contains (nexts_from here) n → t ≡ n.cost → (c.row.state.mode ≡ Nmi → n.state.mode ≡ Nmi) → c.row.state.armed ≤ n.state.armed → GoesBy k cert.cells cert.region running_here j.instr ctx n → Going
+  by_kind n kinds.Jump kind listed cost nmi arms g = stays (went_on n listed kind cost nmi g)
+  by_kind n kinds.Call kind listed cost nmi arms g = stays (calls_on n listed kind cost nmi g)
+  by_kind n kinds.Exit kind listed cost nmi arms g = leaving n listed kind cost nmi arms g c.waiting refl
 
   -- ---- the rest
 
@@ -322,7 +323,7 @@ module _ (rom : List ℕ) (cert : Contents) (acc : IsAccepted rom cert) (lowest 
         instr = j.instr;
         stands = stands rom cert acc lowest under u c s env numbers is_env p j;
         safe = a.safe takes_data;
-        takes = by_kind a.goes.next a.goes.next.kind refl a.goes.listed a.goes.cost a.goes.stays a.goes.goes;
+        takes = by_kind a.goes.next a.goes.next.kind refl a.goes.listed a.goes.cost a.goes.stays a.goes.arms a.goes.goes;
         clear = λ none. a.clear (j.consistent reasons.NmiMissing none);
         halts = λ timed. never_halts timed new.halted refl;
         keeps_i = λ timed. a.keeps_i (λ e. j.consistent (reasons.SavedRegister saved.I) timed (ap (λ i. Ok i) e));

@@ -1,5 +1,5 @@
 -- How a chain of activations takes an instruction, before its T-states go by (docs/CHECKER.md, "Activations").
-use Rattle.std.specs.Prelude.{ℕ, ◌≡◌, Bool, true, false, List, [], ◌∷◌, Ok, None, pos, ◌+ℤ◌, ◌≤ℤ◌}
+use Rattle.std.specs.Prelude.{ℕ, ◌≤◌, ◌≡◌, Bool, true, false, List, [], ◌∷◌, Ok, None, pos, ◌+ℤ◌, ◌≤ℤ◌}
 use Rattle.z80_decode.specs.declared.instr.Instr.{Instr}
 use Rattle.board_step.specs.Context.{Context, context_of}
 use Rattle.board_step.specs.Decoded.{StandsAt}
@@ -40,6 +40,7 @@ pub record Leaves (rom : List ℕ) (cert : Contents) (lowest : Callee) (under : 
   pub not_main : is_main lowest.number ≡ false
   pub holds : Holds exit cert.cells c.first (seen_of cert.cells [] new)
   pub nmi : c.row.state.mode ≡ Nmi → exit.mode ≡ Nmi
+  pub arms : c.row.state.armed ≤ exit.armed
   pub rest : List ℕ
   pub under_is : under ≡ new.regs.pc ∷ rest
   pub laid : HasWords (map_of_board cert) cert.region new rest
