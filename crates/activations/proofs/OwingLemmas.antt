@@ -1,5 +1,5 @@
 -- No chain of activations with a time owes less than nothing: whatever comes, its lowest activation ends, and an end pays.
-use Rattle.std.proofs.Common.{◌≡◌, ◌≤◌, ◌<◌, ◌+◌, ◌*◌, ◌⊎◌, inl, inr, ℕ, zero, suc, Bool, true, false, List, [], ◌∷◌, length, ℤ, pos, negsuc, ◌+ℤ◌, ◌≤ℤ◌, refl, sym, ap, subst, arith}
+use Rattle.std.proofs.Common.{◌≡◌, ◌≤◌, ◌+◌, ◌⊎◌, inl, inr, ℕ, zero, suc, Bool, false, List, [], ◌∷◌, length, ℤ, pos, negsuc, ◌+ℤ◌, ◌≤ℤ◌, refl, arith}
 use Rattle.std.specs.List.{All}
 use Rattle.std.proofs.lemmas.Int.{ints}
 use Rattle.intervals.specs.Domain.{Entry}
@@ -9,7 +9,6 @@ use Rattle.board_step.specs.Reads.{no_inputs}
 use Rattle.board_step.specs.State.{IsState, State}
 use Rattle.board_step.specs.Step.{done, instr_draft, t_of}
 use Rattle.board_step.specs.declared.env.Env.{Env}
-use Rattle.board_step.specs.declared.env.Inputs.{Inputs}
 use Rattle.board_step.proofs.StateRangeLemmas.{done_keeps}
 use Rattle.stack_words.specs.Words.{on_top}
 use Rattle.stack_words.proofs.WordLaws.{on_top-length}
@@ -109,10 +108,13 @@ module _ (rom : List ℕ) (cert : Contents) (acc : IsAccepted rom cert) (lowest 
     where
       x : Executed rom cert lowest under c s any_env
       x = executing rom cert lowest under c s any_env acc u numbers is_env p
+
       keeps : IsState (done (at_board rom cert s any_env) x.instr)
       keeps = done_keeps (at_board rom cert s any_env) x.instr (record { rom = acc.bytes; state = numbers; env = is_env }) x.stands
+
       t : ℕ
       t = t_of (at_board rom cert s any_env) x.instr
+
       by : {r : Bool} → Takes rom cert lowest under c s (done (at_board rom cert s any_env) x.instr) (t_of (at_board rom cert s any_env) x.instr) r → (pos 0 ≤ℤ owed cert c s) ⊎ Ahead c s
       by (stays n) = inr (record { next = n.next; state = done (at_board rom cert s any_env) x.instr; numbers = keeps; placed = n.placed; less = four _ (owed cert c s) (owed cert n.next (done (at_board rom cert s any_env) x.instr)) (cost_least x.instr (instr_draft (at_board rom cert s any_env) x.instr).taken) (n.pays timed) })
       by (leaves n) = inl (ended _ (owed cert c s) (n.pays timed))
