@@ -32,7 +32,7 @@ use Rattle.abs_step.specs.Successors.{next_of, stack_set, uses_stack}
 use Rattle.abs_step.specs.declared.next.Next.{Next}
 use Rattle.abs_step.specs.declared.next.NextKind.TheVariants as kinds
 use Rattle.abs_step.proofs.Asides.{End}
-use Rattle.abs_step.proofs.Here.{address_after, here, holds_after, through_after}
+use Rattle.abs_step.proofs.Here.{address_after, armed_after_all, here, holds_after, through_after}
 use Rattle.abs_step.proofs.Uses.{no_exchange, no_pop, no_push, stack_same}
 
 -- what the known data writes leave of the mode and of the cells holds of the board
@@ -73,6 +73,7 @@ module _ (g : Ground) (s : State) (env : Env) (a : AbsState) (instr : Instr) (ma
         listed = e.listed;
         cost = e.cost;
         stays = λ n. mode_is ∙ k.nmi n;
+        arms = subst (λ (x : AbsState). a.armed ≤ x.armed) (sym same) (armed_after_all g a e.known f.armed);
         goes = record {
           words = words;
           pc = address_after g s env a instr running e.known _ words f (e.one (λ same. absurd (cc)));

@@ -1,5 +1,5 @@
 -- An instruction at a row that holds of the board: what is known before its first move, and what a way on keeps.
-use Rattle.std.proofs.Common.{◌≡◌, ℕ, List, length, Ok, refl, sym, ap, subst, arith}
+use Rattle.std.proofs.Common.{◌≡◌, ◌≤◌, ◌+◌, ℕ, Bool, true, false, cond, List, [], ◌∷◌, length, Ok, refl, sym, ap, subst, arith}
 use Rattle.intervals.specs.Range.{Within}
 use Rattle.loop_bounds.specs.Effect.{change_of}
 use Rattle.loop_bounds.specs.declared.variable.Variable.{Variable}
@@ -24,6 +24,8 @@ use Rattle.abs_state.specs.Variables.{value_in}
 use Rattle.abs_state.specs.declared.mode.Mode.{Mode}
 use Rattle.abs_state.specs.declared.state.AbsState.{AbsState}
 use Rattle.abs_draft.specs.Ground.{Ground}
+use Rattle.abs_draft.specs.Known.{written_state}
+use Rattle.abs_draft.specs.declared.data_write.DataWrite.{DataWrite}
 use Rattle.abs_draft.specs.Outcomes.{known_before, settled}
 use Rattle.abs_draft.specs.declared.known.Known.{Known}
 use Rattle.abs_laws.specs.Cells.{bytes_of_cells}
@@ -91,3 +93,19 @@ begun g address a instr region running s env at stands b =
       start = first_fits g a address instr running.entry (seen_of g.cells running.words s) b.numbers.regs at b.holds.pairs b.holds.flag b.holds.shape;
       run = record { in_range = instruction_in_range g.rom address instr b.rom stands; room = omega (arith, few.writes); once = few.once; reads = reads };
     }
+
+-- cells that are armed stay so
+one_armed : (b : Bool) (n : ℕ) → n ≤ cond b (n + 1) n
+one_armed true n = omega arith
+one_armed false n = omega arith
+
+pub armed_stays : (g : Ground) (ws : List DataWrite) (a : AbsState) → a.armed ≤ (state_after_writes g ws a).armed
+armed_stays g [] a = omega arith
+armed_stays g (w ∷ ws) a =
+    let one : a.armed ≤ (written_state g w a).armed = one_armed _ a.armed in
+    let rest = armed_stays g ws (written_state g w a) in
+    omega arith
+
+-- and so in a known way on
+pub armed_after_all : (g : Ground) (a : AbsState) (k : Known) → k.state.armed ≡ (state_after_writes g k.writes.items a).armed → a.armed ≤ k.state.armed
+armed_after_all g a k e = let h = armed_stays g k.writes.items a in omega arith

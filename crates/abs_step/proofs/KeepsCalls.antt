@@ -1,5 +1,5 @@
 -- What calls and returns keep.
-use Rattle.std.proofs.Common.{◌≡◌, ◌≢◌, ◌+◌, ◌∙◌, ℕ, Bool, true, false, List, [], ◌∷◌, length, Ok, refl, sym, ap, subst, arith}
+use Rattle.std.proofs.Common.{◌≡◌, ◌≢◌, ◌≤◌, ◌+◌, ◌∙◌, ℕ, Bool, true, false, List, [], ◌∷◌, length, Ok, refl, sym, ap, subst, arith}
 use Rattle.std.specs.Prelude.{◌%◌}
 use Rattle.z80_decode.specs.Spelling.{spelling}
 use Rattle.z80_decode.specs.declared.instr.Instr.{Instr}
@@ -37,7 +37,7 @@ use Rattle.abs_step.specs.declared.next.NextKind.{NextKind}
 use Rattle.abs_step.specs.declared.next.NextKind.TheVariants as kinds
 use Rattle.abs_step.proofs.Asides.{End}
 use Rattle.abs_step.proofs.GoesStack.{as_many}
-use Rattle.abs_step.proofs.Here.{address_after, here, holds_after, through_after}
+use Rattle.abs_step.proofs.Here.{address_after, armed_after_all, here, holds_after, through_after}
 use Rattle.abs_step.proofs.KeepsAside.{known_zip}
 use Rattle.abs_step.proofs.KeepsStack.{is_set}
 use Rattle.abs_step.proofs.Scenes.{Done, Scene, all_at, keeps_board, trap_inside}
@@ -69,6 +69,7 @@ module _ (g : Ground) (address : ℕ) (main inline : Bool) (a : AbsState) (regio
     pub holds : Holds (stack_set main instr e.known.state) g.cells running.entry (seen_of g.cells words (done (here g s env) instr))
     pub set : a.mode ≢ Unset → (stack_set main instr e.known.state).mode ≢ Unset
     pub nmi : a.mode ≡ Nmi → (stack_set main instr e.known.state).mode ≡ Nmi
+    pub arms : a.armed ≤ (stack_set main instr e.known.state).armed
     pub same : SameRegs s.regs (done (here g s env) instr).regs
     pub enable : (done (here g s env) instr).enable ≡ s.enable
 
@@ -91,6 +92,7 @@ module _ (g : Ground) (address : ℕ) (main inline : Bool) (a : AbsState) (regio
         holds = subst (λ y. Holds y g.cells running.entry (seen_of g.cells words new)) (sym same) (holds_after g s env a instr running e.known _ words f mode cells);
         set = λ set unset. set_stays g (writes_of g address a (Ok instr)) a set (sym mode_is ∙ unset);
         nmi = λ n. mode_is ∙ k.nmi n;
+        arms = subst (λ (y : AbsState). a.armed ≤ y.armed) (sym same) (armed_after_all g a e.known f.armed);
         same = subst (λ y. SameRegs s.regs y) (sym r.regs) regs;
         enable = enable_stays g.map region d s x.before.is_region spared.writes inside;
       }
@@ -115,6 +117,7 @@ module _ (g : Ground) (address : ℕ) (main inline : Bool) (a : AbsState) (regio
           listed = e.listed;
           cost = e.cost;
           stays = k.nmi;
+          arms = k.arms;
           goes = record {
             set = k.set set;
             pc = address_after g s env a instr running e.known _ running.words e.fits (e.one (λ same. absurd (cc)));
@@ -148,6 +151,7 @@ module _ (g : Ground) (address : ℕ) (main inline : Bool) (a : AbsState) (regio
           listed = e.listed;
           cost = e.cost;
           stays = k.nmi;
+          arms = k.arms;
           goes = record {
             set = k.set set;
             main = x.is_main ∙ not_main;

@@ -49,7 +49,7 @@ use Rattle.abs_step.specs.declared.next.NextKind.TheVariants as kinds
 use Rattle.abs_step.proofs.Asides.{End}
 use Rattle.abs_step.proofs.GoesAside.{goes_on}
 use Rattle.abs_step.proofs.GoesStack.{EndsIn, as_many, ends_in, exchange_end, pop_end, push_end}
-use Rattle.abs_step.proofs.Here.{IsBegun, address_after, begun, here, holds_after, through_after}
+use Rattle.abs_step.proofs.Here.{IsBegun, address_after, armed_after_all, begun, here, holds_after, through_after}
 use Rattle.abs_step.proofs.KeepsAside.{aside_end, known_zip}
 use Rattle.abs_step.proofs.Scenes.{Done, Scene, all_at, aside_inside, keeps_board, trap_inside}
 use Rattle.abs_step.proofs.Uses.{stack_same}
@@ -107,6 +107,7 @@ module _ (g : Ground) (address : ℕ) (main inline : Bool) (a : AbsState) (regio
           listed = e.listed;
           cost = e.cost;
           stays = λ n. ap (λ (y : AbsState). y.mode) set ∙ set_nmi e.known.state.mode (f.mode ∙ (ap (λ ws. (state_after_writes g ws a).mode) e.writes ∙ k.nmi n));
+          arms = subst (λ (y : AbsState). a.armed ≤ y.armed) (sym set) (armed_after_all g a e.known f.armed);
           goes = record {
             words = [];
             pc = address_after g s env a instr running e.known _ running.words f (e.one (λ same. absurd (cc)));

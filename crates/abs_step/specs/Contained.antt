@@ -1,6 +1,6 @@
 -- What an instruction makes of the board where a row holds of it, and no rule is against the row (docs/CHECKER.md, "What a
 -- step keeps").
-use Rattle.std.specs.Prelude.{ℕ, ◌+◌, ◌%◌, ◌≡◌, ◌≢◌, Bool, true, false, None, Ok, List, [], ◌∷◌, length}
+use Rattle.std.specs.Prelude.{ℕ, ◌+◌, ◌%◌, ◌≤◌, ◌≡◌, ◌≢◌, Bool, true, false, None, Ok, List, [], ◌∷◌, length}
 use Rattle.std.specs.List.{All, AllZip, Contains}
 use Rattle.address_map.specs.AddressMap.{AddressMap}
 use Rattle.address_map.specs.declared.region.Region.{Region}
@@ -156,12 +156,13 @@ GoesBy kinds.Jump cells region running instr c n = Went cells region running c n
 GoesBy kinds.Call cells region running instr c n = Called cells region running instr c n (done c instr)
 GoesBy kinds.Exit cells region running instr c n = Ended cells region running instr c n (done c instr)
 
--- one of the ways on is how it goes, at the T-states of the instruction; a mode in which NMIs come stays
+-- one of the ways on is how it goes, at the T-states of the instruction; a mode in which NMIs come stays, and cells that are armed do
 pub record Goes (cells : List KeptCell) (region : Region) (running : Running) (a : AbsState) (instr : Instr) (nexts : List Next) (c : Context) : Type 0 where
   pub next : Next
   pub listed : Contains nexts next
   pub cost : t_of c instr ≡ next.cost
   pub stays : a.mode ≡ Nmi → next.state.mode ≡ Nmi
+  pub arms : a.armed ≤ next.state.armed
   pub goes : GoesBy next.kind cells region running instr c next
 
 -- What an instruction does before its T-states go by. Each data write lies in the one that is known of it, no trap is met where the row's data writes go to places that take data,

@@ -1,0 +1,217 @@
+-- What is accepted is safe.
+use Rattle.std.proofs.Common.{◌≡◌, ◌≤◌, ◌+◌, ◌∙◌, ℕ, Bool, true, false, List, [], ◌∷◌, Option, Some, None, refl, sym, ap, subst, arith}
+use Rattle.t_states.specs.Frame.{nmi_cost}
+use Rattle.board_step.specs.Env.{IsEnv}
+use Rattle.board_step.specs.Kind.{kind_of}
+use Rattle.board_step.specs.Reset.{IsReset}
+use Rattle.board_step.specs.Run.{Run, is_return}
+use Rattle.board_step.specs.Safe.{KeepsWithout, Safe}
+use Rattle.board_step.specs.State.{IsState, State}
+use Rattle.board_step.specs.Step.{Step, accepted, done, instr_draft, t_of}
+use Rattle.board_step.specs.Trap.{Traps}
+use Rattle.board_step.specs.declared.env.Env.{Env}
+use Rattle.board_step.specs.declared.event.Event.{Event}
+use Rattle.board_step.specs.declared.event.Kind.TheVariants as kinds
+use Rattle.board_step.proofs.StepLemmas.{traps_accepting}
+use Rattle.frame_clock.proofs.Clocks.{accepts_by}
+use Rattle.cert_cover.specs.declared.program.Callee.{Callee}
+use Rattle.cert_lines.specs.declared.proc.Proc.{Proc}
+use Rattle.cert_order.specs.Contents.{Contents}
+use Rattle.cert_rules.specs.Acceptance.{nmi_among}
+use Rattle.std.specs.Prelude.{IsSome, option_and_then}
+use Rattle.cert_rules.specs.Table.{IsTimed}
+use Rattle.activations.specs.Chain.{IsAccepted}
+use Rattle.activations.specs.Placed.{Activations, Under, board_of}
+use Rattle.activations.specs.Steps.{Executed, Takes, at_board, leaves, stays}
+use Rattle.activations.proofs.Depth.{chain_timed}
+use Rattle.activations.proofs.ExecutingLemmas.{executing}
+use Rattle.safety.specs.Profile.{certified_profile, nmi_time}
+use Rattle.safety.proofs.Accepting.{accepts, no_trap}
+use Rattle.safety.proofs.Events.{same_board}
+use Rattle.safety.proofs.Keeper.{Frame, Keeper, Move, begins as move_begins, ends, inside, keeps, outside, safe_by, stands_at}
+use Rattle.safety.proofs.MainEvents.{Taken, awake_executes, eventful, latched_accepts, main_goes, main_never, never_both, no_accept_instr, numbers_on, taken, takes_no_trap}
+use Rattle.safety.proofs.Roles.{IsMainOf, IsNmiOf, main_of, nmi_is}
+use Rattle.safety.proofs.Standing.{Config, Stands, Suspended, frame_of, main_callee, nmi_callee, under_nmi, under_words}
+use Rattle.safety.proofs.Stepping.{alone, begins, inside_ends, inside_on, spent_within, within}
+
+-- the frame of a configuration
+frame_in : Option Suspended → Option Frame
+frame_in None = None
+frame_in (Some u) = Some (frame_of u)
+
+module _ (rom : List ℕ) (cert : Contents) (acc : IsAccepted rom cert) (main : Proc) (is_main : IsMainOf cert main) where
+  abbrev MainIs : Callee
+  MainIs = main_callee rom cert acc main is_main
+
+  -- ---- with an NMI routine
+
+  module _ (nmi : Proc) (time b : ℕ) (budget : cert.budget ≡ Some b) (is_nmi : IsNmiOf cert main nmi time) where
+    abbrev NmiIs : Callee
+    NmiIs = nmi_callee rom cert acc main is_main nmi time is_nmi
+
+    abbrev StandsAs : Config → State → Type 0
+    StandsAs g s = Stands rom cert MainIs NmiIs time g s
+
+    abbrev with_under : Activations → Option Suspended → Config
+    with_under c u = record { now = c; under = u }
+
+    module _ (c : Activations) (u : Suspended) (s : State) (st : StandsAs (with_under c (Some u)) s) (env : Env) (is_env : IsEnv env) where
+      under_here : Under cert NmiIs (under_words (Some u))
+      under_here = under_nmi rom cert acc main is_main nmi time is_nmi u st.inside.context
+
+      taking : Executed rom cert NmiIs (under_words (Some u)) c s env
+      taking = executing rom cert NmiIs (under_words (Some u)) c s env acc under_here st.numbers is_env st.placed
+
+      kind_here : kind_of s ≡ kinds.Instr
+      kind_here = awake_executes s st.inside.unlatched st.inside.awake
+
+      inside_never : Traps (certified_profile rom cert) s env None
+      inside_never = takes_no_trap rom cert acc NmiIs (under_words (Some u)) c s env kind_here st.placed taking
+
+      timed_here : IsTimed c.of.proc
+      timed_here = chain_timed rom cert NmiIs c.first c.of c.entry c.waiting st.placed.chain (subst (λ (o : Option ℕ). IsSome o) (sym is_nmi.time_is) refl)
+
+    never : (g : Config) (s : State) (env : Env) → StandsAs g s → IsEnv env → Traps (certified_profile rom cert) s env None
+    never g s env st is_env = by g.under st
+      where
+        alone_by : (l : Bool) → s.latched ≡ l → StandsAs (with_under g.now None) s → Traps (certified_profile rom cert) s env None
+        alone_by true on st = traps_accepting (certified_profile rom cert) s env None (latched_accepts s on) (no_trap rom cert acc main is_main nmi time b budget is_nmi g.now s env is_env st on)
+        alone_by false off st = main_never rom cert acc main is_main NmiIs time g.now s st off env is_env
+
+        by : (u : Option Suspended) → StandsAs (with_under g.now u) s → Traps (certified_profile rom cert) s env None
+        by None st = alone_by s.latched refl st
+        by (Some u) st = inside_never g.now u s st env is_env
+
+    abbrev Next : Option Suspended → State → Env → Event → State → Type 0
+    Next u s env event new = (h : Config) × StandsAs h new × Move (certified_profile rom cert) time (frame_in u) (frame_in h.under) s env event new
+
+    next : (g : Config) (s new : State) (env : Env) (event : Event) → StandsAs g s → IsEnv env → Step (board_of rom cert) s env event new → Next g.under s env event new
+    unfolding frame_in
+    next g s new env event st is_env step = by g.under st
+      where
+        alone_by : (l : Bool) → s.latched ≡ l → StandsAs (with_under g.now None) s → Next None s env event new
+        alone_by true on st =
+            let kind = latched_accepts s on in
+            let x = step.accepts kind in
+            let e = accepts rom cert acc main is_main nmi time b budget is_nmi g.now s env is_env st on new (numbers_on rom cert acc s new env event st.numbers is_env step)
+            (same_board cert s (accepted (at_board rom cert s env)) new nmi_cost env x.new_is) (eventful rom cert acc s new env event nmi_cost st.numbers step x.t) in
+            (with_under e.next (Some (record { context = g.now; at = s; spent = 11 })), e.stands, move_begins (step.kind ∙ kind) refl (ap (λ (n : ℕ). let f : Frame = record { at = s; spent = n } in Some f) (sym x.t)) e.sp)
+        alone_by false off st =
+            let m = main_goes rom cert acc main is_main NmiIs time g.now s st off new env event is_env step in
+            (with_under m.next None, m.stands, outside m.no_accept refl refl)
+
+        within_by : (u : Suspended) → (st : StandsAs (with_under g.now (Some u)) s) → Next (Some u) s env event new
+        within_by u st = takes x.takes
+          where
+            x : Executed rom cert NmiIs (under_words (Some u)) g.now s env
+            x = taking g.now u s st env is_env
+
+            kind : kind_of s ≡ kinds.Instr
+            kind = kind_here g.now u s st env is_env
+
+            w : Taken rom cert acc s new env event x.instr
+            w = taken rom cert acc s new env event x.instr st.numbers is_env step kind x.stands
+
+            timed : IsTimed g.now.of.proc
+            timed = timed_here g.now u s st env is_env
+
+            numbers : IsState new
+            numbers = numbers_on rom cert acc s new env event st.numbers is_env step
+
+            takes : Takes rom cert NmiIs (under_words (Some u)) g.now s (done (at_board rom cert s env) x.instr) (t_of (at_board rom cert s env) x.instr) (is_return x.instr (instr_draft (at_board rom cert s env) x.instr).taken) → Next (Some u) s env event new
+            takes (stays n) =
+                let e = inside_on rom cert acc main is_main nmi time b budget is_nmi g.now u s (done (at_board rom cert s env) x.instr) new (t_of (at_board rom cert s env) x.instr) st w.numbers numbers w.board (eventful rom cert acc s new env event (t_of (at_board rom cert s env) x.instr) st.numbers step w.t) (x.halts timed) (x.keeps_i timed) n in
+                (within rom cert acc main is_main nmi time b budget is_nmi e.next (record u { spent = u.spent + t_of (at_board rom cert s env) x.instr }), e.stands, inside (frame_of u) (no_accept_instr event.kind (step.kind ∙ kind)) refl (ap (λ (n : ℕ). let f : Frame = record { at = u.at; spent = u.spent + n } in Some f) (sym w.t)) e.sp)
+            takes (leaves l) =
+                let e = inside_ends rom cert acc main is_main nmi time b budget is_nmi g.now u s (done (at_board rom cert s env) x.instr) new (t_of (at_board rom cert s env) x.instr) (is_return x.instr (instr_draft (at_board rom cert s env) x.instr).taken) st w.numbers numbers w.board (eventful rom cert acc s new env event (t_of (at_board rom cert s env) x.instr) st.numbers step w.t) (x.keeps_i timed) l in
+                (with_under u.context None, e.stands, ends (frame_of u) (step.kind ∙ kind) refl refl (record { instr = x.instr; stands = x.stands; returns = l.returns }) e.back (subst (λ (n : ℕ). u.spent + n ≤ time) (sym w.t) e.time_is))
+
+        by : (u : Option Suspended) → StandsAs (with_under g.now u) s → Next u s env event new
+        by None st = alone_by s.latched refl st
+        by (Some u) st = within_by u st
+
+    one_frame : (f g : Frame) → Some f ≡ Some g → f ≡ g
+    one_frame f g e = cc
+
+    no_frame : (P : Type 0) (f : Frame) → (let o : Option Frame = None in o) ≡ Some f → P
+    no_frame P f e = absurd (cc)
+
+    never_longer : (g : Config) (s : State) (f : Frame) → StandsAs g s → frame_in g.under ≡ Some f → f.spent ≤ time
+    unfolding frame_in
+    never_longer g s f st e = by g.under st e
+      where
+        by : (u : Option Suspended) → StandsAs (with_under g.now u) s → frame_in u ≡ Some f → f.spent ≤ time
+        by None st e = no_frame _ f e
+        by (Some u) st e = subst (λ (k : Frame). k.spent ≤ time) (one_frame (frame_of u) f e) (spent_within rom cert acc main is_main nmi time b budget is_nmi g.now u s st)
+
+    keeper : Keeper (certified_profile rom cert) time
+    keeper = record {
+      C = Config;
+      Stands = StandsAs;
+      frame = λ g. frame_in g.under;
+      first = λ s r. let f = begins rom cert acc main is_main NmiIs time s r in (alone rom cert acc main is_main f.0, f.1);
+      never = never;
+      next = next;
+      within = never_longer;
+    }
+
+    pub safe_with : Safe (certified_profile rom cert) (nmi_time cert)
+    safe_with = subst (λ (o : Option ℕ). Safe (certified_profile rom cert) o) (sym is_nmi.told) (safe_by (certified_profile rom cert) time keeper)
+
+  -- ---- without one
+
+  module _ (none : cert.budget ≡ None) where
+    abbrev StandsAlone : Activations → State → Type 0
+    StandsAlone c s = Stands rom cert MainIs MainIs 0 (alone rom cert acc main is_main c) s
+
+    no_frame_now : (P : Type 0) (f : Frame) → (let o : Option Frame = None in o) ≡ Some f → P
+    no_frame_now P f e = absurd (cc)
+
+    keeper_alone : Keeper (certified_profile rom cert) 0
+    keeper_alone = record {
+      C = Activations;
+      Stands = StandsAlone;
+      frame = λ c. None;
+      first = λ s r. begins rom cert acc main is_main MainIs 0 s r;
+      never = λ c s env st is_env. main_never rom cert acc main is_main MainIs 0 c s st (st.quiet none).no_latch env is_env;
+      next = λ c s new env event st is_env step.
+          let m = main_goes rom cert acc main is_main MainIs 0 c s st (st.quiet none).no_latch new env event is_env step in
+          (m.next, m.stands, outside m.no_accept refl refl);
+      within = λ c s f st e. no_frame_now _ f e;
+    }
+
+    keeps_alone : (run : Run (board_of rom cert)) → IsReset (run.state_at 0) → KeepsWithout (certified_profile rom cert) run
+    unfolding keeper_alone
+    keeps_alone run starts = record {
+      never_traps = (keeps (certified_profile rom cert) 0 keeper_alone run starts).never_traps;
+      never_accepts = λ i a.
+          let st = stands_at (certified_profile rom cert) 0 keeper_alone run starts i (omega (arith, a.within)) in
+          let s = run.state_at i in
+          let kind = (run.steps i a.within).kind in
+          let on = accepts_by s.latched s.halted (sym kind ∙ a.accepts) in
+          never_both ⊥ s.latched on (st.quiet none).no_latch;
+    }
+
+    no_routine : (procs : List Proc) → nmi_among procs None ≡ None
+    no_routine [] = refl
+    no_routine (main ∷ []) = refl
+    no_routine (main ∷ nmi ∷ subs) = refl
+
+    no_time : nmi_time cert ≡ None
+    no_time = ap (option_and_then (λ (proc : Proc). proc.time)) (ap (nmi_among cert.procs) none ∙ no_routine cert.procs)
+
+    pub safe_without : Safe (certified_profile rom cert) (nmi_time cert)
+    safe_without = subst (λ (o : Option ℕ). Safe (certified_profile rom cert) o) (sym no_time) keeps_alone
+
+-- what is accepted is safe
+pub safe : (rom : List ℕ) (cert : Contents) → IsAccepted rom cert → Safe (certified_profile rom cert) (nmi_time cert)
+safe rom cert acc = by cert.budget refl
+  where
+    role : (main : Proc) × IsMainOf cert main
+    role = main_of rom cert acc
+
+    by : (o : Option ℕ) → cert.budget ≡ o → Safe (certified_profile rom cert) (nmi_time cert)
+    by None e = safe_without rom cert acc role.0 role.1 e
+    by (Some b) e =
+        let n = nmi_is rom cert acc role.0 role.1 b e in
+        safe_with rom cert acc role.0 role.1 n.0 n.1 b e n.2

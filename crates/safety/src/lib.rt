@@ -1,0 +1,6 @@
+// The headline (docs/THEOREM.md): what the rules accept is safe. The law is the contract of a function with an empty body.
+#![tactic(auto)]
+
+mod accepted;
+
+pub use accepted::accepted_is_safe;
