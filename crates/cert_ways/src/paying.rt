@@ -143,12 +143,19 @@ fn returns_are_paid(alloc: Global, subject: &Subject, next: &Next, callee: &Call
     true
 }
 
+/// Whether a callee has a time.
+fn has_time(callee: &Callee) -> bool
+    ensures { IsTrue result ↔ IsSome callee.now.proc.time }
+{
+    callee.proc.time.is_some()
+}
+
 /// Whether a callee has a time, and an exit, or else its time and the call are paid.
 fn call_is_paid(alloc: Global, subject: &Subject, next: &Next, callee: &Callee) -> bool
     requires { callee_at subject.now.cert next.now.address ≡ Some callee.now }
     ensures { IsTrue result ↔ PaysCall subject.now next.now callee.now }
 {
-    if callee.proc.time.is_none() {
+    if !has_time(callee) {
         return false;
     }
     if subject.has_exit(alloc, callee.number) {
