@@ -39,7 +39,7 @@ use Rattle.cert_rules.specs.Table.{IsDeep, IsTimed, entry_bytes, writes_from}
 use Rattle.cert_ways.specs.Pays.{MeetsTime, Pays, cost_before}
 use Rattle.cert_ways.specs.Ways.{GoesOn, IsExit, IsWay, Subject, behind_of, call_cost, jump_way, nexts_from, return_way}
 use Rattle.cert_holds.specs.Comes.{CameBy, Exits, Steps, resumed}
-use Rattle.cert_holds.specs.RowHolds.{Lands, worth}
+use Rattle.cert_holds.specs.RowHolds.{IsHeld, worth}
 use Rattle.cert_holds.proofs.EntryLemmas.{callee_begins}
 use Rattle.cert_holds.proofs.InForm.{each_or}
 use Rattle.cert_holds.proofs.PayLemmas.{entry_in_time, exit_paid, way_paid, worth_low}
@@ -214,7 +214,7 @@ module _ (rom : List ℕ) (cert : Contents) (acc : IsAccepted rom cert) (lowest 
       let callee = e.callee in
       let at = seen_of cert.cells c.words new in
       let x = steps n c.words w.holds w.through in
-      let l : Lands cert callee.number n.address (callee_entry n.state) (entry_of new.regs) (seen_of cert.cells [] new) = callee_begins here n callee c.entry old_seen at acc.form x e.covered in
+      let l : IsHeld cert callee.number n.address (callee_entry n.state) (entry_of new.regs) (seen_of cert.cells [] new) = callee_begins here n callee c.entry old_seen at acc.form x e.covered in
       let wait = waits_for n callee in
       let resume : (s.regs.pc + length (spelling j.instr)) % 65536 ≡ wait.resume = ap (λ (k : ℕ). (k + length (spelling j.instr)) % 65536) p.pc in
       record {
