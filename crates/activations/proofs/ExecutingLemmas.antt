@@ -39,7 +39,7 @@ use Rattle.cert_rules.specs.Table.{IsDeep, IsTimed, entry_bytes, writes_from}
 use Rattle.cert_ways.specs.Pays.{MeetsTime, Pays, cost_before}
 use Rattle.cert_ways.specs.Ways.{GoesOn, IsExit, IsWay, Subject, behind_of, call_cost, jump_way, nexts_from, return_way}
 use Rattle.cert_holds.specs.Comes.{CameBy, Exits, Steps, resumed}
-use Rattle.cert_holds.specs.RowHolds.{Lands, worth}
+use Rattle.cert_holds.specs.RowHolds.{IsHeld, worth}
 use Rattle.cert_holds.proofs.EntryLemmas.{callee_begins}
 use Rattle.cert_holds.proofs.InForm.{each_or}
 use Rattle.cert_holds.proofs.PayLemmas.{entry_in_time, exit_paid, way_paid, worth_low}
@@ -154,7 +154,7 @@ module _ (rom : List ℕ) (cert : Contents) (acc : IsAccepted rom cert) (lowest 
         nmi = λ m. nmi_covered l.row.state.mode n.state.mode l.mode (nmi m);
         pays = λ b.
             let paid = way_paid cert c.row l.row n.cost n.effect c.entry c.entry old_seen (seen_of cert.cells w.words new) acc.form l.at.listed numbers.regs after_numbers.regs p.holds.state l.holds.state w.through
-            ((pays_here (timed_here b)).ways (jump_way here n) l.row (record { is_way = way; at = l.at; asked = inr l.meets })) in
+            ((pays_here (timed_here b)).ways (jump_way here n) l.row (record { is_way = way; lands = record { at = l.at; asked = inr l.meets } })) in
             more_waits t n.cost (worth c.row old_seen) (worth l.row (seen_of cert.cells w.words new)) (later_all c.waiting) cost paid;
       }
 
@@ -197,7 +197,7 @@ module _ (rom : List ℕ) (cert : Contents) (acc : IsAccepted rom cert) (lowest 
               owes = λ b.
                   let paid = way_paid cert c.row l.row (call_cost n callee) back.arrival.effect c.entry c.entry old_seen (resumed at m) acc.form l.at.listed numbers.regs i p.holds.state l.holds.state
                   (return_came here n callee exit c.entry old_seen at m x y)
-                  ((pays_here b).ways back l.row (record { is_way = way; at = l.at; asked = inr l.meets })) in
+                  ((pays_here b).ways back l.row (record { is_way = way; lands = record { at = l.at; asked = inr l.meets } })) in
                   kept_less (call_cost n callee) (worth c.row old_seen) (worth l.row (resumed at m)) paid;
             };
         timed = λ b. ((pays_here b).calls n callee e.calls).timed;
@@ -214,7 +214,7 @@ module _ (rom : List ℕ) (cert : Contents) (acc : IsAccepted rom cert) (lowest 
       let callee = e.callee in
       let at = seen_of cert.cells c.words new in
       let x = steps n c.words w.holds w.through in
-      let l : Lands cert callee.number n.address (callee_entry n.state) (entry_of new.regs) (seen_of cert.cells [] new) = callee_begins here n callee c.entry old_seen at acc.form x e.covered in
+      let l : IsHeld cert callee.number n.address (callee_entry n.state) (entry_of new.regs) (seen_of cert.cells [] new) = callee_begins here n callee c.entry old_seen at acc.form x e.covered in
       let wait = waits_for n callee in
       let resume : (s.regs.pc + length (spelling j.instr)) % 65536 ≡ wait.resume = ap (λ (k : ℕ). (k + length (spelling j.instr)) % 65536) p.pc in
       record {

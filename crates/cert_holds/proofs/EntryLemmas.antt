@@ -25,7 +25,7 @@ use Rattle.cert_cover.specs.declared.program.Callee.{Callee}
 use Rattle.cert_order.specs.Contents.{Contents, IsInForm}
 use Rattle.cert_ways.specs.Ways.{Subject, entry_of as entry_arrival}
 use Rattle.cert_holds.specs.Comes.{CameBy, Comes, Steps, entered}
-use Rattle.cert_holds.specs.RowHolds.{Lands}
+use Rattle.cert_holds.specs.RowHolds.{IsHeld}
 use Rattle.cert_holds.proofs.LandingLemmas.{lands}
 
 -- ---- pairs of which nothing is known but what they are
@@ -91,7 +91,7 @@ first_comes proc address state cells entry m i h = record { entry = entry; befor
 main_holds : (cells : List KeptCell) (entry : Entry) (m : Seen) → IsRegs m.regs → IsQuiet m.enable m.line m.latched → m.words ≡ [] → Holds main_entry cells entry m
 main_holds cells entry m i quiet none = record { mode = quiet; cells_hold = tt; pairs = all_full entry m.regs i; flag = tt; shape = no_shape entry m.words none }
 
-pub main_begins : (cert : Contents) (entry : Entry) (m : Seen) → IsInForm cert → IsRegs m.regs → IsQuiet m.enable m.line m.latched → m.words ≡ [] → CoversMain cert → Lands cert 0 0 main_entry entry m
+pub main_begins : (cert : Contents) (entry : Entry) (m : Seen) → IsInForm cert → IsRegs m.regs → IsQuiet m.enable m.line m.latched → m.words ≡ [] → CoversMain cert → IsHeld cert 0 0 main_entry entry m
 main_begins cert entry m form i quiet none covers =
     let h = main_holds cert.cells entry m i quiet none in
     lands cert form (first_arrival 0 0 main_entry) entry m i (first_comes 0 0 main_entry cert.cells entry m i h) main_entry h covers
@@ -99,7 +99,7 @@ main_begins cert entry m form i quiet none covers =
 nmi_holds : (cells : List KeptCell) (m : Seen) → IsRegs m.regs → m.words ≡ [] → HoldsCells (length cells) cells m.cells → Holds (nmi_entry (length cells)) cells (entry_of m.regs) m
 nmi_holds cells m i none held = record { mode = tt; cells_hold = held; pairs = all_own full_pairs (entry_of m.regs) m.regs (all_full (entry_of m.regs) m.regs i); flag = tt; shape = no_shape (entry_of m.regs) m.words none }
 
-pub nmi_begins : (cert : Contents) (m : Seen) → IsInForm cert → IsRegs m.regs → m.words ≡ [] → HoldsCells (length cert.cells) cert.cells m.cells → CoversNmi cert → Lands cert 1 102 (nmi_entry (length cert.cells)) (entry_of m.regs) m
+pub nmi_begins : (cert : Contents) (m : Seen) → IsInForm cert → IsRegs m.regs → m.words ≡ [] → HoldsCells (length cert.cells) cert.cells m.cells → CoversNmi cert → IsHeld cert 1 102 (nmi_entry (length cert.cells)) (entry_of m.regs) m
 nmi_begins cert m form i none held covers =
     let state = nmi_entry (length cert.cells) in
     let h = nmi_holds cert.cells m i none held in
@@ -116,7 +116,7 @@ entered_values s next entry before now x (Slot number part) there = absurd (omeg
 entered_values s next entry before now x v there = x.came v tt
 
 pub callee_begins : (s : Subject) (next : Next) (callee : Callee) (entry : Entry) (before now : Seen) → IsInForm s.cert → Steps s next entry before now → Covered s.cert (entry_arrival s next callee) (callee_entry next.state)
-    → Lands s.cert callee.number next.address (callee_entry next.state) (entry_of now.regs) (entered now)
+    → IsHeld s.cert callee.number next.address (callee_entry next.state) (entry_of now.regs) (entered now)
 callee_begins s next callee entry before now form x covers =
     lands s.cert form (entry_arrival s next callee) (entry_of now.regs) (entered now) x.numbers_now
     (record { entry = entry; before = before; numbers = x.numbers; held = x.held.state; facts = x.held.facts; came = entered_values s next entry before now x })

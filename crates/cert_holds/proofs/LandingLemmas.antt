@@ -28,7 +28,7 @@ use Rattle.cert_cover.specs.Program.{IsRowAt, split_at}
 use Rattle.cert_lines.specs.declared.row.Row.{Row}
 use Rattle.cert_order.specs.Contents.{Contents, IsInForm}
 use Rattle.cert_holds.specs.Comes.{Comes}
-use Rattle.cert_holds.specs.RowHolds.{AreZeroAt, Lands, RowHolds}
+use Rattle.cert_holds.specs.RowHolds.{AreZeroAt, IsHeld, RowHolds}
 use Rattle.cert_holds.proofs.Facts.{all_tightened, are_linear, known_zero}
 use Rattle.cert_holds.proofs.InForm.{each_or, row_in_form}
 use Rattle.cert_holds.proofs.Meeting.{cut_mode, states_meet}
@@ -61,7 +61,7 @@ module _ (cert : Contents) (form : IsInForm cert) (a : Arrival) (entry : Entry) 
       let left = all_tightened cert.cells entry now numbers row.facts (are_linear (length row.state.shape) row.facts f.of.form.facts f.short.facts.short) facts state h in
       record { state = covered_left row.state cert.cells entry now (tightened_by row.facts state) covers.tightened left; facts = facts }
 
-  lands_at : (state cut : AbsState) → Holds state cert.cells entry now → Holds cut cert.cells entry now → cut.mode ≡ state.mode → SomeCovers cert a cut → Lands cert a.proc a.address state entry now
+  lands_at : (state cut : AbsState) → Holds state cert.cells entry now → Holds cut cert.cells entry now → cut.mode ≡ state.mode → SomeCovers cert a cut → IsHeld cert a.proc a.address state entry now
   lands_at state cut h k mode some =
       let holds = holds_row cut some.row some.at.listed k some.covers in
       record {
@@ -73,11 +73,11 @@ module _ (cert : Contents) (form : IsInForm cert) (a : Arrival) (entry : Entry) 
       }
 
   by_value : (state : AbsState) (o : Option AbsState) → Holds state cert.cells entry now → IfSome o (SomeCovers cert a) → IsSomeAnd o (λ t. Holds t cert.cells entry now) → IfSome o (λ t. t.mode ≡ state.mode)
-      → Lands cert a.proc a.address state entry now
+      → IsHeld cert a.proc a.address state entry now
   by_value state None h some held mode = absurd held
   by_value state (Some cut) h some held mode = lands_at state cut h held mode some
 
-  by_split : (state : AbsState) (split : Option Register8) → Holds state cert.cells entry now → CoveredBy cert a state split → Lands cert a.proc a.address state entry now
+  by_split : (state : AbsState) (split : Option Register8) → Holds state cert.cells entry now → CoveredBy cert a state split → IsHeld cert a.proc a.address state entry now
   by_split state None h some = lands_at state state h h refl some
   by_split state (Some register) h some =
       let value = byte_in register now.regs in
@@ -86,7 +86,7 @@ module _ (cert : Contents) (form : IsInForm cert) (a : Arrival) (entry : Entry) 
       (cut_mode register (to_range (single value)) state)
 
   -- a covered state that arrives and holds lands at a row
-  pub lands : (state : AbsState) → Holds state cert.cells entry now → Covered cert a state → Lands cert a.proc a.address state entry now
+  pub lands : (state : AbsState) → Holds state cert.cells entry now → Covered cert a state → IsHeld cert a.proc a.address state entry now
   lands state h covered = by_split state (split_at cert a.proc a.address) h covered
 
 -- ---- addresses have rows

@@ -36,7 +36,7 @@ use Rattle.cert_cover.specs.declared.program.Callee.{Callee}
 use Rattle.cert_order.specs.Contents.{IsInForm}
 use Rattle.cert_ways.specs.Ways.{Subject, behind_of, effect_of_call, jump_way, return_way, returned_change}
 use Rattle.cert_holds.specs.Comes.{CameBy, Exits, Steps, resumed}
-use Rattle.cert_holds.specs.RowHolds.{Lands}
+use Rattle.cert_holds.specs.RowHolds.{IsHeld}
 use Rattle.cert_holds.proofs.LandingLemmas.{lands}
 
 -- ---- constants first
@@ -108,7 +108,7 @@ module _ (e : Effect) (exit : AbsState) (before at now : Seen) (came : CameBy e 
 
 -- ---- ways
 
-pub way_leads : (s : Subject) (next : Next) (entry : Entry) (before now : Seen) → IsInForm s.cert → Steps s next entry before now → Covered s.cert (jump_way s next).arrival next.state → Lands s.cert s.row.proc next.address next.state entry now
+pub way_leads : (s : Subject) (next : Next) (entry : Entry) (before now : Seen) → IsInForm s.cert → Steps s next entry before now → Covered s.cert (jump_way s next).arrival next.state → IsHeld s.cert s.row.proc next.address next.state entry now
 way_leads s next entry before now form x covers =
     lands s.cert form (jump_way s next).arrival entry now x.numbers_now
     (record { entry = entry; before = before; numbers = x.numbers; held = x.held.state; facts = x.held.facts; came = x.came })
@@ -125,7 +125,7 @@ return_came s next callee exit entry before at now x y =
 
 pub call_comes_back : (s : Subject) (next : Next) (callee : Callee) (exit : AbsState) (entry : Entry) (before at now : Seen) → IsInForm s.cert → Steps s next entry before at → Exits s exit at now
     → Covered s.cert (return_way s next callee exit).arrival (after_call next.state exit)
-    → Lands s.cert s.row.proc (behind_of s.decoded s.row.address) (after_call next.state exit) entry (resumed at now)
+    → IsHeld s.cert s.row.proc (behind_of s.decoded s.row.address) (after_call next.state exit) entry (resumed at now)
 call_comes_back s next callee exit entry before at now form x y covers =
     lands s.cert form (return_way s next callee exit).arrival entry (resumed at now) y.numbers
     (record { entry = entry; before = before; numbers = x.numbers; held = x.held.state; facts = x.held.facts; came = return_came s next callee exit entry before at now x y })

@@ -35,7 +35,7 @@ worth row m = value_at m (potential_of row)
 
 -- Some row at an address of a procedure holds of what an activation sees, which an arriving state told of: its mode covers
 -- that of the state, and its ranges share values with those of the state.
-pub record Lands (cert : Contents) (proc address : ℕ) (state : AbsState) (entry : Entry) (m : Seen) : Type 0 where
+pub record IsHeld (cert : Contents) (proc address : ℕ) (state : AbsState) (entry : Entry) (m : Seen) : Type 0 where
   pub row : Row
   pub at : IsRowAt cert proc address row
   pub holds : RowHolds row cert.cells entry m

@@ -12,7 +12,7 @@ ghost use Rattle.cert_cover.specs.Arrival.{Arrival};
 ghost use Rattle.cert_cover.specs.Covering.{Covered};
 ghost use Rattle.cert_cover.specs.Program.{IsRowAt};
 ghost use Rattle.cert_holds.specs.Comes.{Comes};
-ghost use Rattle.cert_holds.specs.RowHolds.{Lands};
+ghost use Rattle.cert_holds.specs.RowHolds.{IsHeld};
 ghost use Rattle.cert_lines.specs.declared.row.Row.{Row};
 ghost use Rattle.cert_order.specs.Contents.{Contents, IsInForm};
 
@@ -20,7 +20,7 @@ ghost use Rattle.cert_order.specs.Contents.{Contents, IsInForm};
 /// facts with it, whether states are told apart there or not.
 pub fn covered_states_land()
     ensures { (cert : Contents) (a : Arrival) (state : AbsState) (entry : Entry) (now : Seen) → IsInForm cert → IsRegs now.regs → Comes a cert.cells now
-        → Holds state cert.cells entry now → Covered cert a state → Lands cert a.proc a.address state entry now }
+        → Holds state cert.cells entry now → Covered cert a state → IsHeld cert a.proc a.address state entry now }
 {}
 
 /// A law: an address at which a state is covered has a row, if the state's pairs hold of any registers.

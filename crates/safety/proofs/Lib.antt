@@ -9,3 +9,4 @@ pub mod Stepping
 pub mod Accepting
 pub mod MainEvents
 pub mod Whole
+pub mod BoundedLemmas

@@ -1,2 +1,3 @@
--- The definitions: what the runs of an accepted ROM are tested against.
+-- The definitions: what the runs of an accepted ROM are tested against, and the time of an activation.
 pub mod Profile
+pub mod Bounded

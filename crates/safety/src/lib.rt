@@ -2,5 +2,7 @@
 #![tactic(auto)]
 
 mod accepted;
+mod bounded;
 
 pub use accepted::accepted_is_safe;
+pub use bounded::activations_keep_their_time;
