@@ -11,9 +11,13 @@ use z80_decode::DecodeFault;
 
 /// The statuses of docs/PROGRAM.md.
 const ACCEPTED: u8 = 0;
+
 const REFUSED: u8 = 1;
+
 const USAGE: u8 = 2;
+
 const DEVICE: u8 = 3;
+
 const MEMORY: u8 = 4;
 
 fn main(rt: HostRuntime) -> ExitCode {
