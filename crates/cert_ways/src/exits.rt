@@ -19,7 +19,7 @@ use z80_decode::Instr;
 
 impl<'a> Subject<'a> {
     /// The ways on of another row of the certificate, where it may have an exit; None where it has none, or where there is no such row.
-    pub(crate) fn exits_at(&self, alloc: Global, id: RowId) -> Option<Nexts>
+    pub fn exits_at(&self, alloc: Global, id: RowId) -> Option<Nexts>
         ensures { MatchOption result (HasNoExit self.now.rom self.now.cert id) (λ nexts. HasExits self.now.rom self.now.cert id nexts.items) }
     {
         let row = self.certificate.row(id)?;
