@@ -74,7 +74,7 @@ fn all_miss_rom(map: &Map, writes: &[DataWrite]) -> bool
     true
 }
 
-/// Whether a data write may not go to the ROM.
+/// Whether no address of a data write is of the ROM.
 fn misses_rom_zone(map: &Map, write: &DataWrite) -> bool
     ensures { IsTrue result ↔ MissesClass map.now classes.Rom write.now }
 {
@@ -93,7 +93,7 @@ fn all_miss_unmapped(map: &Map, writes: &[DataWrite]) -> bool
     true
 }
 
-/// Whether a data write may not go to where nothing listens.
+/// Whether no address of a data write is one where nothing listens.
 fn misses_open_zone(map: &Map, write: &DataWrite) -> bool
     ensures { IsTrue result ↔ MissesClass map.now classes.Unmapped write.now }
 {
@@ -112,7 +112,7 @@ fn all_miss_region(map: &Map, region: Region, writes: &[DataWrite]) -> bool
     true
 }
 
-/// Whether a data write may not go to a cell of the stack's region, or to a mirror of one.
+/// Whether no address of a data write is a cell of the stack's region, or a mirror of one.
 fn misses_region(map: &Map, region: Region, write: &DataWrite) -> bool
     ensures { IsTrue result ↔ MissesRegion map.now region write.now }
 {
