@@ -1,5 +1,5 @@
 -- A state that holds holds after a change of a register, where the register changes so.
-use Rattle.std.proofs.Common.{◌≡◌, ◌<◌, ◌≤◌, ◌+◌, ◌*◌, ◌/◌, ◌%◌, ℕ, Bool, true, false, refl, sym, ◌∙◌, ap, subst, arith, rules, List, [], ◌∷◌, Option, Some, None}
+use Rattle.std.proofs.Common.{◌≡◌, ◌<◌, ◌+◌, ◌*◌, ◌/◌, ◌%◌, ℕ, refl, sym, subst, arith, List, Option, Some, None}
 use Rattle.intervals.specs.Domain.{Entry}
 use Rattle.intervals.specs.Pair.{HoldsPair, written_bytes}
 use Rattle.intervals.specs.Range.{Interval, Within}

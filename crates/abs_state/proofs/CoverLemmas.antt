@@ -1,12 +1,8 @@
 -- Covering of states widens, and a join covers both.
-use Rattle.std.proofs.Common.{◌≡◌, ◌≤◌, ℕ, Bool, true, false, refl, sym, ap, ◌∙◌, zero, suc, arith, rules, List, [], ◌∷◌, take, length, Option, Some, None, inl, inr, ◌⊎◌, cond, eqb, subst}
-use Rattle.std.specs.Prelude.{min, ◌==◌}
-use Rattle.std.specs.List.{AllZip}
+use Rattle.std.proofs.Common.{◌≡◌, ◌≤◌, ℕ, Bool, true, refl, sym, ap, ◌∙◌, zero, suc, arith, rules, List, [], ◌∷◌, length, Option, Some, None, inl, inr, ◌⊎◌, cond, eqb, subst}
 use Rattle.std.proofs.lemmas.Bool.{cases_Bool, eqb-true}
 use Rattle.intervals.specs.Domain.{Entry}
 use Rattle.intervals.specs.PairLaws.{covers_itself, covers_along, holds_wider, hull_covers_first, hull_covers_second}
-use Rattle.intervals.specs.Range.{Within}
-use Rattle.stack_shape.specs.Shape.{CoversShape, hull_of_shapes}
 use Rattle.stack_shape.proofs.ShapeLemmas.{shape_covers_itself, shape_covers_along, shape_holds_wider, hull_covers_first_shape, hull_covers_second_shape}
 use Rattle.z80_alu.specs.declared.regs.Regs.{Regs}
 use Rattle.z80_decode.specs.declared.operands.Register8.{Register8}

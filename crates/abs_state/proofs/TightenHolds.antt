@@ -1,5 +1,5 @@
 -- A fact that is 0 cuts nothing that is there.
-use Rattle.std.proofs.Common.{◌≡◌, ℕ, refl, sym, subst, ℤ, pos, Option, Some, None, IsSomeAnd}
+use Rattle.std.proofs.Common.{◌≡◌, ℕ, refl, sym, subst, pos, Option, Some, None, IsSomeAnd}
 use Rattle.intervals.specs.Domain.{Entry}
 use Rattle.intervals.specs.Range.{Interval, Within}
 use Rattle.loop_bounds.specs.Effect.{whole}

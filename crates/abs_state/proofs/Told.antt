@@ -1,5 +1,5 @@
 -- What an answer tells of the change that it speaks of.
-use Rattle.std.proofs.Common.{◌≡◌, ◌≤◌, ◌∙◌, ℕ, Bool, true, false, refl, sym, ap, arith, rules, IsTrue, Option, Some, None, IsSomeAnd, Result, Ok, Err}
+use Rattle.std.proofs.Common.{◌≡◌, Bool, true, false, ap, arith, rules, IsTrue, Option, Some, None, IsSomeAnd, Result, Ok, Err}
 use Rattle.std.specs.Prelude.{MatchBool, OnOk}
 use Rattle.std.proofs.lemmas.Bool.Decides.{nat_tests}
 use Rattle.intervals.specs.Pair.{with_high_cut, with_low_cut}

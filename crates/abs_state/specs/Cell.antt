@@ -1,5 +1,5 @@
 -- Cells of work RAM that hold bytes of a range (docs/CHECKER.md, "Kept cells").
-use Rattle.std.specs.Prelude.{ℕ, ◌<◌, ◌≤◌, List, length, slice_index, get_or, take}
+use Rattle.std.specs.Prelude.{ℕ, List, take}
 use Rattle.std.specs.List.{AllZip}
 use Rattle.intervals.specs.Domain.{Entry}
 use Rattle.intervals.specs.Range.{Within, Covers, hull}

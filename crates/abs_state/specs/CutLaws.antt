@@ -2,12 +2,10 @@
 -- below them.
 use Rattle.std.proofs.Common.{◌≡◌, ◌≢◌, ◌<◌, ◌≤◌, ◌+◌, ◌-◌, ◌*◌, ◌/◌, ◌%◌, ℕ, zero, suc, Bool, true, false, cond, not, eqb, ltb, refl, sym, ◌∙◌, ap, subst, arith, rules, List, [], ◌∷◌, length, set, get_or, Option, Some, None, IsSomeAnd, inl, inr}
 use Rattle.std.specs.Prelude.{option_map, nat_lt, slice_index}
-use Rattle.std.specs.List.{AllZip}
 use Rattle.std.proofs.lemmas.Bool.{cases_Bool, eqb-true}
-use Rattle.std.proofs.lemmas.Bool.Decides.{nat_tests}
 use Rattle.intervals.specs.Domain.{Entry}
 use Rattle.intervals.specs.Pair.{HoldsPair, full_pair}
-use Rattle.intervals.specs.Range.{Interval, Within, single, intersection, without}
+use Rattle.intervals.specs.Range.{Interval, Within, single}
 use Rattle.intervals.specs.declared.pair.Pair.{Pair}
 use Rattle.intervals.specs.declared.reg_pair.RegPair.{RegPair}
 use Rattle.intervals.specs.declared.reg_pair.RegPair.TheVariants.{Af, Bc, De, Hl, Ix, Iy, AlternateAf, AlternateBc, AlternateDe, AlternateHl}
@@ -29,7 +27,7 @@ use Rattle.z80_draft.specs.Registers.{IsRegs}
 use Rattle.abs_state.specs.Fact.{byte_in, HoldsFact}
 use Rattle.abs_state.specs.Holds.{Holds}
 use Rattle.abs_state.specs.Narrowing.{Cut, to_range, to_all_but, with_cut_pair, cut_byte, cut_word, byte_is, word_is, a_is_below, zero_is, carry_is, condition_is}
-use Rattle.abs_state.specs.Pairs.{HoldsPairs, pair_of, word_in}
+use Rattle.abs_state.specs.Pairs.{pair_of, word_in}
 use Rattle.abs_state.specs.Registers.{byte_of}
 use Rattle.abs_state.specs.Seen.{Seen}
 use Rattle.abs_state.specs.Variables.{part_range, part_of, full_slot, range_of, cut_part, cut_slot, cut_to, value_in, with_slot, HoldsValues}

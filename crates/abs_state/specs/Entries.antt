@@ -1,5 +1,5 @@
 -- The states at entries, and after a call (docs/CHECKER.md, "Entries and returns").
-use Rattle.std.specs.Prelude.{ℕ, [], Option, Some, None}
+use Rattle.std.specs.Prelude.{ℕ, [], Some, None}
 use Rattle.intervals.specs.declared.pair.Pair.{Pair}
 use Rattle.abs_state.specs.Pairs.{pair_of, full_pairs, own_pairs}
 use Rattle.abs_state.specs.declared.mode.Mode.TheVariants.{Unset, Nmi}

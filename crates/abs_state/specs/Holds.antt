@@ -1,5 +1,5 @@
 -- When an abstract state holds of the machine (docs/CHECKER.md, "What a row knows").
-use Rattle.std.specs.Prelude.{ℕ, ◌≡◌, List, Bool, false}
+use Rattle.std.specs.Prelude.{◌≡◌, List, Bool, false}
 use Rattle.intervals.specs.Domain.{Entry}
 use Rattle.stack_shape.specs.Shape.{HoldsShape}
 use Rattle.abs_state.specs.Cell.{HoldsCells}

@@ -1,5 +1,5 @@
 -- The ten pairs of registers (docs/CHECKER.md, "What a row knows").
-use Rattle.std.specs.Prelude.{ℕ, Option, Some, None}
+use Rattle.std.specs.Prelude.{ℕ, ◌≡◌, Some, IfSome}
 use Rattle.z80_alu.specs.Word.{word_of}
 use Rattle.z80_alu.specs.declared.regs.Regs.{Regs}
 use Rattle.intervals.specs.Domain.{Entry}
@@ -80,6 +80,23 @@ pub record CoversAlternate (p q : Pairs) : Type 0 where
 -- each pair covers the other's
 abbrev pub CoversPairs : Pairs → Pairs → Type 0
 CoversPairs p q = CoversMain p q × CoversAlternate p q
+
+-- an origin that the first pair tells is the second's
+abbrev pub KeepsPair : Pair → Pair → Type 0
+KeepsPair p q = IfSome p.origin (λ of. q.origin ≡ Some of)
+
+-- pair by pair
+pub record KeepsPairs (p q : Pairs) : Type 0 where
+  pub af : KeepsPair p.af q.af
+  pub bc : KeepsPair p.bc q.bc
+  pub de : KeepsPair p.de q.de
+  pub hl : KeepsPair p.hl q.hl
+  pub ix : KeepsPair p.ix q.ix
+  pub iy : KeepsPair p.iy q.iy
+  pub alternate_af : KeepsPair p.alternate_af q.alternate_af
+  pub alternate_bc : KeepsPair p.alternate_bc q.alternate_bc
+  pub alternate_de : KeepsPair p.alternate_de q.alternate_de
+  pub alternate_hl : KeepsPair p.alternate_hl q.alternate_hl
 
 -- each pair meets the other's
 pub record MeetsPairs (p q : Pairs) : Type 0 where

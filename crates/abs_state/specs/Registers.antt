@@ -1,5 +1,5 @@
 -- What writes and exchanges of registers leave of an abstract state (docs/CHECKER.md, "Changes of a state").
-use Rattle.std.specs.Prelude.{ℕ, Option, Some, None}
+use Rattle.std.specs.Prelude.{Option, None}
 use Rattle.intervals.specs.Pair.{written_word, written_bytes}
 use Rattle.intervals.specs.Range.{Interval, full}
 use Rattle.intervals.specs.declared.pair.Pair.{Pair}

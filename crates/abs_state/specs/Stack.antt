@@ -1,5 +1,5 @@
 -- Pushes and pops (docs/CHECKER.md, "Changes of a state").
-use Rattle.std.specs.Prelude.{ℕ, List, [], ◌∷◌, ◌++◌}
+use Rattle.std.specs.Prelude.{ℕ, [], ◌∷◌, ◌++◌}
 use Rattle.intervals.specs.declared.pair.Pair.{Pair}
 use Rattle.abs_state.specs.Seen.{Seen}
 use Rattle.abs_state.specs.declared.state.AbsState.{AbsState}

@@ -1,6 +1,6 @@
 -- The variables of linears in an abstract state: their ranges, their cuts and their values (docs/CHECKER.md, "Linear
 -- bounds, effects and tightening").
-use Rattle.std.specs.Prelude.{ℕ, ◌/◌, ◌%◌, ◌≡◌, nat_lt, if◌then◌else◌, List, length, get_or, slice_set, slice_index, Option, Some, None, option_map}
+use Rattle.std.specs.Prelude.{ℕ, ◌/◌, ◌%◌, ◌≡◌, nat_lt, if◌then◌else◌, List, length, get_or, slice_set, slice_index, Option, Some, option_map}
 use Rattle.intervals.specs.Domain.{Entry}
 use Rattle.intervals.specs.Pair.{full_pair, with_word_cut, with_high_cut, with_low_cut}
 use Rattle.intervals.specs.Range.{Interval}

@@ -1,14 +1,17 @@
 // Covering, meeting and joins of states.
 ghost use Rattle.std.specs.Prelude.{◌≡◌, ◌↔◌, ◌⊎◌, IsTrue, IfSome, List};
 ghost use Rattle.intervals.specs.Domain.{Entry};
-ghost use Rattle.abs_state.specs.Covers.{CoversState, MeetsState, hull_of_states};
+ghost use Rattle.std.specs.List.{AllZip};
+ghost use Rattle.abs_state.specs.Covers.{CoversState, KeepsSlot, KeepsState, MeetsState, hull_of_states};
 ghost use Rattle.abs_state.specs.Holds.{Holds};
 ghost use Rattle.abs_state.specs.Seen.{Seen};
 ghost use Rattle.abs_state.specs.declared.cell.KeptCell.{KeptCell};
 ghost use Rattle.abs_state.specs.declared.state.AbsState.{AbsState as State};
 
 use crate::fact::{covers_fact, hull_of_facts};
+use crate::pairs::keeps_pair;
 use crate::state::AbsState;
+use stack_shape::Slot;
 
 impl AbsState {
     /// Whether this state covers the other one: its mode covers the other's, no more cells are armed, each pair and each
@@ -32,6 +35,16 @@ impl AbsState {
             && self.pairs.covers(&other.pairs)
             && covers_fact(self.flag, other.flag)
             && self.shape.covers(&other.shape)
+    }
+
+    /// Whether each origin that this state tells, of a pair or of a slot, is the other's, and its flag fact is the other's, or it
+    /// has none. The shapes have one length then; ranges, mode and cells are not asked.
+    pub fn keeps(&self, other: &AbsState) -> bool
+        ensures { IsTrue result ↔ KeepsState self.now other.now }
+    {
+        self.pairs.keeps(&other.pairs)
+            && covers_fact(self.flag, other.flag)
+            && keeps_slots(self.shape.slots(), other.shape.slots())
     }
 
     /// Whether the shapes have one length and, pair by pair and slot by slot, the ranges share a value.
@@ -59,4 +72,15 @@ impl AbsState {
             shape,
         })
     }
+}
+
+/// Whether there are as many slots, and each origin that one of the first tells is that of the slot in its place of the second.
+fn keeps_slots(mine: &[Slot], theirs: &[Slot]) -> bool
+    ensures { IsTrue result ↔ AllZip KeepsSlot mine.now theirs.now }
+{
+    mine.len() == theirs.len()
+        && mine
+            .iter()
+            .zip(theirs)
+            .all(|(a, b)| keeps_pair(a.pair, b.pair))
 }

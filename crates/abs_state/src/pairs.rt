@@ -1,6 +1,6 @@
 // The ten pairs of registers, each with what is known of it.
 ghost use Rattle.std.specs.Prelude.{◌≡◌, ◌↔◌, IsTrue, Some};
-ghost use Rattle.abs_state.specs.Pairs.{pair_of, with_pair, full_pairs, own_pairs, CoversMain, CoversAlternate, CoversPairs, MeetsPairs, hull_of_pairs};
+ghost use Rattle.abs_state.specs.Pairs.{pair_of, with_pair, full_pairs, own_pairs, CoversMain, CoversAlternate, CoversPairs, KeepsPair, KeepsPairs, MeetsPairs, hull_of_pairs};
 
 use intervals::{Domain, Pair, RegPair};
 
@@ -119,6 +119,22 @@ impl Pairs {
             && self.alternate_hl.covers(&other.alternate_hl)
     }
 
+    /// Whether each origin that these pairs tell is that of the other's.
+    pub(crate) fn keeps(&self, other: &Pairs) -> bool
+        ensures { IsTrue result ↔ KeepsPairs self.now other.now }
+    {
+        keeps_pair(self.af, other.af)
+            && keeps_pair(self.bc, other.bc)
+            && keeps_pair(self.de, other.de)
+            && keeps_pair(self.hl, other.hl)
+            && keeps_pair(self.ix, other.ix)
+            && keeps_pair(self.iy, other.iy)
+            && keeps_pair(self.alternate_af, other.alternate_af)
+            && keeps_pair(self.alternate_bc, other.alternate_bc)
+            && keeps_pair(self.alternate_de, other.alternate_de)
+            && keeps_pair(self.alternate_hl, other.alternate_hl)
+    }
+
     /// Whether each pair meets the other's.
     pub(crate) fn meets(&self, other: &Pairs) -> bool
         ensures { IsTrue result ↔ MeetsPairs self.now other.now }
@@ -162,4 +178,11 @@ fn own(pair: Pair, origin: RegPair) -> Pair
         origin: Some(origin),
         ..pair
     }
+}
+
+/// Whether an origin that a pair tells is the other's.
+pub(crate) fn keeps_pair(pair: Pair, other: Pair) -> bool
+    ensures { IsTrue result ↔ KeepsPair pair other }
+{
+    pair.origin.is_none() || pair.origin == other.origin
 }

@@ -1,7 +1,7 @@
 -- Which rows cover a state that comes to their address (docs/CHECKER.md, "Covering").
 use Rattle.std.specs.Prelude.{ℕ, ◌≡◌, ◌≤◌, ◌⊎◌, true, List, [], ◌∷◌, length, Option, Some, None, IfSome, Contains, option_and_then, slice_get}
 use Rattle.std.specs.List.{All}
-use Rattle.abs_state.specs.Covers.{CoversState}
+use Rattle.abs_state.specs.Covers.{CoversState, KeepsState}
 use Rattle.abs_state.specs.Entries.{main_entry, nmi_entry}
 use Rattle.abs_state.specs.Mode.{covers_mode}
 use Rattle.abs_state.specs.Narrowing.{byte_is}
@@ -42,9 +42,11 @@ pub record Suits (row : Row) (state : AbsState) : Type 0 where
 abbrev pub CoversTightened : Row → AbsState → Type 0
 CoversTightened row state = IfSome (tightened_by row.facts state) (CoversState row.state)
 
--- a row covers a state that arrives: it suits the state, each of its facts is known to hold, and it covers the state that these tighten
+-- a row covers a state that arrives: it suits the state, keeps what it tells of origins and flags, each of the row's facts is known to hold, and the row
+-- covers the state that these tighten
 pub record CoversArrival (a : Arrival) (state : AbsState) (row : Row) : Type 0 where
   pub suits : Suits row state
+  pub kept : KeepsState row.state state
   pub facts : All (IsKnown a.facts a.before a.effect) row.facts
   pub tightened : CoversTightened row state
 

@@ -46,7 +46,7 @@ impl<'a> Arrival<'a> {
         if !self.knows_facts(row) {
             return false;
         }
-        covers_tightened(row, state)
+        row.state().keeps(state) && covers_tightened(row, state)
     }
 
     /// Whether each fact of a row is known to hold.

@@ -14,3 +14,4 @@ mod writes;
 pub use examining::{examine, same_verdict};
 pub use refused::Refused;
 pub use rows::check_row;
+pub use whole::{main_depth, nmi_depth, nmi_of};

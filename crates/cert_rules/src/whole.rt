@@ -113,7 +113,7 @@ pub(crate) fn has_depth(certificate: &Certificate) -> bool
 }
 
 /// The stack bytes of main, the first procedure.
-fn main_depth(certificate: &Certificate) -> u16
+pub fn main_depth(certificate: &Certificate) -> u16
     ensures { result ≡ main_depth certificate.now.procs }
 {
     match certificate.procs().first() {
@@ -123,7 +123,7 @@ fn main_depth(certificate: &Certificate) -> u16
 }
 
 /// The stack bytes of the NMI routine; 0 where there is none.
-fn nmi_depth(certificate: &Certificate) -> u16
+pub fn nmi_depth(certificate: &Certificate) -> u16
     ensures { result ≡ depth_of (nmi_of certificate.now) }
 {
     match nmi_of(certificate) {
@@ -133,7 +133,7 @@ fn nmi_depth(certificate: &Certificate) -> u16
 }
 
 /// The NMI routine, the second procedure, or None where there is none.
-fn nmi_of(certificate: &Certificate) -> Option<Proc>
+pub fn nmi_of(certificate: &Certificate) -> Option<Proc>
     ensures { result ≡ nmi_of certificate.now }
 {
     match certificate.budget() {

@@ -1,4 +1,3 @@
-use Rattle.std.proofs.Common.{rules, arith, ◌≡◌, ℕ, ◌≤◌, List, ◌+◌, ◌*◌, ◌<◌, length, refl, sym, ap, ◌∙◌}
 use Rattle.abs_state.proofs.ChangeLemmas.{call_returned}
 use Rattle.abs_state.proofs.state.AbsState.after_call.Goals as goal
 

@@ -1,4 +1,3 @@
-use Rattle.std.proofs.Common.{rules, arith, ◌≡◌, ℕ, ◌≤◌, List, ◌+◌, ◌*◌, ◌<◌, length, refl, sym, ap, ◌∙◌}
 use Rattle.abs_state.proofs.CoverLemmas.{state_covers_itself, state_covers_along, state_wider}
 use Rattle.abs_state.proofs.state.AbsState.covers.Goals as goal
 

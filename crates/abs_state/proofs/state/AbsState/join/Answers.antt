@@ -1,4 +1,4 @@
-use Rattle.std.proofs.Common.{rules, arith, ◌≡◌, ℕ, ◌≤◌, List, ◌+◌, ◌*◌, ◌<◌, length, refl, sym, ap, ◌∙◌}
+use Rattle.std.proofs.Common.{◌≡◌, sym}
 use Rattle.std.proofs.Common.{Some}
 use Rattle.abs_state.specs.Mode.{hull_of_modes}
 use Rattle.abs_state.proofs.CoverLemmas.{join_covers, join_holds}

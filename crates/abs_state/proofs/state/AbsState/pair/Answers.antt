@@ -1,4 +1,3 @@
-use Rattle.std.proofs.Common.{rules, arith, ◌≡◌, ℕ, ◌≤◌, List, ◌+◌, ◌*◌, ◌<◌, length, refl, sym, ap, ◌∙◌}
 use Rattle.abs_state.proofs.ChangeLemmas.{held_of}
 use Rattle.abs_state.proofs.state.AbsState.pair.Goals as goal
 

@@ -1,4 +1,4 @@
-use Rattle.std.proofs.Common.{rules, arith, ◌≡◌, ℕ, ◌≤◌, List, ◌+◌, ◌*◌, ◌<◌, length, refl, sym, ap, ◌∙◌}
+use Rattle.std.proofs.Common.{arith}
 use Rattle.abs_state.proofs.ChangeLemmas.{byte_put}
 use Rattle.abs_state.proofs.state.AbsState.put_byte.Goals as goal
 

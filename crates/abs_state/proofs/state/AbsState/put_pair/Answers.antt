@@ -1,4 +1,3 @@
-use Rattle.std.proofs.Common.{rules, arith, ◌≡◌, ℕ, ◌≤◌, List, ◌+◌, ◌*◌, ◌<◌, length, refl, sym, ap, ◌∙◌}
 use Rattle.abs_state.proofs.ChangeLemmas.{pair_put}
 use Rattle.abs_state.proofs.state.AbsState.put_pair.Goals as goal
 
