@@ -1,5 +1,2 @@
-pub mod CoverLemmas
-pub mod RowLemmas
-pub mod EffectLemmas
-pub mod SafeLemmas
-pub mod CheckLemmas
+pub mod StartLemmas
+pub mod AcceptedLemmas

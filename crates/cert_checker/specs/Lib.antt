@@ -1,7 +1,3 @@
--- The rules of acceptance.
-pub mod Accepts
+-- The definitions: what is accepted, and what its runs are tested against.
 pub mod Certified
-pub mod Covers
-pub mod Known
-pub mod Profile
-pub mod Row
+pub mod Means

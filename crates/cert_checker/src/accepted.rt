@@ -1,61 +1,99 @@
 // What the checker accepted.
 
-ghost use Rattle.std.specs.Prelude.{◌≡◌, ℕ, length};
+ghost use Rattle.std.specs.Prelude.{◌≡◌, ◌<◌, ℕ, IfOk, length};
+ghost use Rattle.std.specs.List.{All};
 ghost use Rattle.address_map.specs.Starts.{is_start};
 ghost use Rattle.board_step.specs.Safe.{Safe};
-ghost use Rattle.cert_checker.specs.Accepts.{Accepts};
-ghost use Rattle.cert_checker.specs.Profile.{certified_profile, has_row, map_named, nmi_time};
+ghost use Rattle.board_step.specs.State.{AreBytes};
+ghost use Rattle.cert_checker.specs.Certified.{IsCodeOf};
+ghost use Rattle.cert_checker.specs.Means.{Means};
+ghost use Rattle.safety.specs.Program.{map_of_board};
+ghost use Rattle.cert_lines.specs.declared.row.Row.{Row};
+ghost use Rattle.safety.specs.Acceptance.{Accepts};
+ghost use Rattle.safety.specs.Profile.{certified_profile, has_row, nmi_time};
 
 use address_map::{Map, Rom, Starts};
 use certificate::Certificate;
+use code_map::CodeMap;
+use std::alloc::{AllocError, Global};
 use std::marker::Model;
 
-/// A ROM with the certificate that the checker accepted for it. Every run of the board on it is safe: the
-/// invariant keeps what `check` found, and what it means.
+/// A ROM with the certificate that the checker accepted for it, and the instructions that start at its rows. Every run of the
+/// board on it is safe: the invariant keeps what `check` found, and what it means.
 #[derive(Drop)]
 pub struct Accepted<'r> {
     rom: Rom<'r>,
     map: Map,
     certificate: Certificate,
-    starts: Starts,
+    code: CodeMap<'r>,
 }
 
 impl<'r> Model for Accepted<'r> {
-    ghost use Rattle.std.specs.Prelude.{◌≡◌, ℕ};
-    ghost use Rattle.address_map.specs.Starts.{is_start};
+    ghost use Rattle.std.specs.Prelude.{◌≡◌};
     ghost use Rattle.board_step.specs.Safe.{Safe};
-    ghost use Rattle.cert_checker.specs.Certified.{Certified};
-    ghost use Rattle.cert_checker.specs.Accepts.{Accepts};
-    ghost use Rattle.cert_checker.specs.Profile.{certified_profile, has_row, map_named, nmi_time};
+    ghost use Rattle.cert_checker.specs.Certified.{Certified, IsCodeOf};
+    ghost use Rattle.safety.specs.Program.{map_of_board};
+    ghost use Rattle.safety.specs.Acceptance.{Accepts};
+    ghost use Rattle.safety.specs.Profile.{certified_profile, nmi_time};
 
     ghost Value = { Certified };
 
     ghost view = { λ a. record { rom = a.rom; certificate = a.certificate } };
 
-    ghost invariant = { λ a. Accepts a.rom a.certificate × Safe (certified_profile a.rom a.certificate) (nmi_time a.certificate) × ((address : ℕ) → is_start a.starts address ≡ has_row a.certificate.rows address) × (a.map ≡ map_named a.certificate) };
+    ghost invariant = { λ a. Accepts a.rom a.certificate × Safe (certified_profile a.rom a.certificate) (nmi_time a.certificate)
+        × (a.map ≡ map_of_board a.certificate) × IsCodeOf record { rom = a.rom; certificate = a.certificate } a.code };
+}
+
+/// A law: the elements of a slice of bytes are bytes.
+fn bytes_are_in_range(bytes: &[u8])
+    ensures { AreBytes bytes.now }
+{}
+
+/// A law: what acceptance means.
+pub(crate) fn acceptance_means(rom: &[u8], certificate: &Certificate)
+    requires { Accepts rom.now certificate.now }
+    ensures { Means rom.now certificate.now }
+{
+    bytes_are_in_range(rom);
+    certificate.is_in_form();
+}
+
+/// The addresses of a certificate's rows, each of which is below 4000h.
+fn starts_of(certificate: &Certificate) -> Starts
+    requires { All (λ (row : Row). row.address < 0x4000) certificate.now.rows }
+    ensures { (address : ℕ) → is_start result address ≡ has_row certificate.now.rows address }
+{
+    let mut starts = Starts::new();
+    for id in 0..certificate.row_count() {
+        if let Some(row) = certificate.row(id) {
+            starts.insert(row.address);
+        }
+    }
+    starts
 }
 
 impl<'r> Accepted<'r> {
-    /// Keeps an accepted certificate with its ROM and the map that it names. The starts are the addresses of its rows.
-    pub(crate) fn new(
-        rom: Rom<'r>,
-        map: Map,
+    /// Keeps a certificate that nothing is against with its ROM, and decodes the instructions at its rows. The error is want of memory.
+    pub(crate) fn of(
+        alloc: Global,
+        rom: &'r [u8],
         certificate: Certificate,
-        starts: Starts,
-    ) -> Accepted<'r>
-        requires accepts { Accepts rom certificate }
-        requires starts { (address : ℕ) → is_start starts address ≡ has_row certificate.rows address }
-        requires map { map ≡ map_named certificate }
-        ensures rom { result.rom ≡ rom.entry }
-        ensures certificate { result.certificate ≡ certificate }
-        ensures safe { Safe (certified_profile rom.entry certificate) (nmi_time certificate) }
+    ) -> Result<Accepted<'r>, AllocError>
+        requires { Accepts rom.now certificate }
+        ensures kept { IfOk result (λ accepted. (accepted.rom ≡ rom.now) × (accepted.certificate ≡ certificate)) }
     {
-        Accepted {
-            rom,
+        acceptance_means(rom, &certificate);
+        let (Some(own), Some(lent)) = (Rom::of(rom), Rom::of(rom)) else {
+            unreachable!();
+        };
+        let map = certificate.board().map(own.len());
+        let code = CodeMap::of(alloc, lent, starts_of(&certificate))?;
+        Ok(Accepted {
+            rom: own,
             map,
             certificate,
-            starts,
-        }
+            code,
+        })
     }
 
     /// The accepted certificate.
@@ -83,16 +121,16 @@ impl<'r> Accepted<'r> {
 
     /// The address map that the certificate names.
     pub fn map(&self) -> &Map
-        ensures value { result.now ≡ map_named self.now.certificate }
+        ensures value { result.now ≡ map_of_board self.now.certificate }
         ensures length { result.now.rom_len ≡ length self.now.rom }
     {
         &self.map
     }
 
-    /// The addresses at which the accepted instructions start.
-    pub fn starts(&self) -> &Starts
-        ensures { (address : ℕ) → is_start result.now address ≡ has_row self.now.certificate.rows address }
+    /// The instructions that start at the certificate's rows.
+    pub fn code(&self) -> &CodeMap<'r>
+        ensures { IsCodeOf self.now result.now }
     {
-        &self.starts
+        &self.code
     }
 }

@@ -1,131 +1,65 @@
 // The checker's verdict.
 
-ghost use Rattle.std.specs.Prelude.{◌≡◌, ◌<◌, ◌≤◌, ◌-◌, ◌↔◌, length, ℕ, All, IsOk, IfOk, IfErr, OnOk, IsTrue, None, Some, take};
-ghost use Rattle.address_map.specs.Starts.{is_start};
+ghost use Rattle.std.specs.Prelude.{◌≡◌, Err, IfOk, IsOkUnless, OnOk};
 ghost use Rattle.board_step.specs.Safe.{Safe};
-ghost use Rattle.cert_checker.specs.Accepts.{Accepts, Applies, FitsWorkRam, NothingBefore, first_depth};
-ghost use Rattle.cert_checker.specs.Profile.{certified_profile, has_row, map_named, nmi_time};
-ghost use Rattle.cert_checker.specs.Row.{IsConsistent};
-ghost use Rattle.cert_checker.specs.declared.checking.Refused.{Refused};
+ghost use Rattle.safety.specs.Acceptance.{Accepts, IsRefused};
+ghost use Rattle.cert_rules.specs.declared.refused.Refused.{Refused};
+ghost use Rattle.safety.specs.Bounded.{KeepsTimes};
+ghost use Rattle.safety.specs.Layout.{RunsAreLaidOut};
+ghost use Rattle.safety.specs.Profile.{certified_profile, nmi_time};
 
-use crate::accepted::Accepted;
-use crate::against::reason_against;
-use crate::covering::covers;
-use abs_step::Reason;
-use address_map::{Map, Region, Rom, Starts};
-use certificate::{Certificate, Mode, Proc, RowId};
+use crate::accepted::{Accepted, acceptance_means};
+use cert_rules::{Refused, examine};
+use certificate::Certificate;
+use std::alloc::Global;
 use thiserror::Error;
-
-/// The first refused address, and why.
-#[derive(Clone, Copy, Debug, PartialEq, Eq)]
-pub struct Refused {
-    /// The number of the refused row, from 0; None where the whole is refused.
-    pub row: Option<u32>,
-    /// The row's address, or 0 where the whole is refused.
-    pub address: u16,
-    pub reason: Reason,
-}
 
 /// Why `check` gives no verdict of acceptance.
 #[derive(Clone, Copy, Debug, Error, PartialEq, Eq)]
 pub enum CheckFault {
+    /// The first that is against the certificate, in the order of the rules.
     #[error("refused at {:04X}: {}", .0.address, .0.reason)]
     Refused(Refused),
+    /// There was no memory for the table of the ROM's instructions; nothing is against the certificate.
     #[error("out of memory")]
     NoMemory,
 }
 
-/// Checks a certificate for a ROM. It is accepted exactly where nothing of the table of reasons in
-/// docs/CHECKER.md applies, and then every run of the board on that ROM is safe (docs/THEOREM.md). Otherwise
-/// the first reason is told: 1, 2 and 3 of the whole, then those of the rows in order, each with its lowest
-/// number, then 11 of the whole. Takes no memory.
-pub fn check<'r>(rom: &'r [u8], certificate: Certificate) -> Result<Accepted<'r>, CheckFault>
-    ensures exact { IsOk result ↔ Accepts rom.now certificate }
-    ensures kept { IfOk result (λ accepted. (accepted.rom ≡ rom.now) × (accepted.certificate ≡ certificate)) }
+/// Checks a certificate for a ROM. It is accepted exactly where no reason of the table of reasons (docs/CHECKER.md) is against it, and then every run of
+/// the board on that ROM is safe (docs/THEOREM.md). Memory is taken for the table of the ROM's instructions, once nothing was found against the certificate.
+///
+/// # Errors
+///
+/// `Refused` with the first reason: 1, 2 and 3 of the whole, then those of the rows in order, each with its lowest number, then 11 and 18 of the whole.
+/// `NoMemory` where memory was refused.
+pub fn check<'r>(
+    alloc: Global,
+    rom: &'r [u8],
+    certificate: Certificate,
+) -> Result<Accepted<'r>, CheckFault>
+    // What nothing is against is accepted, unless memory runs out, and nothing else is.
+    ensures exact { Accepts rom.now certificate → IsOkUnless result CheckFault.NoMemory }
+    ensures only { OnOk result (Accepts rom.now certificate) }
+    // What is accepted is safe: every run of the board, over every reset state, every input and every place of the vertical blank.
     ensures safe { OnOk result (Safe (certified_profile rom.now certificate) (nmi_time certificate)) }
-    ensures refused { IfErr result (λ fault. (r : Refused) × (fault ≡ CheckFault.Refused r) × Applies rom.now certificate r.row r.address r.reason × NothingBefore rom.now certificate r.row r.reason) }
+    // While no NMI comes, each activation that has a time keeps within it.
+    ensures bounded { OnOk result (KeepsTimes rom.now certificate) }
+    // Before each event some activations are laid out: the running one is at a row that holds, and SP is where their shapes say.
+    ensures laid { OnOk result (RunsAreLaidOut rom.now certificate) }
+    ensures kept { IfOk result (λ accepted. (accepted.rom ≡ rom.now) × (accepted.certificate ≡ certificate)) }
+    // What is refused is so for the first reason.
+    ensures refused { (r : Refused) → result ≡ Err (CheckFault.Refused r) → IsRefused rom.now certificate r.row r.address r.reason }
+    // No refusal depends on memory.
+    ensures memory { result ≡ Err CheckFault.NoMemory → Accepts rom.now certificate }
 {
-    let rom = match Rom::of(rom) {
-        Some(rom) if rom.len() == certificate.rom_len() => rom,
-        _ => return Err(against_whole(Reason::Rom)),
-    };
-    let map = certificate.board().map(certificate.rom_len());
-    if !lies_in_work_ram(&map, certificate.region()) {
-        return Err(against_whole(Reason::Region));
-    }
-    if !covers(&certificate, 0, Mode::Unset) {
-        return Err(against_whole(Reason::Entry));
-    }
-    let starts = match check_rows(&rom, &map, &certificate) {
-        Ok(starts) => starts,
-        Err(row) => return Err(CheckFault::Refused(row)),
-    };
-    if first_depth(certificate.procs()) > stack_size(certificate.region()) {
-        return Err(against_whole(Reason::StackDepth));
-    }
-    Ok(Accepted::new(rom, map, certificate, starts))
-}
-
-fn against_whole(reason: Reason) -> CheckFault
-    ensures { result ≡ CheckFault.Refused (record { row = None; address = 0; reason = reason }) }
-{
-    CheckFault::Refused(Refused {
-        row: None,
-        address: 0,
-        reason,
-    })
-}
-
-fn lies_in_work_ram(map: &Map, region: Region) -> bool
-    ensures { IsTrue result ↔ FitsWorkRam map.now region }
-{
-    let start = map.work_start();
-    start <= region.low
-        && region.low < region.top
-        && u32::from(region.top) <= u32::from(start) + 0x400
-}
-
-/// The stack bytes of main, the first procedure.
-fn first_depth(procs: &[Proc]) -> u16
-    ensures { result ≡ first_depth procs.now }
-{
-    match procs.first() {
-        Some(main) => main.depth,
-        None => 0,
-    }
-}
-
-fn stack_size(region: Region) -> u16
-    requires { region.low < region.top }
-    ensures { result ≡ region.top - region.low }
-{
-    region.top - region.low
-}
-
-/// Looks for a reason against each row, in order, and gathers the rows' addresses.
-fn check_rows(rom: &Rom, map: &Map, certificate: &Certificate) -> Result<Starts, Refused>
-    requires map { map.now ≡ map_named certificate.now }
-    requires fits { length rom.now ≤ 0x4000 }
-    ensures consistent { OnOk result (All (IsConsistent rom.now certificate.now) certificate.now.rows) }
-    ensures starts { IfOk result (λ starts. (address : ℕ) → is_start starts address ≡ has_row certificate.now.rows address) }
-    ensures refused { IfErr result (λ r. Applies rom.now certificate.now r.row r.address r.reason) }
-    ensures first { IfErr result (λ r. (number : ℕ) × (r.row ≡ Some number) × All (IsConsistent rom.now certificate.now) (take number certificate.now.rows)) }
-{
-    let mut starts = Starts::new();
-    for id in 0..certificate.row_count() {
-        let Some(row) = certificate.row(id) else {
-            break;
-        };
-        match reason_against(rom, map, certificate, &row) {
-            Some(reason) => {
-                return Err(Refused {
-                    row: Some(id),
-                    address: row.address,
-                    reason,
-                });
+    match examine(alloc, rom, &certificate) {
+        Ok(()) => {
+            acceptance_means(rom, &certificate);
+            match Accepted::of(alloc, rom, certificate) {
+                Ok(accepted) => Ok(accepted),
+                Err(_) => Err(CheckFault::NoMemory),
             }
-            None => starts.insert(row.address),
         }
+        Err(refused) => Err(CheckFault::Refused(refused)),
     }
-    Ok(starts)
 }

@@ -3,14 +3,11 @@
 #![tactic(auto)]
 
 mod accepted;
-mod against;
 mod checking;
-mod covering;
-mod knowing;
 
 pub use abs_step::{Reason, Saved};
 pub use accepted::Accepted;
-pub use against::reason_against;
+pub use cert_rules::Refused;
+pub use cert_ways::{compared, exit_cost};
 pub use certificate;
-pub use checking::{CheckFault, Refused, check};
-pub use covering::covers;
+pub use checking::{CheckFault, check};

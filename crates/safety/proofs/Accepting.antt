@@ -34,17 +34,17 @@ use Rattle.abs_state.specs.declared.mode.Mode.{Mode}
 use Rattle.abs_state.specs.declared.mode.Mode.TheVariants.{Nmi, Set, Unset}
 use Rattle.abs_step.specs.Contained.{seen_of}
 use Rattle.abs_step.specs.declared.reason.Reason.TheVariants as reasons
-use Rattle.cert_cover.specs.Program.{IsRowAt, ground_for, map_of_board}
-use Rattle.cert_cover.specs.declared.program.Callee.{Callee}
+use Rattle.activations.specs.Program.{IsRowAt, ground_for, map_of_board}
+use Rattle.activations.specs.Callee.{Callee}
 use Rattle.cert_lines.specs.declared.proc.Proc.{Proc}
 use Rattle.cert_lines.specs.declared.row.Row.{Row}
 use Rattle.cert_order.specs.Contents.{Contents}
-use Rattle.cert_rules.specs.Table.{IsDeep, IsTimed, entry_bytes}
-use Rattle.cert_ways.specs.Pays.{MeetsTime, Pays, cost_before}
-use Rattle.cert_holds.specs.RowHolds.{worth}
-use Rattle.cert_holds.proofs.EntryLemmas.{nmi_begins}
-use Rattle.cert_holds.proofs.InForm.{row_in_form}
-use Rattle.cert_holds.proofs.PayLemmas.{entry_in_time}
+use Rattle.activations.specs.Table.{IsDeep, IsTimed, entry_bytes}
+use Rattle.activations.specs.Pays.{MeetsTime, Pays, cost_before}
+use Rattle.activations.specs.RowHolds.{worth}
+use Rattle.activations.proofs.EntryLemmas.{nmi_begins}
+use Rattle.activations.proofs.InForm.{row_in_form}
+use Rattle.activations.proofs.PayLemmas.{entry_in_time}
 use Rattle.activations.specs.Chain.{Chain, IsAccepted, later_all, waiting_words}
 use Rattle.activations.specs.Placed.{Activations, Placed}
 use Rattle.activations.specs.Steps.{at_board}

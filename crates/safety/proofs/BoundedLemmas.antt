@@ -7,14 +7,14 @@ use Rattle.board_step.specs.State.{IsState, State}
 use Rattle.board_step.specs.Step.{Step, done, instr_draft, t_of}
 use Rattle.frame_clock.specs.Clock.{since}
 use Rattle.z80_alu.specs.declared.regs.Regs.{Regs}
-use Rattle.cert_cover.specs.declared.program.Callee.{Callee}
+use Rattle.activations.specs.Callee.{Callee}
 use Rattle.cert_order.specs.Contents.{Contents}
-use Rattle.cert_rules.specs.Table.{IsTimed}
+use Rattle.activations.specs.Table.{IsTimed}
 use Rattle.std.specs.Prelude.{Some, slice_get, unwrap_or}
 use Rattle.abs_step.specs.declared.reason.Reason.TheVariants as reasons
-use Rattle.cert_ways.specs.Pays.{Pays, cost_before}
-use Rattle.cert_holds.specs.RowHolds.{worth}
-use Rattle.cert_holds.proofs.PayLemmas.{entry_in_time}
+use Rattle.activations.specs.Pays.{Pays, cost_before}
+use Rattle.activations.specs.RowHolds.{worth}
+use Rattle.activations.proofs.PayLemmas.{entry_in_time}
 use Rattle.activations.proofs.Judging.{judge, subject_of}
 use Rattle.activations.specs.Chain.{Chain, IsAccepted, Waiting, later_all}
 use Rattle.activations.specs.Placed.{Activations, Placed, Under, board_of, owed, seen_by}
@@ -22,7 +22,7 @@ use Rattle.activations.specs.Steps.{Executed, Takes, at_board, leaves, stays}
 use Rattle.activations.proofs.Depth.{chain_timed}
 use Rattle.activations.proofs.ExecutingLemmas.{executing}
 use Rattle.activations.proofs.OwingLemmas.{owes}
-use Rattle.safety.specs.Bounded.{HasLeft, KeepsTime, Unlatched}
+use Rattle.safety.specs.Bounded.{HasLeft, KeepsTime, KeepsTimes, Unlatched}
 use Rattle.safety.proofs.Events.{Eventful, mode_on}
 use Rattle.safety.proofs.MainEvents.{Taken, awake_executes, eventful, numbers_on, taken}
 use Rattle.safety.proofs.Standing.{same_owed, same_placed}
@@ -180,3 +180,10 @@ entry_owes rom cert lowest under c s acc timed numbers p none at =
     let most = entry_in_time lowest.proc c.row cert.cells c.entry (seen_by cert c s) numbers.regs p.holds.state (pays.entry at) in
     subst (λ (ws : List Waiting). (pos (cost_before lowest.proc.kind) +ℤ (worth c.row (seen_by cert c s) +ℤ later_all ws)) ≤ℤ pos (unwrap_or lowest.proc.time 0)) (sym none)
     (plus_none (cost_before lowest.proc.kind) (unwrap_or lowest.proc.time 0) (worth c.row (seen_by cert c s)) most)
+
+-- so activations keep their time
+pub keeps_times : (rom : List ℕ) (cert : Contents) → IsAccepted rom cert → KeepsTimes rom cert
+keeps_times rom cert acc = record {
+  keeps = λ lowest under run i n c u timed numbers awake p from within none. keeps_time rom cert acc lowest under u timed run i c numbers awake p n from within none;
+  entry = λ lowest under c s timed numbers p none at. entry_owes rom cert lowest under c s acc timed numbers p none at;
+}

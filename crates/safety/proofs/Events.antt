@@ -12,7 +12,7 @@ use Rattle.stack_words.proofs.WordLaws.{lays-sp}
 use Rattle.abs_state.specs.Holds.{HoldsMode, IsQuiet}
 use Rattle.abs_state.specs.declared.mode.Mode.{Mode}
 use Rattle.abs_state.specs.declared.mode.Mode.TheVariants.{Nmi}
-use Rattle.cert_cover.specs.Program.{map_of_board}
+use Rattle.activations.specs.Program.{map_of_board}
 use Rattle.cert_order.specs.Contents.{Contents}
 use Rattle.safety.proofs.Seens.{quiet_of, remode}
 use Rattle.safety.proofs.Standing.{SameBoard}

@@ -63,6 +63,7 @@ pub record Keeper (profile : Profile) (budget : ℕ) : Type 1 where
   pub Stands : C → State → Type 0
   pub frame : C → Option Frame
   pub first : (s : State) → IsReset s → (g : C) × Stands g s
+  pub none_first : (s : State) (r : IsReset s) → frame (first s r).0 ≡ None
   pub never : (g : C) (s : State) (env : Env) → Stands g s → IsEnv env → Traps profile s env None
   pub next : (g : C) (s new : State) (env : Env) (event : Event) → Stands g s → IsEnv env → Step profile.hardware s env event new → (h : C) × Stands h new × Move profile budget (frame g) (frame h) s env event new
   pub within : (g : C) (s : State) (u : Frame) → Stands g s → frame g ≡ Some u → u.spent ≤ budget
@@ -103,6 +104,28 @@ module _ (profile : Profile) (budget : ℕ) (k : Keeper profile budget) (run : R
       by : (c : (i < run.count) ⊎ (run.count ≤ i)) → Move profile budget (k.frame (point_at i).0) (k.frame (next_by i (point_at i) c).0) (run.state_at i) (run.env_at i) (run.event_at i) (run.state_at (suc i))
       by (inl lt) = (stepped i (point_at i) lt).2
       by (inr ge) = absurd (omega arith)
+
+  -- an event began the routine that runs
+  pub record BegunAt (n : ℕ) (u : Frame) : Type 0 where
+    pub from : ℕ
+    pub before : from < n
+    pub accepts : AcceptsAt run from
+    pub at : u.at ≡ run.state_at from
+
+  begun_on : (n : ℕ) → n < run.count → (u : Frame) → frame_at (suc n) ≡ Some u → ((v : Frame) → frame_at n ≡ Some v → BegunAt n v) → MoveAt n → BegunAt (suc n) u
+  begun_on n lt u is so_far (outside off p q) = absurd (not_both is q)
+  begun_on n lt u is so_far (begins on p q sp) =
+      record { from = n; before = omega arith; accepts = record { within = lt; accepts = on }; at = ap (λ (f : Frame). f.at) (same_frame is q) }
+  begun_on n lt u is so_far (inside v off p q sp) =
+      let b = so_far v p in
+      let before = b.before in
+      record { from = b.from; before = omega arith; accepts = b.accepts; at = ap (λ (f : Frame). f.at) (same_frame is q) ∙ b.at }
+  begun_on n lt u is so_far (ends v on p q r b t) = absurd (not_both is q)
+
+  pub begun_at : (n : ℕ) → n ≤ run.count → (u : Frame) → k.frame (config_at n) ≡ Some u → BegunAt n u
+  unfolding point_at
+  begun_at zero le u is = absurd (not_both is (k.none_first (run.state_at 0) starts))
+  begun_at (suc n) le u is = begun_on n (omega arith) u is (λ v e. begun_at n (omega arith) v e) (move_at n (omega arith))
 
   -- inside the routine that an event began
   record InsideAt (i n : ℕ) : Type 0 where

@@ -10,3 +10,6 @@ pub mod Accepting
 pub mod MainEvents
 pub mod Whole
 pub mod BoundedLemmas
+-- passed on from below
+pub use Rattle.activations.proofs.InForm
+pub use Rattle.activations.proofs.Judging

@@ -19,7 +19,7 @@ use Rattle.board_step.proofs.StateRangeLemmas.{done_keeps, step_keeps}
 use Rattle.board_step.proofs.StepLemmas.{traps_executing, traps_idling}
 use Rattle.frame_clock.proofs.Clocks.{cleared, clocked}
 use Rattle.frame_clock.specs.Clock.{Clocked}
-use Rattle.cert_cover.specs.declared.program.Callee.{Callee}
+use Rattle.activations.specs.Callee.{Callee}
 use Rattle.cert_lines.specs.declared.proc.Proc.{Proc}
 use Rattle.cert_order.specs.Contents.{Contents}
 use Rattle.activations.specs.Chain.{IsAccepted}

@@ -2,15 +2,15 @@
 use Rattle.std.proofs.Common.{◌≡◌, ◌≤◌, ◌<◌, ◌+◌, ◌-◌, ◌∙◌, ℕ, zero, suc, Bool, true, false, eqb, List, [], ◌∷◌, length, get_or, slice_get, Contains, Option, Some, None, refl, sym, ap, subst, arith}
 use Rattle.std.specs.Prelude.{◌||◌, IfSome, IsSome, option_and_then}
 use Rattle.std.proofs.lemmas.Option.{get_or_from_slice_get, slice_get_within}
-use Rattle.cert_cover.specs.Covering.{CoversNmi}
+use Rattle.activations.specs.Covering.{CoversNmi}
 use Rattle.cert_lines.specs.Proc.{IsOfKind, IsProc}
 use Rattle.cert_lines.specs.declared.proc.Proc.{Proc}
 use Rattle.cert_lines.specs.declared.proc.ProcKind.{ProcKind}
 use Rattle.cert_lines.specs.declared.proc.ProcKind.TheVariants.{Main, Nmi}
 use Rattle.cert_lines.specs.declared.row.Row.{Row}
 use Rattle.cert_order.specs.Contents.{AreInOrder, Contents}
-use Rattle.cert_rules.specs.Acceptance.{IsWithinBudget, depth_of, main_depth, nmi_among, nmi_of}
-use Rattle.cert_holds.proofs.InForm.{each_or}
+use Rattle.activations.specs.Acceptance.{IsWithinBudget, depth_of, main_depth, nmi_among, nmi_of}
+use Rattle.activations.proofs.InForm.{each_or}
 use Rattle.activations.specs.Chain.{IsAccepted}
 use Rattle.safety.specs.Profile.{has_row, nmi_time}
 

@@ -26,7 +26,7 @@ use Rattle.abs_state.specs.declared.mode.Mode.{Mode}
 use Rattle.abs_state.specs.declared.mode.Mode.TheVariants.{Nmi, Set, Unset}
 use Rattle.abs_state.specs.declared.pairs.Pairs.{Pairs}
 use Rattle.cert_lines.specs.declared.row.Row.{Row}
-use Rattle.cert_holds.specs.RowHolds.{RowHolds, value_at}
+use Rattle.activations.specs.RowHolds.{RowHolds, value_at}
 
 -- ---- modes
 

@@ -18,16 +18,16 @@ use Rattle.abs_state.specs.declared.mode.Mode.TheVariants.{Nmi}
 use Rattle.abs_laws.specs.Cells.{bytes_of_cells}
 use Rattle.abs_step.specs.declared.reason.Reason.TheVariants as reasons
 use Rattle.abs_step.proofs.GoesStack.{as_many}
-use Rattle.cert_cover.specs.Program.{map_of_board}
-use Rattle.cert_cover.specs.declared.program.Callee.{Callee}
+use Rattle.activations.specs.Program.{map_of_board}
+use Rattle.activations.specs.Callee.{Callee}
 use Rattle.cert_lines.specs.declared.proc.Proc.{Proc}
 use Rattle.cert_order.specs.Contents.{Contents}
-use Rattle.cert_rules.specs.Table.{IsDeep, entry_bytes}
+use Rattle.activations.specs.Table.{IsDeep, entry_bytes}
 use Rattle.activations.specs.Chain.{IsAccepted, later_all, waiting_words}
 use Rattle.activations.specs.Placed.{Activations, Placed, Under, owed, seen_by}
 use Rattle.activations.proofs.Depth.{chain_depth}
 use Rattle.activations.proofs.Judging.{judge, subject_of}
-use Rattle.cert_ways.specs.Pays.{potential_of}
+use Rattle.activations.specs.Pays.{potential_of}
 use Rattle.safety.proofs.Keeper.{Frame}
 use Rattle.safety.proofs.Roles.{IsMainOf, IsNmiOf}
 use Rattle.safety.proofs.Seens.{SameView, same_linear, still_holds}

@@ -20,16 +20,16 @@ use Rattle.abs_state.specs.declared.state.AbsState.{AbsState}
 use Rattle.abs_step.specs.Contained.{seen_of}
 use Rattle.abs_step.specs.declared.reason.Reason.TheVariants as reasons
 use Rattle.abs_step.specs.declared.reason.Saved.TheVariants as saved
-use Rattle.cert_cover.specs.Program.{map_of_board}
-use Rattle.cert_cover.specs.declared.program.Callee.{Callee}
+use Rattle.activations.specs.Program.{map_of_board}
+use Rattle.activations.specs.Callee.{Callee}
 use Rattle.cert_lines.specs.declared.proc.Proc.{Proc}
 use Rattle.cert_lines.specs.declared.proc.ProcKind.TheVariants as proc_kinds
 use Rattle.cert_order.specs.Contents.{Contents, MayArm}
-use Rattle.cert_rules.specs.Table.{IsConsistent, IsTimed}
-use Rattle.cert_ways.specs.Ways.{IsExit}
+use Rattle.activations.specs.Table.{IsConsistent, IsTimed}
+use Rattle.activations.specs.Ways.{IsExit}
 use Rattle.nmi_saves.specs.Lost.{IsFirstLost}
-use Rattle.cert_holds.proofs.EntryLemmas.{main_begins}
-use Rattle.cert_holds.proofs.InForm.{row_in_form}
+use Rattle.activations.proofs.EntryLemmas.{main_begins}
+use Rattle.activations.proofs.InForm.{row_in_form}
 use Rattle.activations.specs.Chain.{Chain, IsAccepted, waiting_words}
 use Rattle.activations.specs.Placed.{Activations, Placed, Under, owed, seen_by}
 use Rattle.activations.specs.Steps.{Leaves, Stays}

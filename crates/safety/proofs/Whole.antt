@@ -1,10 +1,12 @@
 -- What is accepted is safe.
-use Rattle.std.proofs.Common.{◌≡◌, ◌≤◌, ◌+◌, ◌∙◌, ℕ, Bool, true, false, List, [], ◌∷◌, Option, Some, None, refl, sym, ap, subst, arith}
+use Rattle.std.proofs.Common.{◌≡◌, ◌≤◌, ◌+◌, ◌∙◌, ℕ, Bool, true, false, List, [], ◌∷◌, ◌<◌, inl, inr, slice_get, Option, Some, None, refl, sym, ap, subst, arith}
+use Rattle.std.proofs.lemmas.List.{append-nil}
 use Rattle.t_states.specs.Frame.{nmi_cost}
 use Rattle.board_step.specs.Env.{IsEnv}
 use Rattle.board_step.specs.Kind.{kind_of}
 use Rattle.board_step.specs.Reset.{IsReset}
-use Rattle.board_step.specs.Run.{Run, is_return}
+use Rattle.board_step.specs.Hardware.{Hardware}
+use Rattle.board_step.specs.Run.{AcceptsAt, Run, is_return}
 use Rattle.board_step.specs.Safe.{KeepsWithout, Safe}
 use Rattle.board_step.specs.State.{IsState, State}
 use Rattle.board_step.specs.Step.{Step, accepted, done, instr_draft, t_of}
@@ -14,30 +16,55 @@ use Rattle.board_step.specs.declared.event.Event.{Event}
 use Rattle.board_step.specs.declared.event.Kind.TheVariants as kinds
 use Rattle.board_step.proofs.StepLemmas.{traps_accepting}
 use Rattle.frame_clock.proofs.Clocks.{accepts_by}
-use Rattle.cert_cover.specs.declared.program.Callee.{Callee}
+use Rattle.activations.specs.Callee.{Callee}
 use Rattle.cert_lines.specs.declared.proc.Proc.{Proc}
 use Rattle.cert_order.specs.Contents.{Contents}
-use Rattle.cert_rules.specs.Acceptance.{nmi_among}
+use Rattle.activations.specs.Acceptance.{nmi_among}
 use Rattle.std.specs.Prelude.{IsSome, option_and_then}
-use Rattle.cert_rules.specs.Table.{IsTimed}
-use Rattle.activations.specs.Chain.{IsAccepted}
-use Rattle.activations.specs.Placed.{Activations, Under, board_of}
+use Rattle.activations.specs.Table.{IsTimed}
+use Rattle.stack_words.specs.Words.{on_top}
+use Rattle.activations.specs.Chain.{IsAccepted, waiting_words}
+use Rattle.activations.specs.Placed.{Activations, Placed, Under, board_of}
 use Rattle.activations.specs.Steps.{Executed, Takes, at_board, leaves, stays}
 use Rattle.activations.proofs.Depth.{chain_timed}
 use Rattle.activations.proofs.ExecutingLemmas.{executing}
+use Rattle.safety.specs.Layout.{IsLaidOut, MainIsLaid, NmiIsLaid, RunsAreLaidOut, numbered}
 use Rattle.safety.specs.Profile.{certified_profile, nmi_time}
 use Rattle.safety.proofs.Accepting.{accepts, no_trap}
 use Rattle.safety.proofs.Events.{same_board}
-use Rattle.safety.proofs.Keeper.{Frame, Keeper, Move, begins as move_begins, ends, inside, keeps, outside, safe_by, stands_at}
+use Rattle.safety.proofs.Keeper.{Frame, Keeper, Move, begins as move_begins, begun_at, config_at, ends, inside, keeps, outside, safe_by, stands_at}
 use Rattle.safety.proofs.MainEvents.{Taken, awake_executes, eventful, latched_accepts, main_goes, main_never, never_both, no_accept_instr, numbers_on, taken, takes_no_trap}
 use Rattle.safety.proofs.Roles.{IsMainOf, IsNmiOf, main_of, nmi_is}
-use Rattle.safety.proofs.Standing.{Config, Stands, Suspended, frame_of, main_callee, nmi_callee, under_nmi, under_words}
+use Rattle.safety.proofs.Standing.{Config, Stands, Suspended, frame_of, main_callee, nmi_callee, under_nmi, under_words, words_of}
 use Rattle.safety.proofs.Stepping.{alone, begins, inside_ends, inside_on, spent_within, within}
 
 -- the frame of a configuration
 frame_in : Option Suspended → Option Frame
 frame_in None = None
 frame_in (Some u) = Some (frame_of u)
+
+-- ---- what is laid out
+
+-- an event of a run began the routine that runs
+record Began {hardware : Hardware} (run : Run hardware) (i : ℕ) (u : Frame) : Type 0 where
+  from : ℕ
+  before : from < i
+  accepts : AcceptsAt run from
+  at : u.at ≡ run.state_at from
+
+main_laid : (rom : List ℕ) (cert : Contents) (main : Proc) → slice_get cert.procs 0 ≡ Some main → (c : Activations) (s : State) → Placed rom cert (numbered 0 main) [] c s → MainIsLaid rom cert s
+main_laid rom cert main has c s placed = record { main = main; has = has; chain = c; placed = placed }
+
+nmi_laid : (rom : List ℕ) (cert : Contents) (main nmi : Proc) → slice_get cert.procs 0 ≡ Some main → slice_get cert.procs 1 ≡ Some nmi → (c d : Activations) (s t : State)
+    → Placed rom cert (numbered 0 main) [] c s → Placed rom cert (numbered 1 nmi) (s.regs.pc ∷ words_of c) d t → NmiIsLaid rom cert s t
+unfolding main_laid
+nmi_laid rom cert main nmi has_main has c d s t under placed = record {
+  main = main_laid rom cert main has_main c s under;
+  nmi = nmi;
+  has = has;
+  chain = d;
+  placed = subst (λ (words : List ℕ). Placed rom cert (numbered 1 nmi) (s.regs.pc ∷ on_top c.words words) d t) (append-nil (waiting_words c.waiting)) placed;
+}
 
 module _ (rom : List ℕ) (cert : Contents) (acc : IsAccepted rom cert) (main : Proc) (is_main : IsMainOf cert main) where
   abbrev MainIs : Callee
@@ -145,11 +172,13 @@ module _ (rom : List ℕ) (cert : Contents) (acc : IsAccepted rom cert) (main : 
         by (Some u) st e = subst (λ (k : Frame). k.spent ≤ time) (one_frame (frame_of u) f e) (spent_within rom cert acc main is_main nmi time b budget is_nmi g.now u s st)
 
     keeper : Keeper (certified_profile rom cert) time
+    unfolding frame_in
     keeper = record {
       C = Config;
       Stands = StandsAs;
       frame = λ g. frame_in g.under;
       first = λ s r. let f = begins rom cert acc main is_main NmiIs time s r in (alone rom cert acc main is_main f.0, f.1);
+      none_first = λ s r. refl;
       never = never;
       next = next;
       within = never_longer;
@@ -157,6 +186,29 @@ module _ (rom : List ℕ) (cert : Contents) (acc : IsAccepted rom cert) (main : 
 
     pub safe_with : Safe (certified_profile rom cert) (nmi_time cert)
     safe_with = subst (λ (o : Option ℕ). Safe (certified_profile rom cert) o) (sym is_nmi.told) (safe_by (certified_profile rom cert) time keeper)
+
+    laid_by : (run : Run (board_of rom cert)) (i : ℕ) (g : Config) → StandsAs g (run.state_at i) → ((f : Frame) → frame_in g.under ≡ Some f → Began run i f) → IsLaidOut rom cert run i
+    unfolding frame_in
+    laid_by run i g st began = by g.under st began
+      where
+        by : (u : Option Suspended) → StandsAs (with_under g.now u) (run.state_at i) → ((f : Frame) → frame_in u ≡ Some f → Began run i f) → IsLaidOut rom cert run i
+        by None st began = inl (main_laid rom cert main is_main.at g.now (run.state_at i) st.placed)
+        by (Some u) st began =
+            let b = began (frame_of u) refl in
+            inr (
+              b.from,
+              b.before,
+              b.accepts,
+              subst (λ (s : State). NmiIsLaid rom cert s (run.state_at i)) b.at
+                  (nmi_laid rom cert main nmi is_main.at is_nmi.at u.context g.now u.at (run.state_at i) st.inside.context st.placed),
+            )
+
+    pub laid_with : RunsAreLaidOut rom cert
+    unfolding keeper
+    laid_with run starts i le =
+        let profile = certified_profile rom cert in
+        laid_by run i (config_at profile time keeper run starts i) (stands_at profile time keeper run starts i le)
+        (λ f is. let b = begun_at profile time keeper run starts i le f is in record { from = b.from; before = b.before; accepts = b.accepts; at = b.at })
 
   -- ---- without one
 
@@ -173,6 +225,7 @@ module _ (rom : List ℕ) (cert : Contents) (acc : IsAccepted rom cert) (main : 
       Stands = StandsAlone;
       frame = λ c. None;
       first = λ s r. begins rom cert acc main is_main MainIs 0 s r;
+      none_first = λ s r. refl;
       never = λ c s env st is_env. main_never rom cert acc main is_main MainIs 0 c s st (st.quiet none).no_latch env is_env;
       next = λ c s new env event st is_env step.
           let m = main_goes rom cert acc main is_main MainIs 0 c s st (st.quiet none).no_latch new env event is_env step in
@@ -191,6 +244,12 @@ module _ (rom : List ℕ) (cert : Contents) (acc : IsAccepted rom cert) (main : 
           let on = accepts_by s.latched s.halted (sym kind ∙ a.accepts) in
           never_both ⊥ s.latched on (st.quiet none).no_latch;
     }
+
+    pub laid_without : RunsAreLaidOut rom cert
+    unfolding keeper_alone
+    laid_without run starts i le =
+        let profile = certified_profile rom cert in
+        inl (main_laid rom cert main is_main.at (config_at profile 0 keeper_alone run starts i) (run.state_at i) (stands_at profile 0 keeper_alone run starts i le).placed)
 
     no_routine : (procs : List Proc) → nmi_among procs None ≡ None
     no_routine [] = refl
@@ -215,3 +274,16 @@ safe rom cert acc = by cert.budget refl
     by (Some b) e =
         let n = nmi_is rom cert acc role.0 role.1 b e in
         safe_with rom cert acc role.0 role.1 n.0 n.1 b e n.2
+
+-- and activations are laid out on the board of each of its runs
+pub laid_out : (rom : List ℕ) (cert : Contents) → IsAccepted rom cert → RunsAreLaidOut rom cert
+laid_out rom cert acc = by cert.budget refl
+  where
+    role : (main : Proc) × IsMainOf cert main
+    role = main_of rom cert acc
+
+    by : (o : Option ℕ) → cert.budget ≡ o → RunsAreLaidOut rom cert
+    by None e = laid_without rom cert acc role.0 role.1 e
+    by (Some b) e =
+        let n = nmi_is rom cert acc role.0 role.1 b e in
+        laid_with rom cert acc role.0 role.1 n.0 n.1 b e n.2

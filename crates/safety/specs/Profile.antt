@@ -5,7 +5,7 @@ use Rattle.board_step.specs.Profile.{Profile, profile_of}
 use Rattle.cert_lines.specs.declared.proc.Proc.{Proc}
 use Rattle.cert_lines.specs.declared.row.Row.{Row}
 use Rattle.cert_order.specs.Contents.{Contents}
-use Rattle.cert_rules.specs.Acceptance.{nmi_of}
+use Rattle.activations.specs.Acceptance.{nmi_of}
 use Rattle.activations.specs.Placed.{board_of}
 
 -- whether some row stands at an address

@@ -3,6 +3,8 @@
 
 mod accepted;
 mod bounded;
+mod laid_out;
 
 pub use accepted::accepted_is_safe;
 pub use bounded::activations_keep_their_time;
+pub use laid_out::runs_are_laid_out;

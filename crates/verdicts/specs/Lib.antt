@@ -1,0 +1,2 @@
+-- The definitions: the lines of a verdict.
+pub mod Verdict
