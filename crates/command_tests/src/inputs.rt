@@ -2,8 +2,8 @@
 
 use crate::samples::{JUMP, JUMP_CERTIFICATE};
 use board_step::{Env, Inputs, Reset};
-use cert_checker::check;
 use certificate::read;
+use runner::cert_checker::check;
 use runner::{EnvLine, Machine, ResetLine, Summary, summary_lines};
 use std::alloc::Global;
 use z80_alu::{RegisterSet, Regs};
@@ -121,7 +121,7 @@ const SUMMARY: Summary = Summary {
 /// object RAM 3.
 fn summed(alloc: Global, envs: &[Env]) -> Option<Summary> {
     let certificate = read(alloc, JUMP_CERTIFICATE.as_bytes()).ok()?;
-    let accepted = check(JUMP, certificate).ok()?;
+    let accepted = check(alloc, JUMP, certificate).ok()?;
     let reset = Reset {
         work: [1; 0x400],
         video: [2; 0x400],

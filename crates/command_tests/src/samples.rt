@@ -26,6 +26,22 @@ macro_rules! certificate_text {
 
 pub(crate) use certificate_text;
 
+/// The text of a certificate of this version: the other lines ahead of its rows; then main's rows, each with its place, what is known of
+/// AF, BC, DE and HL, and the last four fields; then the rows of other procedures, each with its procedure and place, and likewise,
+/// which keep IX, IY and the alternate set.
+macro_rules! rows_text {
+    ($version:literal, $head:literal; $($main:literal $pairs:literal $rest:literal),*; $($row:literal $own:literal $last:literal),*) => {
+        concat!(
+            "galcert ", $version, "\n", $head, "\n",
+            $("row 0 ", $main, " ", $pairs, " * * * * * * ", $rest, "\n",)*
+            $("row ", $row, " ", $own, " *@IX *@IY *@AF' *@BC' *@DE' *@HL' ", $last, "\n",)*
+            "end\n"
+        )
+    };
+}
+
+pub(crate) use rows_text;
+
 /// The certificate of STORES.
 pub const STORES_CERTIFICATE: &str = certificate_text!(
     25,
@@ -44,8 +60,14 @@ pub const STORES_CERTIFICATE: &str = certificate_text!(
 /// The certificate of JUMP.
 pub const JUMP_CERTIFICATE: &str = certificate_text!(6, "4380 4400", "0000 u", "0003 s");
 
+/// What `verify` prints of main's depth 0 in 128 bytes, with no NMI routine.
+pub const TABLE: &str = "accepted\nmain 0000 depth     0 time      -\nstack 0 of 128\nnmi none\n";
+
 /// JUMP's without the row of its second instruction.
 pub const ROW_MISSING: &str = certificate_text!(6, "4380 4400", "0000 u");
 
 /// Three events of JUMP, from a reset to 00.
 pub const JUMP_INPUT: &[u8] = b"reset 0 00\n3 00 00 00 00 00 00 0\n";
+
+/// What `run` prints of three events of JUMP, from a reset to 00.
+pub const THREE: &str = "done 3 30 0003 4400\nregs 0000 0000 0000 0000 0000 0000\nsum 0 0 0\n";

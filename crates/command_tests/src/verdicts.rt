@@ -2,18 +2,13 @@
 
 use crate::commands_over::{accepted, run, run_whole, verify, verify_whole};
 use crate::samples::{
-    JUMP, JUMP_CERTIFICATE, JUMP_INPUT, ROW_MISSING, STORES, STORES_CERTIFICATE, certificate_text,
+    JUMP, JUMP_CERTIFICATE, JUMP_INPUT, ROW_MISSING, STORES, STORES_CERTIFICATE, TABLE, THREE,
+    certificate_text,
 };
 use commands::steps_of;
 use memory_devices::{Bytes, Taken};
 use std::alloc::Global;
 use std::test::Fail;
-
-/// What `verify` prints of main's depth 0 in 128 bytes.
-const TABLE: &str = "accepted\nmain 0000 depth     0 time      -\nstack 0 of 128\nnmi none\n";
-
-/// What `run` prints of three events of JUMP, from a reset to 00.
-const THREE: &str = "done 3 30 0003 4400\nregs 0000 0000 0000 0000 0000 0000\nsum 0 0 0\n";
 
 /// A ROM, its certificate, and the status and the text of `verify`.
 const VERDICTS: &[(&[u8], &str, u8, &str)] = &[
@@ -107,12 +102,12 @@ const VERDICTS: &[(&[u8], &str, u8, &str)] = &[
         "refused 0003 12 NotCovered\n",
     ),
     (JUMP, ROW_MISSING, 1, "refused 0000 12 NotCovered\n"),
-    // A row of mode n covers, and is refused itself: what an NMI does is not judged yet
+    // A row of mode n, and no NMI routine
     (
         JUMP,
         certificate_text!(6, "4380 4400", "0000 u", "0003 n"),
-        1,
-        "refused 0003 12 NotCovered\n",
+        0,
+        TABLE,
     ),
     // LD SP,4200H
     (
@@ -147,7 +142,7 @@ const VERDICTS: &[(&[u8], &str, u8, &str)] = &[
         1,
         "refused 0000 4 Decode Undocumented\n",
     ),
-    // HALT, and OUT (00),A: the rules do not know them yet
+    // HALT, with no row behind it, and OUT (00),A
     (
         b"\x76",
         certificate_text!(1, "4380 4400", "0000 u"),
@@ -158,7 +153,7 @@ const VERDICTS: &[(&[u8], &str, u8, &str)] = &[
         b"\xD3\x00",
         certificate_text!(2, "4380 4400", "0000 u"),
         1,
-        "refused 0000 12 NotCovered\n",
+        "refused 0000 5 IoSpace\n",
     ),
     // A ROM of no bytes
     (

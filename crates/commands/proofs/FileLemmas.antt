@@ -3,12 +3,9 @@ use Rattle.std.proofs.Common.{◌≡◌, ◌<◌, ◌≤◌, ℕ, List, ◌++◌
 use Rattle.std.proofs.Math.Seq.{take-append_seam}
 use Rattle.std.proofs.lemmas.Bool.{cases_lt}
 use Rattle.std.proofs.lemmas.List.{length-take-le}
+use Rattle.board_step.specs.Hardware.{Hardware}
 use Rattle.board_step.specs.Safe.{Safe}
-use Rattle.cert_checker.specs.Accepts.{Accepts, Applies, NothingBefore}
-use Rattle.cert_checker.specs.Profile.{certified_profile, hardware_for, nmi_time}
-use Rattle.cert_checker.specs.declared.checking.CheckFault.{CheckFault}
-use Rattle.cert_checker.specs.declared.checking.CheckFault.TheVariants as faults
-use Rattle.cert_checker.specs.declared.checking.Refused.{Refused}
+use Rattle.runner.specs.Certified.{Accepts, IsRefused, board_of, certified_profile, nmi_time}
 use Rattle.cert_order.specs.Contents.{Contents, IsInForm}
 use Rattle.cert_order.specs.Text.{HasTooMany, IsFirstBadLine, text_of}
 use Rattle.certificate.specs.Pieces.{GivesAll, OfBytes}
@@ -16,8 +13,8 @@ use Rattle.texts.proofs.DeviceLemmas.{gives_all}
 use Rattle.texts.specs.Device.{DeviceState, GivesBytes}
 use Rattle.commands.specs.Judging.{HoldAccepted, IsAccepted, OnAccepted, TellsAccepted, TellsRefusal, WritesRefusalOf}
 use Rattle.commands.specs.Reading.{FirstBytes, ROM_READ_LEN}
-use Rattle.commands.specs.Running.{PlaysTo, PlaysToBadLine, TellsBadInput, TellsRun}
-use Rattle.commands.specs.Verdict.{accepted_text, bad_line_text, refused_text}
+use Rattle.commands.specs.Running.{PlaysPart, PlaysTo, PlaysToBadLine, TellsBadInput, TellsPart, TellsRun}
+use Rattle.verdicts.specs.Verdict.{Refused, accepted_text, bad_line_text, refused_text}
 
 first_of : (file after : Option (List ℕ)) (most len : ℕ) (items : List ℕ) → len ≡ length items → len ≤ most → (len < most → IfSome file (λ all. items ≡ all)) → GivesBytes file items after → IfSome file (λ all. items ≡ take most all)
 first_of None after most len items same within whole given = tt
@@ -79,18 +76,13 @@ accepted_of rom text read kept same form is accepts safe =
     subst (λ (c : Contents). OfBytes text (λ lines. IsAccepted rom lines c)) (sym same)
     (of_bytes text (λ lines. lines ≡ text_of read) (λ lines. IsAccepted rom lines read) (λ lines here. record { in_form = form; text_is = here; accepts = accepts; safe = safe }) is)
 
--- the reason that was found first, against a certificate
-abbrev IsRefused : List ℕ → Contents → CheckFault → Type 0
-IsRefused rom read fault = (r : Refused) × (fault ≡ faults.Refused r) × Applies rom read r.row r.address r.reason × NothingBefore rom read r.row r.reason
-
--- its line was printed for a certificate that was read
-pub refused_of : (Writes : DeviceState → List ℕ → DeviceState → Type 0) (rom : List ℕ) (text : Option (List ℕ)) (old new : DeviceState) (read : Contents) (fault : CheckFault) (refused : Refused) (printed : List ℕ) →
-    IsInForm read → OfBytes text (λ lines. lines ≡ text_of read) → fault ≡ faults.Refused refused → IsRefused rom read fault → printed ≡ refused_text refused → Writes old printed new →
+-- the line of the first reason against a certificate that was read was printed
+pub refused_of : (Writes : DeviceState → List ℕ → DeviceState → Type 0) (rom : List ℕ) (text : Option (List ℕ)) (old new : DeviceState) (read : Contents) (refused : Refused) (printed : List ℕ) →
+    IsInForm read → OfBytes text (λ lines. lines ≡ text_of read) → IsRefused rom read refused.row refused.address refused.reason → printed ≡ refused_text refused → Writes old printed new →
     WritesRefusalOf Writes rom text old new
-refused_of Writes rom text old new read fault refused printed form is told (r, same, applies, first) printed_is writes =
-    let one : refused ≡ r = cc in
+refused_of Writes rom text old new read refused printed form is told printed_is writes =
     of_bytes text (λ lines. lines ≡ text_of read) _
-    (λ lines here. (printed, writes, inl (record { certificate = read; in_form = form; text_is = here; refused = r; applies = applies; first = first; printed_is = printed_is ∙ ap refused_text one }))) is
+    (λ lines here. (printed, writes, inl (record { certificate = read; in_form = form; text_is = here; refused = refused; is_refused = told; printed_is = printed_is }))) is
 
 -- the number of the first bad line was printed
 pub bad_line_of : (Writes : DeviceState → List ℕ → DeviceState → Type 0) (rom : List ℕ) (text : Option (List ℕ)) (old new : DeviceState) (line : ℕ) (printed : List ℕ) →
@@ -130,15 +122,25 @@ tells_accepted {X} Writes state rom text new bytes certificate shown before same
     on_accepted rom text bytes certificate (λ _ c. Writes (state same) (accepted_text c) new) first accepted
     (subst (λ (x : X). Writes (state x) (accepted_text certificate) new) kept (subst (λ (c : Contents). Writes (state before) (accepted_text c) new) is takes))
 
-pub tells_run : {X : Type 0} (Writes : DeviceState → List ℕ → DeviceState → Type 0) (state : X → DeviceState) (steps : ℕ) (rom text input : Option (List ℕ)) (new : DeviceState) (bytes own : List ℕ) (certificate : Contents) (before same : X) →
-    FirstBytes ROM_READ_LEN rom bytes → OfBytes text (λ lines. IsAccepted bytes lines certificate) → own ≡ bytes → before ≡ same → PlaysTo Writes (hardware_for own certificate) steps input (state before) new →
-    TellsRun Writes steps rom text input (state same) new
-tells_run {X} Writes state steps rom text input new bytes own certificate before same first accepted is kept plays =
-    on_accepted rom text bytes certificate (λ b c. PlaysTo Writes (hardware_for b c) steps input (state same) new) first accepted
-    (subst (λ (x : X). PlaysTo Writes (hardware_for bytes certificate) steps input (state x) new) kept (subst (λ (b : List ℕ). PlaysTo Writes (hardware_for b certificate) steps input (state before) new) is plays))
+-- and so does what was played on that ROM
+on_played : {X : Type 0} (rom text : Option (List ℕ)) (state : X → DeviceState) (PlaysFrom : Hardware → DeviceState → Type 0) (bytes own : List ℕ) (certificate : Contents) (before same : X) →
+    FirstBytes ROM_READ_LEN rom bytes → OfBytes text (λ lines. IsAccepted bytes lines certificate) → own ≡ bytes → before ≡ same → PlaysFrom (board_of own certificate) (state before) →
+    OnAccepted rom text (λ b c. PlaysFrom (board_of b c) (state same))
+on_played {X} rom text state PlaysFrom bytes own certificate before same first accepted is kept plays =
+    on_accepted rom text bytes certificate (λ b c. PlaysFrom (board_of b c) (state same)) first accepted
+    (subst (λ (x : X). PlaysFrom (board_of bytes certificate) (state x)) kept (subst (λ (b : List ℕ). PlaysFrom (board_of b certificate) (state before)) is plays))
 
-pub tells_bad_input : {X : Type 0} (Writes : DeviceState → List ℕ → DeviceState → Type 0) (state : X → DeviceState) (steps : ℕ) (rom text input : Option (List ℕ)) (new : DeviceState) (bytes : List ℕ) (certificate : Contents) (before same : X) →
-    FirstBytes ROM_READ_LEN rom bytes → OfBytes text (λ lines. IsAccepted bytes lines certificate) → before ≡ same → PlaysToBadLine Writes steps input (state before) new → TellsBadInput Writes steps rom text input (state same) new
-tells_bad_input {X} Writes state steps rom text input new bytes certificate before same first accepted kept plays =
-    on_accepted rom text bytes certificate (λ _ _. PlaysToBadLine Writes steps input (state same) new) first accepted
-    (subst (λ (x : X). PlaysToBadLine Writes steps input (state x) new) kept plays)
+pub tells_run : {X : Type 0} (Writes : DeviceState → List ℕ → DeviceState → Type 0) (state : X → DeviceState) (steps : ℕ) (rom text input : Option (List ℕ)) (new : DeviceState) (bytes own : List ℕ) (certificate : Contents) (before same : X) →
+    FirstBytes ROM_READ_LEN rom bytes → OfBytes text (λ lines. IsAccepted bytes lines certificate) → own ≡ bytes → before ≡ same → PlaysTo Writes (board_of own certificate) steps input (state before) new →
+    TellsRun Writes steps rom text input (state same) new
+tells_run Writes state steps rom text input new = on_played rom text state (λ hardware old. PlaysTo Writes hardware steps input old new)
+
+pub tells_bad_input : {X : Type 0} (Writes : DeviceState → List ℕ → DeviceState → Type 0) (state : X → DeviceState) (steps : ℕ) (rom text input : Option (List ℕ)) (new : DeviceState) (bytes own : List ℕ) (certificate : Contents) (before same : X) →
+    FirstBytes ROM_READ_LEN rom bytes → OfBytes text (λ lines. IsAccepted bytes lines certificate) → own ≡ bytes → before ≡ same → PlaysToBadLine Writes (board_of own certificate) steps input (state before) new →
+    TellsBadInput Writes steps rom text input (state same) new
+tells_bad_input Writes state steps rom text input new = on_played rom text state (λ hardware old. PlaysToBadLine Writes hardware steps input old new)
+
+pub tells_part : {X : Type 0} (Writes : DeviceState → List ℕ → DeviceState → Type 0) (state : X → DeviceState) (steps : ℕ) (rom text input : Option (List ℕ)) (new : DeviceState) (bytes own : List ℕ) (certificate : Contents) (before same : X) →
+    FirstBytes ROM_READ_LEN rom bytes → OfBytes text (λ lines. IsAccepted bytes lines certificate) → own ≡ bytes → before ≡ same → PlaysPart Writes (board_of own certificate) steps input (state before) new →
+    TellsPart Writes steps rom text input (state same) new
+tells_part Writes state steps rom text input new = on_played rom text state (λ hardware old. PlaysPart Writes hardware steps input old new)

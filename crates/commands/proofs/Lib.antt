@@ -1,2 +1,2 @@
 mod FileLemmas
-mod TextLemmas
+mod RunLemmas

@@ -1,15 +1,13 @@
 -- When a certificate's text is accepted for a ROM, and what is printed of both (docs/PROGRAM.md).
 use Rattle.std.specs.Prelude.{ℕ, ◌≡◌, ◌⊎◌, List, Option, take, codes}
 use Rattle.board_step.specs.Safe.{Safe}
-use Rattle.cert_checker.specs.Accepts.{Accepts, Applies, NothingBefore}
-use Rattle.cert_checker.specs.Profile.{certified_profile, nmi_time}
-use Rattle.cert_checker.specs.declared.checking.Refused.{Refused}
+use Rattle.runner.specs.Certified.{Accepts, IsRefused, certified_profile, nmi_time}
 use Rattle.cert_order.specs.Contents.{Contents, IsInForm}
 use Rattle.cert_order.specs.Text.{HasTooMany, IsFirstBadLine, text_of}
 use Rattle.certificate.specs.Pieces.{OfBytes}
 use Rattle.texts.specs.Device.{DeviceState}
 use Rattle.commands.specs.Reading.{OfFiles, ROM_READ_LEN}
-use Rattle.commands.specs.Verdict.{accepted_text, bad_line_text, refused_text}
+use Rattle.verdicts.specs.Verdict.{Refused, accepted_text, bad_line_text, refused_text}
 
 -- the text of a certificate that is accepted for a ROM, and every run of the board on that ROM is safe
 pub record IsAccepted (rom text : List ℕ) (certificate : Contents) : Type 0 where
@@ -18,14 +16,13 @@ pub record IsAccepted (rom text : List ℕ) (certificate : Contents) : Type 0 wh
   pub accepts : Accepts rom certificate
   pub safe : Safe (certified_profile rom certificate) (nmi_time certificate)
 
--- the line of the first reason that applies to the certificate in this text
+-- the line of the first reason against the certificate in this text
 pub record PrintsRefused (rom text printed : List ℕ) : Type 0 where
   pub certificate : Contents
   pub in_form : IsInForm certificate
   pub text_is : text ≡ text_of certificate
   pub refused : Refused
-  pub applies : Applies rom certificate refused.row refused.address refused.reason
-  pub first : NothingBefore rom certificate refused.row refused.reason
+  pub is_refused : IsRefused rom certificate refused.row refused.address refused.reason
   pub printed_is : printed ≡ refused_text refused
 
 -- the first line with which this text begins no certificate

@@ -4,4 +4,3 @@ pub mod Reading
 pub mod Running
 pub mod Status
 pub mod Steps
-pub mod Verdict

@@ -6,11 +6,11 @@ ghost use Rattle.commands.specs.Judging.{IsAccepted, WritesRefusalOf};
 ghost use Rattle.texts.specs.Device.{FailsAmid, HasFailed, IsQuiet, Takes};
 
 use crate::stop::Stop;
-use crate::verdict::{bad_line, refused_line};
-use cert_checker::{Accepted, CheckFault, check};
 use certificate::{ReadFault, read_from};
+use runner::cert_checker::{Accepted, CheckFault, check};
 use std::alloc::Global;
 use texts::{Sink, Source, put};
+use verdicts::{bad_line, refused_line};
 
 /// Reads a certificate, and checks it for a ROM. Where it is not accepted, the line that says why is written.
 pub fn judge<'r, B: Source, W: Sink>(
@@ -41,7 +41,7 @@ pub fn judge<'r, B: Source, W: Sink>(
         Err(ReadFault::NoMemory) => return Err(Stop::OutOfMemory),
         Err(ReadFault::Read) => return Err(Stop::Device),
     };
-    match check(rom, certificate) {
+    match check(alloc, rom, certificate) {
         Ok(accepted) => Ok(accepted),
         Err(CheckFault::Refused(refused)) => {
             put(out, refused_line(&refused).bytes())?;

@@ -1,5 +1,4 @@
-// The commands of the program over devices (docs/PROGRAM.md), the lines of a verdict, and the devices that stand for
-// files and standard output.
+// The commands of the program over devices (docs/PROGRAM.md), and the devices that stand for files and standard output.
 #![tactic(auto)]
 
 mod files;
@@ -8,7 +7,6 @@ mod reading;
 mod running;
 mod steps;
 mod stop;
-mod verdict;
 mod verifying;
 
 pub use files::{FileSource, WriterSink};

@@ -1,24 +1,24 @@
 // `galcert run`.
 
 ghost use Rattle.std.specs.Prelude.{◌≡◌, ◌≢◌, ◌⊎◌, OnOk};
-ghost use Rattle.cert_checker.specs.Certified.{hardware_on};
+ghost use Rattle.runner.specs.Certified.{hardware_on};
 ghost use Rattle.commands.specs.Judging.{HoldAccepted, TellsRefusal};
 ghost use Rattle.commands.specs.Reading.{GivesUpTo};
-ghost use Rattle.commands.specs.Running.{PlaysTo, PlaysToBadLine, TellsBadInput, TellsRun};
+ghost use Rattle.commands.specs.Running.{PlaysPart, PlaysTo, PlaysToBadLine, TellsBadInput, TellsPart, TellsRun};
 ghost use Rattle.commands.specs.Status.{IsStatus};
 ghost use Rattle.texts.specs.Device.{FailsAmid, HasFailed, IsQuiet, Takes};
 
 use crate::judging::judge;
 use crate::reading::read_rom;
 use crate::stop::{DONE, Stop};
-use crate::verdict::bad_line;
-use cert_checker::Accepted;
+use runner::cert_checker::Accepted;
 use runner::{PlayFault, play};
 use std::alloc::Global;
 use texts::{Sink, Source, put};
+use verdicts::bad_line;
 
 /// `galcert run ROM CERT INPUT STEPS`: checks a certificate for a ROM, and writes the refusal, or plays the input
-/// for at most this many events, and writes the run's lines (docs/PROGRAM.md). The ROM is read first, up to its
+/// for at most this many events, and writes the run's lines as they come (docs/PROGRAM.md). The ROM is read first, up to its
 /// 16,385th byte, then the certificate; the input is read only where the certificate is accepted.
 ///
 /// Gives the exit status: 0 run, 1 refused or a bad line of the input, 3 a device failed, 4 memory ran out. What
@@ -36,14 +36,14 @@ pub fn run_on<A: Source, B: Source, C: Source, W: Sink>(
     ensures run { result ≡ 0 → TellsRun Takes steps (A.state rom.old).bytes (B.state cert.old).bytes (C.state input.old).bytes (W.state out.old) (W.state out.new) }
     ensures refused { result ≡ 1 → (TellsRefusal Takes (A.state rom.old).bytes (B.state cert.old).bytes (W.state out.old) (W.state out.new) × (input.new ≡ input.old)) ⊎ TellsBadInput Takes steps (A.state rom.old).bytes (B.state cert.old).bytes (C.state input.old).bytes (W.state out.old) (W.state out.new) }
     ensures device { result ≡ 3 → HasFailed (A.state rom.old) (A.state rom.new) ⊎ (HasFailed (B.state cert.old) (B.state cert.new) ⊎ (HasFailed (C.state input.old) (C.state input.new) ⊎ HasFailed (W.state out.old) (W.state out.new))) }
-    ensures part { result ≡ 3 → (out.new ≡ out.old) ⊎ (TellsRefusal FailsAmid (A.state rom.old).bytes (B.state cert.old).bytes (W.state out.old) (W.state out.new) ⊎ (TellsRun FailsAmid steps (A.state rom.old).bytes (B.state cert.old).bytes (C.state input.old).bytes (W.state out.old) (W.state out.new) ⊎ TellsBadInput FailsAmid steps (A.state rom.old).bytes (B.state cert.old).bytes (C.state input.old).bytes (W.state out.old) (W.state out.new))) }
+    ensures part { result ≡ 3 → (out.new ≡ out.old) ⊎ (TellsRefusal FailsAmid (A.state rom.old).bytes (B.state cert.old).bytes (W.state out.old) (W.state out.new) ⊎ (TellsPart Takes steps (A.state rom.old).bytes (B.state cert.old).bytes (C.state input.old).bytes (W.state out.old) (W.state out.new) ⊎ (TellsPart FailsAmid steps (A.state rom.old).bytes (B.state cert.old).bytes (C.state input.old).bytes (W.state out.old) (W.state out.new) ⊎ (TellsRun FailsAmid steps (A.state rom.old).bytes (B.state cert.old).bytes (C.state input.old).bytes (W.state out.old) (W.state out.new) ⊎ TellsBadInput FailsAmid steps (A.state rom.old).bytes (B.state cert.old).bytes (C.state input.old).bytes (W.state out.old) (W.state out.new))))) }
     ensures told { result ≢ 3 → IsQuiet (A.state rom.old) (A.state rom.new) × IsQuiet (B.state cert.old) (B.state cert.new) × IsQuiet (C.state input.old) (C.state input.new) × IsQuiet (W.state out.old) (W.state out.new) }
     ensures memory { result ≡ 4 → (input.new ≡ input.old) × (out.new ≡ out.old) }
     // The order of the devices: behind one that failed none is asked, and the input only of an accepted ROM.
     ensures rom_first { IsQuiet (A.state rom.old) (A.state rom.new) ⊎ ((cert.new ≡ cert.old) × (input.new ≡ input.old) × (out.new ≡ out.old)) }
     ensures cert_next { IsQuiet (B.state cert.old) (B.state cert.new) ⊎ ((input.new ≡ input.old) × (out.new ≡ out.old)) }
     ensures input_next { HoldAccepted (A.state rom.old).bytes (B.state cert.old).bytes ⊎ (input.new ≡ input.old) }
-    ensures out_last { IsQuiet (C.state input.old) (C.state input.new) ⊎ (out.new ≡ out.old) }
+    ensures out_last { IsQuiet (C.state input.old) (C.state input.new) ⊎ TellsPart Takes steps (A.state rom.old).bytes (B.state cert.old).bytes (C.state input.old).bytes (W.state out.old) (W.state out.new) }
     ensures rom_limit { HasFailed (A.state rom.old) (A.state rom.new) ⊎ GivesUpTo 16385 (A.state rom.old) (A.state rom.new) }
 {
     let bytes = match read_rom(alloc, rom) {
@@ -60,7 +60,7 @@ pub fn run_on<A: Source, B: Source, C: Source, W: Sink>(
     }
 }
 
-/// Plays an input on an accepted ROM, and writes the run's lines or the bad line.
+/// Plays an input on an accepted ROM, and writes the run's lines, and the bad line if there is one.
 fn play_on<C: Source, W: Sink>(
     accepted: &Accepted,
     input: &mut C,
@@ -68,11 +68,11 @@ fn play_on<C: Source, W: Sink>(
     out: &mut W,
 ) -> Result<(), Stop>
     ensures run { OnOk result (PlaysTo Takes (hardware_on accepted.now) steps (C.state input.old).bytes (W.state out.old) (W.state out.new)) }
-    ensures bad { result ≡ Err Stop.Refused → PlaysToBadLine Takes steps (C.state input.old).bytes (W.state out.old) (W.state out.new) }
+    ensures bad { result ≡ Err Stop.Refused → PlaysToBadLine Takes (hardware_on accepted.now) steps (C.state input.old).bytes (W.state out.old) (W.state out.new) }
     ensures device { result ≡ Err Stop.Device → HasFailed (C.state input.old) (C.state input.new) ⊎ HasFailed (W.state out.old) (W.state out.new) }
-    ensures part { result ≡ Err Stop.Device → (out.new ≡ out.old) ⊎ (PlaysTo FailsAmid (hardware_on accepted.now) steps (C.state input.old).bytes (W.state out.old) (W.state out.new) ⊎ PlaysToBadLine FailsAmid steps (C.state input.old).bytes (W.state out.old) (W.state out.new)) }
+    ensures part { result ≡ Err Stop.Device → PlaysPart Takes (hardware_on accepted.now) steps (C.state input.old).bytes (W.state out.old) (W.state out.new) ⊎ (PlaysPart FailsAmid (hardware_on accepted.now) steps (C.state input.old).bytes (W.state out.old) (W.state out.new) ⊎ (PlaysTo FailsAmid (hardware_on accepted.now) steps (C.state input.old).bytes (W.state out.old) (W.state out.new) ⊎ PlaysToBadLine FailsAmid (hardware_on accepted.now) steps (C.state input.old).bytes (W.state out.old) (W.state out.new))) }
     ensures told { result ≢ Err Stop.Device → IsQuiet (C.state input.old) (C.state input.new) × IsQuiet (W.state out.old) (W.state out.new) }
-    ensures untouched { IsQuiet (C.state input.old) (C.state input.new) ⊎ (out.new ≡ out.old) }
+    ensures last { IsQuiet (C.state input.old) (C.state input.new) ⊎ PlaysPart Takes (hardware_on accepted.now) steps (C.state input.old).bytes (W.state out.old) (W.state out.new) }
     ensures never { result ≢ Err Stop.OutOfMemory }
 {
     match play(accepted, steps, input, out) {
@@ -81,6 +81,7 @@ fn play_on<C: Source, W: Sink>(
             put(out, bad_line(b"bad input", line).bytes())?;
             Err(Stop::Refused)
         }
-        Err(PlayFault::Read | PlayFault::Write) => Err(Stop::Device),
+        Err(PlayFault::Read) => Err(Stop::Device),
+        Err(PlayFault::Write) => Err(Stop::Device),
     }
 }

@@ -9,9 +9,9 @@ ghost use Rattle.texts.specs.Device.{FailsAmid, HasFailed, IsQuiet, Takes};
 use crate::judging::judge;
 use crate::reading::read_rom;
 use crate::stop::{DONE, Stop};
-use crate::verdict::accepted_table;
 use std::alloc::Global;
-use texts::{DeviceFault, Sink, Source, put};
+use texts::{DeviceFault, Sink, Source};
+use verdicts::write_table;
 
 /// `galcert verify ROM CERT`: checks a certificate for a ROM, and writes the table or the refusal
 /// (docs/PROGRAM.md). The ROM is read first, up to its 16,385th byte, then the certificate; both are read before
@@ -46,7 +46,7 @@ pub fn verify_on<A: Source, B: Source, W: Sink>(
         Ok(accepted) => accepted,
         Err(stop) => return stop.status(),
     };
-    match put(out, accepted_table(accepted.certificate()).bytes()) {
+    match write_table(accepted.certificate(), out) {
         Ok(()) => DONE,
         Err(DeviceFault) => Stop::Device.status(),
     }

@@ -9,7 +9,7 @@ heads_same : (x y : ℕ) (xs ys : List ℕ) → x ∷ xs ≡ y ∷ ys → x ≡ 
 heads_same x y xs ys e = ap (λ (l : List ℕ). get_or l 0 0) e
 
 -- two texts without a line feed, each before the first line feed of the same bytes, are one
-first_feed : (a b x y : List ℕ) → HasNoFeed a → HasNoFeed b → a ++ 10 ∷ x ≡ b ++ 10 ∷ y → a ≡ b
+pub first_feed : (a b x y : List ℕ) → HasNoFeed a → HasNoFeed b → a ++ 10 ∷ x ≡ b ++ 10 ∷ y → a ≡ b
 first_feed [] [] x y none_a none_b e = refl
 first_feed [] (c ∷ b) x y none_a none_b e = absurd (none_b.0 (sym (heads_same 10 c x (b ++ 10 ∷ y) e)))
 first_feed (c ∷ a) [] x y none_a none_b e = absurd (none_a.0 (heads_same c 10 (a ++ 10 ∷ x) y e))

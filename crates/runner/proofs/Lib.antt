@@ -4,5 +4,7 @@ pub mod JudgedLemmas
 pub mod LeadsLemmas
 pub mod MachineLemmas
 pub mod OutputLemmas
+pub mod PlayerLemmas
 pub mod PlayLemmas
+pub mod BeginLemmas
 pub mod StopLemmas

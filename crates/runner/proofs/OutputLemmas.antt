@@ -1,31 +1,9 @@
 -- The lines of a summary, from the pieces that they are made of.
-use Rattle.std.proofs.Common.{◌≡◌, ◌∷◌, length, get_or, arith, ℕ, List, [], ◌++◌, codes, map, flat_map, refl, sym, ap, ◌∙◌, append_assoc, decimal}
-use Rattle.std.proofs.lemmas.List.{append-nil}
-use Rattle.std.specs.List.{join_with_byte}
+use Rattle.std.proofs.Common.{◌≡◌, ◌∷◌, length, get_or, arith, ℕ, List, [], ◌++◌, codes, map, refl, ap, decimal}
 use Rattle.texts.specs.Numbers.{hex4}
-use Rattle.runner.specs.Output.{done_line, line_of, regs_line, sum_line}
+use Rattle.run_lines.proofs.LineLemmas.{line_added}
+use Rattle.runner.specs.Output.{done_line, regs_line, sum_line}
 use Rattle.runner.specs.declared.machine.Summary.{Summary}
-
--- fields that were added one behind the other, each behind a space
-abbrev added : List ℕ → List (List ℕ) → List ℕ
-added text [] = text
-added text (field ∷ fields) = added (text ++ 32 ∷ field) fields
-
-abbrev spaced : List (List ℕ) → List ℕ
-spaced fields = flat_map (λ field. 32 ∷ field) fields
-
-added_is : (text : List ℕ) (fields : List (List ℕ)) → added text fields ≡ text ++ spaced fields
-added_is text [] = sym (append-nil text)
-added_is text (field ∷ fields) = added_is (text ++ 32 ∷ field) fields ∙ append_assoc text (32 ∷ field) (spaced fields)
-
-joined : (word : List ℕ) (fields : List (List ℕ)) → word ++ spaced fields ≡ join_with_byte 32 (word ∷ fields)
-joined word [] = append-nil word
-joined word (field ∷ fields) = ap (λ (rest : List ℕ). word ++ 32 ∷ rest) (joined field fields)
-
-line_added : (old word : List ℕ) (fields : List (List ℕ)) → added (old ++ word) fields ++ 10 ∷ [] ≡ old ++ line_of (word ∷ fields)
-line_added old word fields =
-    ap (λ (text : List ℕ). text ++ 10 ∷ []) (added_is (old ++ word) fields ∙ append_assoc old word (spaced fields) ∙ ap (λ (text : List ℕ). old ++ text) (joined word fields))
-    ∙ append_assoc old (join_with_byte 32 (word ∷ fields)) (10 ∷ [])
 
 pub done_whole : (old : List ℕ) (s : Summary) → (((((old ++ codes "done") ++ 32 ∷ decimal s.events) ++ 32 ∷ decimal s.time) ++ 32 ∷ hex4 s.pc) ++ 32 ∷ hex4 s.sp) ++ 10 ∷ [] ≡ old ++ done_line s
 unfolding done_line

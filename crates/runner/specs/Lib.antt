@@ -3,4 +3,7 @@ pub mod Input
 pub mod Leads
 pub mod Machine
 pub mod Output
+pub mod Player
 pub mod Playing
+-- passed on from below
+pub use Rattle.cert_checker.specs.Certified

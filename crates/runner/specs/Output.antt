@@ -1,13 +1,9 @@
 -- The text of a summary.
 use Rattle.std.specs.Prelude.{ℕ, List, [], ◌∷◌, ◌++◌, codes, map}
 use Rattle.std.specs.Fmt.{decimal}
-use Rattle.std.specs.List.{join_with_byte}
+use Rattle.run_lines.specs.Lines.{line_of}
 use Rattle.texts.specs.Numbers.{hex4}
 use Rattle.runner.specs.declared.machine.Summary.{Summary}
-
--- fields as a line: they are parted by single spaces, and a line feed stands behind them
-abbrev pub line_of : List (List ℕ) → List ℕ
-line_of fields = join_with_byte 32 fields ++ 10 ∷ []
 
 -- the lines of a summary (docs/PROGRAM.md, "A run's lines")
 unfoldable pub done_line : Summary → List ℕ

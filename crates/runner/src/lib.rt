@@ -6,8 +6,10 @@ mod fault;
 mod input;
 mod machine;
 mod output;
+mod player;
 mod playing;
 
+pub use cert_checker;
 pub use fault::PlayFault;
 pub use input::{EnvLine, ResetLine};
 pub use machine::{Machine, Summary};

@@ -1,11 +1,11 @@
 // The lines of a summary.
 
-ghost use Rattle.std.specs.Prelude.{◌≡◌, ◌≤◌, ◌+◌, ◌∷◌, ◌++◌, length, decimal};
+ghost use Rattle.std.specs.Prelude.{◌≡◌, ◌≤◌, ◌+◌, ◌++◌, length};
 ghost use Rattle.texts.specs.Made.{MADE_LEN};
-ghost use Rattle.texts.specs.Numbers.{hex4};
 ghost use Rattle.runner.specs.Output.{done_line, regs_line, sum_line, summary_text};
 
 use crate::machine::Summary;
+use run_lines::{add_decimal_field, add_hex4_field};
 use texts::MadeLine;
 
 /// The lines of a summary (docs/PROGRAM.md, "A run's lines").
@@ -62,24 +62,4 @@ fn add_sums(lines: &mut MadeLine, sums: &[u32; 3])
     add_decimal_field(lines, u128::from(video));
     add_decimal_field(lines, u128::from(object));
     lines.add_byte(b'\n');
-}
-
-/// Adds a space and a number in decimal.
-fn add_decimal_field(lines: &mut MadeLine, number: u128)
-    requires { length lines.old + 40 ≤ MADE_LEN }
-    ensures value { lines.new ≡ lines.old ++ 32 ∷ decimal number }
-    ensures grown { length lines.new ≤ length lines.old + 40 }
-{
-    lines.add_byte(b' ');
-    lines.add_decimal(number);
-}
-
-/// Adds a space and a word as four upper-case hexadecimal digits.
-fn add_hex4_field(lines: &mut MadeLine, word: u16)
-    requires { length lines.old + 5 ≤ MADE_LEN }
-    ensures value { lines.new ≡ lines.old ++ 32 ∷ hex4 word }
-    ensures grown { length lines.new ≤ length lines.old + 5 }
-{
-    lines.add_byte(b' ');
-    lines.add_hex4(word);
 }

@@ -1,34 +1,37 @@
 // Plays of an input's text.
 
-ghost use Rattle.std.specs.Prelude.{◌≡◌, ◌≢◌, IfErr};
+ghost use Rattle.std.specs.Prelude.{◌≢◌, ◌≡◌};
 ghost use Rattle.cert_checker.specs.Certified.{hardware_on};
 ghost use Rattle.runner.specs.Playing.{HasNoEnv, HasNoReset, Plays, PlaysInput, ReadsLine, TakesEnv, TakesReset};
 ghost use Rattle.texts.specs.Incoming.{EndsWell, left_of};
 
 use crate::fault::PlayFault;
 use crate::input::{EnvLine, LINE_LEN, ResetLine};
-use crate::machine::{Machine, Summary};
+use crate::machine::Summary;
 use crate::output::summary_lines;
+use crate::player::Player;
 use arrayvec::ArrayVec;
 use cert_checker::Accepted;
 use texts::{DeviceFault, Incoming, LineEnd, Sink, Source, put};
 
-/// Plays an input (docs/PROGRAM.md, "INPUT") on an accepted ROM for at most this many events, and writes its
-/// summary. A line of the input is read and judged only when its events are needed; the first line is always
-/// needed.
+/// Plays an input (docs/PROGRAM.md, "INPUT") on an accepted ROM for at most this many events, and writes the lines of its NMI
+/// routines as they come and its summary at the end ("A run's lines"). A line of the input is read and judged only when its events
+/// are needed; the first line is always needed.
 ///
-/// `Line` is the first needed line that is out of form, and nothing is written then. `Read` and `Write` come only
-/// where the device failed; what was written before a fault stays.
+/// # Errors
+///
+/// `Line` is the first needed line that is out of form, counted from 1; what is told of the events before it was written. `Read` and
+/// `Write` come only where the device failed; what was written before a fault begins the text of each input that begins with the bytes
+/// that were read.
 pub fn play<R: Source, W: Sink>(
     accepted: &Accepted,
     steps: u32,
     input: &mut R,
     out: &mut W,
 ) -> Result<Summary, PlayFault>
-    ensures plays { Plays (hardware_on accepted.now) steps (R.state input.old) (R.state input.new) result (W.state out.old) (W.state out.new) }
-    ensures untouched { IfErr result (λ fault. fault ≢ PlayFault.Write → out.new ≡ out.old) }
+    ensures { Plays (hardware_on accepted.now) steps (R.state input.old) (R.state input.new) result (W.state out.old) (W.state out.new) }
 {
-    let summary = match play_input(accepted, steps, input) {
+    let summary = match play_input(accepted, steps, input, out) {
         Ok(summary) => summary,
         Err(fault) => return Err(fault),
     };
@@ -38,30 +41,33 @@ pub fn play<R: Source, W: Sink>(
     }
 }
 
-/// Plays an input, and writes nothing.
-fn play_input<R: Source>(
+/// Plays an input, and writes what is told of its run, without the summary.
+fn play_input<R: Source, W: Sink>(
     accepted: &Accepted,
     steps: u32,
     input: &mut R,
+    out: &mut W,
 ) -> Result<Summary, PlayFault>
-    ensures { PlaysInput (hardware_on accepted.now) steps (R.state input.old) result (R.state input.new) }
+    ensures { PlaysInput (hardware_on accepted.now) steps (R.state input.old) (R.state input.new) result (W.state out.old) (W.state out.new) }
 {
     let mut incoming = Incoming::new();
     let reset = first_line(&mut incoming, input)?;
-    let mut machine = Machine::reset(accepted, &reset.reset());
+    let mut player = Player::reset(accepted, &reset.reset());
+    player.machine.never_nests();
     let mut left = steps;
     let mut number = 1;
-    let mut time = 0;
     while left > 0 {
         number += 1;
         let Some(line) = next_env(&mut incoming, number, input)? else {
-            return Ok(machine.summary(u64::from(steps - left), time));
+            return Ok(player.summary());
         };
         let count = line.count.min(left);
-        time += machine.repeat(&line.env(), count);
-        left -= count;
+        match player.play_events(&line.env(), count, out) {
+            Ok(()) => left -= count,
+            Err(DeviceFault) => return Err(PlayFault::Write),
+        }
     }
-    Ok(machine.summary(u64::from(steps), time))
+    Ok(player.summary())
 }
 
 /// The first line of an input.

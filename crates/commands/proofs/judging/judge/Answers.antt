@@ -5,11 +5,11 @@ use Rattle.commands.proofs.judging.judge.Goals as goal
 
 pub returns-in-Err-Line-clause-refused : goal.returns-in-Err-Line-clause-refused
 returns-in-Err-Line-clause-refused g c = λ _.
-    bad_line_of Takes _ _ _ _ c.in-Err-Line.line _ (c.in-Err-Line.ensures.line _ (cc)) (c.bytes.ensures.value ∙ c.bad_line.ensures) c.in_ok-put-in-Err-Line.ensures
+    bad_line_of Takes _ _ _ _ c.in-Err-Line.line _ (c.in-Err-Line.ensures.line _ (cc)) (cc) c.in_ok-put-in-Err-Line.ensures
 
 pub returns-in_err-put-in-Err-Line-clause-part : goal.returns-in_err-put-in-Err-Line-clause-part
 returns-in_err-put-in-Err-Line-clause-part g c = λ _. inr (
-    bad_line_of FailsAmid _ _ _ _ c.in-Err-Line.line _ (c.in-Err-Line.ensures.line _ (cc)) (c.bytes.ensures.value ∙ c.bad_line.ensures) c.in_err-put-in-Err-Line.ensures
+    bad_line_of FailsAmid _ _ _ _ c.in-Err-Line.line _ (c.in-Err-Line.ensures.line _ (cc)) (cc) c.in_err-put-in-Err-Line.ensures
     )
 
 pub returns-in-Err-Limit-clause-refused : goal.returns-in-Err-Limit-clause-refused
@@ -20,15 +20,15 @@ returns-in_err-put-in-Err-Limit-clause-part g c = λ _. inr (limit_of FailsAmid 
 
 pub returns-in_ok-put-in-Err-Refused-clause-refused : goal.returns-in_ok-put-in-Err-Refused-clause-refused
 returns-in_ok-put-in-Err-Refused-clause-refused g c = λ _.
-    refused_of Takes _ _ _ _ _ c.in-Err-Refused.field-0 c.in-Err-Refused.refused _ c.in-Ok.ensures.form (all_given _ _ _ c.in-Ok.ensures.found) (cc) c.in-Err-Refused.ensures.refused (c.bytes-in-Err-Refused.ensures.value ∙ c.refused_line.ensures) c.in_ok-put-in-Err-Refused.ensures
+    refused_of Takes _ _ _ _ _ c.in-Err-Refused.refused _ c.in-Ok.ensures.form (all_given _ _ _ c.in-Ok.ensures.found) (c.in-Err-Refused.ensures.refused _ (cc)) (c.bytes-in-Err-Refused.ensures.value ∙ c.refused_line.ensures) c.in_ok-put-in-Err-Refused.ensures
 
 pub returns-in_err-put-in-Err-Refused-clause-part : goal.returns-in_err-put-in-Err-Refused-clause-part
 returns-in_err-put-in-Err-Refused-clause-part g c = λ _. inr (
-    refused_of FailsAmid _ _ _ _ _ c.in-Err-Refused.field-0 c.in-Err-Refused.refused _ c.in-Ok.ensures.form (all_given _ _ _ c.in-Ok.ensures.found) (cc) c.in-Err-Refused.ensures.refused (c.bytes-in-Err-Refused.ensures.value ∙ c.refused_line.ensures) c.in_err-put-in-Err-Refused.ensures
+    refused_of FailsAmid _ _ _ _ _ c.in-Err-Refused.refused _ c.in-Ok.ensures.form (all_given _ _ _ c.in-Ok.ensures.found) (c.in-Err-Refused.ensures.refused _ (cc)) (c.bytes-in-Err-Refused.ensures.value ∙ c.refused_line.ensures) c.in_err-put-in-Err-Refused.ensures
     )
 
 pub returns-in-Ok-check-clause-accepted : goal.returns-in-Ok-check-clause-accepted
 returns-in-Ok-check-clause-accepted g c = (
   c.in-Ok-check.ensures.kept.0,
-  accepted_of _ _ _ _ c.in-Ok-check.ensures.kept.1 c.in-Ok.ensures.form (all_given _ _ _ c.in-Ok.ensures.found) (c.in-Ok-check.ensures.exact.0 refl) c.in-Ok-check.ensures.safe,
+  accepted_of _ _ _ _ c.in-Ok-check.ensures.kept.1 c.in-Ok.ensures.form (all_given _ _ _ c.in-Ok.ensures.found) c.in-Ok-check.ensures.only c.in-Ok-check.ensures.safe,
 )

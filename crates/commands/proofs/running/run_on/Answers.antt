@@ -1,6 +1,6 @@
-use Rattle.std.proofs.Common.{inl, inr, refl, subst, ◌∙◌}
+use Rattle.std.proofs.Common.{inl, inr, refl, subst}
 use Rattle.texts.specs.Device.{FailsAmid, HasFailed, Takes}
-use Rattle.commands.proofs.FileLemmas.{hold_accepted, tells_bad_input, tells_refusal, tells_run, lent_first}
+use Rattle.commands.proofs.FileLemmas.{hold_accepted, tells_bad_input, tells_part, tells_refusal, tells_run, lent_first}
 use Rattle.commands.proofs.running.run_on.Goals as goal
 
 pub returns-in-Err-judge-clause-refused : goal.returns-in-Err-judge-clause-refused
@@ -21,13 +21,21 @@ returns-in-Ok-play_on-clause-input_next g c =
 
 pub returns-clause-refused : goal.returns-clause-refused
 returns-clause-refused g c = λ e. inr (
-    tells_bad_input Takes g.W.Sink.state _ _ _ _ _ _ _ _ _ (lent_first _ _ _ c.as_slice.ensures.value c.in-Ok.ensures.first)
-    c.in-Ok-judge.ensures.accepted.1 c.in-Ok-judge.ensures.kept (c.in-Err-play_on.ensures.bad (cc (c.status-in-Err-play_on.ensures.refused e)))
+    tells_bad_input Takes g.W.Sink.state _ _ _ _ _ _ _ _ _ _ (lent_first _ _ _ c.as_slice.ensures.value c.in-Ok.ensures.first)
+    c.in-Ok-judge.ensures.accepted.1 c.in-Ok-judge.ensures.accepted.0 c.in-Ok-judge.ensures.kept
+    (c.in-Err-play_on.ensures.bad (cc (c.status-in-Err-play_on.ensures.refused e)))
     )
 
 pub returns-clause-input_next : goal.returns-clause-input_next
 returns-clause-input_next g c =
     inl (hold_accepted _ _ _ _ (lent_first _ _ _ c.as_slice.ensures.value c.in-Ok.ensures.first) c.in-Ok-judge.ensures.accepted.1)
+
+pub returns-clause-out_last : goal.returns-clause-out_last
+returns-clause-out_last g c = elim c.play_on.ensures.last [
+  | inl quiet ↦ inl quiet
+  | inr part ↦ inr (tells_part Takes g.W.Sink.state _ _ _ _ _ _ _ _ _ _ (lent_first _ _ _ c.as_slice.ensures.value c.in-Ok.ensures.first)
+      c.in-Ok-judge.ensures.accepted.1 c.in-Ok-judge.ensures.accepted.0 c.in-Ok-judge.ensures.kept part)
+]
 
 pub returns-in-Err-judge-clause-part : goal.returns-in-Err-judge-clause-part
 returns-in-Err-judge-clause-part g c = λ e. elim (c.in-Err-judge.ensures.part (cc (c.status-in-Err-judge.ensures.device e))) [
@@ -43,15 +51,16 @@ returns-clause-device g c = λ e. elim (c.in-Err-play_on.ensures.device (cc (c.s
 
 pub returns-clause-part : goal.returns-clause-part
 returns-clause-part g c = λ e. elim (c.in-Err-play_on.ensures.part (cc (c.status-in-Err-play_on.ensures.device e))) [
-  | inl same ↦ inl (same ∙ c.in-Ok-judge.ensures.kept)
+  | inl part ↦ inr (inr (inl (tells_part Takes g.W.Sink.state _ _ _ _ _ _ _ _ _ _ (lent_first _ _ _ c.as_slice.ensures.value c.in-Ok.ensures.first)
+      c.in-Ok-judge.ensures.accepted.1 c.in-Ok-judge.ensures.accepted.0 c.in-Ok-judge.ensures.kept part)))
   | inr amid ↦ elim amid [
-    | inl plays ↦ inr (inr (inl (
-        tells_run FailsAmid g.W.Sink.state _ _ _ _ _ _ _ _ _ _ (lent_first _ _ _ c.as_slice.ensures.value c.in-Ok.ensures.first)
-        c.in-Ok-judge.ensures.accepted.1 c.in-Ok-judge.ensures.accepted.0 c.in-Ok-judge.ensures.kept plays
-        )))
-    | inr bad ↦ inr (inr (inr (
-        tells_bad_input FailsAmid g.W.Sink.state _ _ _ _ _ _ _ _ _ (lent_first _ _ _ c.as_slice.ensures.value c.in-Ok.ensures.first)
-        c.in-Ok-judge.ensures.accepted.1 c.in-Ok-judge.ensures.kept bad
-        )))
+    | inl part ↦ inr (inr (inr (inl (tells_part FailsAmid g.W.Sink.state _ _ _ _ _ _ _ _ _ _ (lent_first _ _ _ c.as_slice.ensures.value c.in-Ok.ensures.first)
+        c.in-Ok-judge.ensures.accepted.1 c.in-Ok-judge.ensures.accepted.0 c.in-Ok-judge.ensures.kept part))))
+    | inr ends ↦ elim ends [
+      | inl plays ↦ inr (inr (inr (inr (inl (tells_run FailsAmid g.W.Sink.state _ _ _ _ _ _ _ _ _ _ (lent_first _ _ _ c.as_slice.ensures.value c.in-Ok.ensures.first)
+          c.in-Ok-judge.ensures.accepted.1 c.in-Ok-judge.ensures.accepted.0 c.in-Ok-judge.ensures.kept plays)))))
+      | inr bad ↦ inr (inr (inr (inr (inr (tells_bad_input FailsAmid g.W.Sink.state _ _ _ _ _ _ _ _ _ _ (lent_first _ _ _ c.as_slice.ensures.value c.in-Ok.ensures.first)
+          c.in-Ok-judge.ensures.accepted.1 c.in-Ok-judge.ensures.accepted.0 c.in-Ok-judge.ensures.kept bad)))))
+    ]
   ]
 ]

@@ -1,0 +1,38 @@
+// Memory that is refused once, at each of the growths in turn (`rt try --test --fail-alloc N`): the command has status 4 and writes
+// nothing, and the next one goes as if nothing had been.
+
+use crate::calls::{SAVE, SAVE_CERTIFICATE, SAVE_TABLE};
+use crate::commands_over::{Outcome, run_whole, verify_whole};
+use crate::samples::{JUMP, JUMP_CERTIFICATE, THREE};
+
+/// Whether a command ended for want of memory and wrote nothing; with status 3 it was the sink of this test that wanted memory.
+fn wants_memory(after: &Outcome) -> bool {
+    after.is(4, "") || after.status == 3
+}
+
+#[test]
+fn verify_again(rt: HostRuntime) {
+    let mut refused = 0u8;
+    for _ in 0..3 {
+        let after = verify_whole(rt.alloc(), SAVE, SAVE_CERTIFICATE);
+        if !after.is(0, SAVE_TABLE) {
+            assert!(rt; wants_memory(&after));
+            refused = refused.wrapping_add(1);
+        }
+    }
+    assert!(rt; refused <= 1);
+}
+
+#[test]
+fn run_again(rt: HostRuntime) {
+    let input = "reset 0 00\n3 00 00 00 00 00 00 0\n";
+    let mut refused = 0u8;
+    for _ in 0..3 {
+        let after = run_whole(rt.alloc(), JUMP, JUMP_CERTIFICATE, input, 3);
+        if !after.is(0, THREE) {
+            assert!(rt; wants_memory(&after));
+            refused = refused.wrapping_add(1);
+        }
+    }
+    assert!(rt; refused <= 1);
+}

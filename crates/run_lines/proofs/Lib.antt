@@ -1,0 +1,4 @@
+pub mod DeviceLemmas
+pub mod LineLemmas
+pub mod ToldLemmas
+pub mod FollowLemmas

@@ -1,0 +1,46 @@
+// The lines of an NMI routine.
+
+ghost use Rattle.std.specs.Prelude.{◌≡◌};
+ghost use Rattle.run_lines.specs.Follows.{line_of_note};
+ghost use Rattle.run_lines.specs.Lines.{begin_line, end_line};
+ghost use Rattle.texts.specs.Device.{Puts};
+
+use crate::fields::{add_decimal_field, add_hex4_field};
+use crate::teller::Note;
+use texts::{DeviceFault, MadeLine, Sink, put};
+
+/// Writes the line of an event, if it has one: the event of this number, from 0, at this address.
+pub fn put_note<W: Sink>(out: &mut W, number: u64, at: u16, note: Note) -> Result<(), DeviceFault>
+    ensures { Puts (W.state out.old) (line_of_note number at note) result (W.state out.new) }
+{
+    match note {
+        Note::Nothing => Ok(()),
+        Note::Begins => put(out, begin_line(number, at).bytes()),
+        Note::Ends(spent) => put(out, end_line(number, spent).bytes()),
+    }
+}
+
+/// The line of an acceptance: the number of its event, from 0, and the address that it interrupted.
+pub fn begin_line(number: u64, at: u16) -> MadeLine
+    ensures { result ≡ begin_line number at }
+{
+    let mut line = MadeLine::new();
+    line.add(b"nmi");
+    add_decimal_field(&mut line, u128::from(number));
+    add_hex4_field(&mut line, at);
+    line.add_byte(b'\n');
+    line
+}
+
+/// The line of an NMI routine's end: the number of the event that ends it, from 0, and the T-states from its acceptance on, both
+/// events included.
+pub fn end_line(number: u64, spent: u128) -> MadeLine
+    ensures { result ≡ end_line number spent }
+{
+    let mut line = MadeLine::new();
+    line.add(b"end");
+    add_decimal_field(&mut line, u128::from(number));
+    add_decimal_field(&mut line, spent);
+    line.add_byte(b'\n');
+    line
+}

@@ -1,0 +1,141 @@
+// Which event of a run has a line.
+
+ghost use Rattle.std.specs.Prelude.{◌≡◌, ◌≢◌, ◌<◌, ◌+◌, ◌-◌, ◌++◌, ◌^◌, ℕ, List, Bool};
+ghost use Rattle.board_step.specs.Hardware.{Hardware};
+ghost use Rattle.board_step.specs.Known.{IsKnown, IsKnownAt};
+ghost use Rattle.board_step.specs.Run.{is_return};
+ghost use Rattle.board_step.specs.State.{State};
+ghost use Rattle.board_step.specs.Step.{Step};
+ghost use Rattle.board_step.specs.declared.env.Env.{Env};
+ghost use Rattle.board_step.specs.declared.event.Kind.{Kind as Kinds};
+ghost use Rattle.run_lines.specs.Follows.{Follows, SaysReturned};
+ghost use Rattle.run_lines.specs.declared.teller.Moment.{Moment as Moments};
+ghost use Rattle.t_states.specs.Costs.{cost_of};
+
+use board_step::{Event, Kind, Known};
+use z80_decode::Instr;
+
+/// A moment of a run, before an event or after it.
+#[derive(Clone, Copy)]
+pub struct Moment {
+    /// The stack pointer.
+    pub sp: u16,
+    /// The T-states of the run so far.
+    pub time: u128,
+}
+
+/// What is told of an event.
+#[derive(Clone, Copy)]
+pub enum Note {
+    Nothing,
+    /// It began an NMI routine: it accepted the NMI.
+    Begins,
+    /// It ended the NMI routine that ran, which took this many T-states.
+    Ends(u128),
+}
+
+/// Follows a run event by event, and knows which of them have a line.
+#[derive(Clone, Copy)]
+pub struct Teller {
+    /// The number of events so far.
+    pub events: u64,
+    /// Their T-states.
+    pub time: u128,
+    /// The moment before the acceptance of the NMI routine that runs, if one does.
+    pub running: Option<Moment>,
+}
+
+impl Teller {
+    /// At the beginning of a run.
+    pub fn new() -> Teller
+        ensures { result ≡ record { events = 0; time = 0; running = None } }
+    {
+        Teller {
+            events: 0,
+            time: 0,
+            running: None,
+        }
+    }
+
+    /// Follows the run over an event, from one stack pointer to another, and gives what is told of it. `returned` says whether it is an
+    /// instruction that returned.
+    pub fn follow(&mut self, event: &Event, before: u16, after: u16, returned: bool) -> Note
+        requires events { self.old.events < 2 ^ 64 - 1 }
+        requires time { self.old.time < 2 ^ 127 }
+        ensures events { self.new.events ≡ self.old.events + 1 }
+        ensures time { self.new.time ≡ self.old.time + event.now.t }
+        ensures note { Follows self.old.running event.now.kind (record { sp = before; time = self.old.time }) (record { sp = after; time = self.new.time }) returned result self.new.running }
+    {
+        let before = Moment {
+            sp: before,
+            time: self.time,
+        };
+        self.events += 1;
+        self.time += u128::from(event.t);
+        let after = Moment {
+            sp: after,
+            time: self.time,
+        };
+        next_note(&mut self.running, event.kind, before, after, returned)
+    }
+}
+
+/// What is told of an event between two moments, and the routine that runs behind it.
+fn next_note(
+    running: &mut Option<Moment>,
+    kind: Kind,
+    before: Moment,
+    after: Moment,
+    returned: bool,
+) -> Note
+    ensures { Follows running.old kind before after returned result running.new }
+{
+    match kind {
+        Kind::Accept => {
+            *running = Some(before);
+            Note::Begins
+        }
+        _ => end_note(running, after, returned),
+    }
+}
+
+/// What is told of any other event than an acceptance.
+fn end_note(running: &mut Option<Moment>, after: Moment, returned: bool) -> Note
+    ensures { (kind : Kinds) (before : Moments) → kind ≢ Kind.Accept → Follows running.old kind before after returned result running.new }
+{
+    match *running {
+        Some(began) if returned && after.sp == began.sp => {
+            *running = None;
+            Note::Ends(after.time.saturating_sub(began.time))
+        }
+        _ => Note::Nothing,
+    }
+}
+
+/// Whether an event is an instruction that returned, where this is known of the instruction.
+pub fn has_returned(known: Option<Known>, event: &Event) -> bool
+    ensures { (hardware : Hardware) (s new : State) (env : Env) → IsKnown hardware.rom s known → Step hardware s env event.now new → SaysReturned hardware s env result }
+{
+    match known {
+        Some(known) => returned_after(&known, event.t),
+        None => false,
+    }
+}
+
+/// Whether an instruction that took this many T-states returned.
+fn returned_after(known: &Known, t: u8) -> bool
+    ensures { (rom : List ℕ) (at : ℕ) (taken : Bool) → IsKnownAt rom at known.now → t ≡ cost_of known.now.instr taken → result ≡ is_return known.now.instr taken }
+{
+    is_return(&known.instr, t == known.costs.taken)
+}
+
+/// Whether an instruction that is taken or not returns.
+fn is_return(instr: &Instr, taken: bool) -> bool
+    ensures { result ≡ is_return instr.now taken }
+{
+    match instr {
+        Instr::Return | Instr::ReturnFromInterrupt | Instr::ReturnFromNonMaskable => true,
+        Instr::ReturnIf(_) => taken,
+        _ => false,
+    }
+}
