@@ -1,0 +1,21 @@
+// Why an analysis ends early.
+
+use std::alloc::AllocFailed;
+use thiserror::Error;
+
+/// Why an analysis ends early.
+#[derive(Clone, Copy, Debug, Error, PartialEq, Eq)]
+pub enum FlowFault {
+    /// There are more rows or more procedures than a certificate has.
+    #[error("a certificate has no room for it")]
+    Limit,
+    /// Memory was refused.
+    #[error("out of memory")]
+    NoMemory,
+}
+
+impl<T: Drop> From<AllocFailed<T>> for FlowFault {
+    fn from(_failed: AllocFailed<T>) -> FlowFault {
+        FlowFault::NoMemory
+    }
+}

@@ -1,0 +1,87 @@
+// The numbers of procedures in a certificate.
+
+use crate::fault::WriterFault;
+use analysis::{Flow, MAIN, NMI};
+use call_graph::ProcId;
+use certificate::{Proc, ProcKind};
+use std::alloc::Global;
+
+/// The procedures that a certificate has: main, the NMI routine if there is one, and those that are called, by rising entry.
+#[derive(Drop)]
+pub(crate) struct Layout {
+    routine: bool,
+    entries: Vec<u16>,
+}
+
+impl Layout {
+    /// The procedures that an analysis found.
+    pub(crate) fn of(alloc: Global, flow: &Flow, routine: bool) -> Result<Layout, WriterFault> {
+        let mut entries = Vec::new(alloc);
+        for entry in flow.entries().iter() {
+            entries.push(*entry)?;
+        }
+        Ok(Layout { routine, entries })
+    }
+
+    /// How many procedures stand before those that are called.
+    fn before(&self) -> usize {
+        if self.routine { 2 } else { 1 }
+    }
+
+    /// How many procedures there are.
+    pub(crate) fn count(&self) -> usize {
+        self.before().saturating_add(self.entries.len())
+    }
+
+    /// The number of a procedure in the certificate, by its number in the analysis.
+    pub(crate) fn id_of(&self, proc: u32) -> ProcId {
+        if proc == MAIN || proc == NMI {
+            return proc as u16;
+        }
+        let place = self
+            .entries
+            .partition_point(|entry| u32::from(*entry) + 2 < proc);
+        self.before().saturating_add(place).min(65_535) as u16
+    }
+
+    /// The number of a procedure in the analysis, by its number in the certificate.
+    pub(crate) fn proc_at(&self, id: usize) -> u32 {
+        match id.checked_sub(self.before()) {
+            Some(place) => match self.entries.get(place) {
+                Some(entry) => u32::from(*entry) + 2,
+                None => MAIN,
+            },
+            None => if id == 1 { NMI } else { MAIN },
+        }
+    }
+
+    /// The entry of a procedure, by its number in the certificate.
+    pub(crate) fn entry_at(&self, id: usize) -> u16 {
+        match id.checked_sub(self.before()) {
+            Some(place) => self.entries.get(place).copied().unwrap_or(0),
+            None => if id == 1 { 0x66 } else { 0 },
+        }
+    }
+
+    /// What a procedure is, by its number in the certificate.
+    pub(crate) fn kind_at(&self, id: usize) -> ProcKind {
+        if id == 0 {
+            ProcKind::Main
+        } else if id == 1 && self.routine {
+            ProcKind::Nmi
+        } else {
+            ProcKind::Sub
+        }
+    }
+
+    /// The line of a procedure with this rank, depth and time.
+    pub(crate) fn proc(&self, id: usize, rank: u16, depth: u16, time: Option<u32>) -> Proc {
+        Proc {
+            kind: self.kind_at(id),
+            entry: self.entry_at(id),
+            rank,
+            depth,
+            time,
+        }
+    }
+}

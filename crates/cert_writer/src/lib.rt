@@ -1,0 +1,12 @@
+// The writer: a certificate for a ROM, from what the analysis finds and what a programmer says (docs/ANALYSIS.md).
+#![tactic(auto)]
+
+mod analysing;
+mod calls;
+mod fault;
+mod layout;
+mod parts;
+mod times;
+
+pub use analysing::analyse;
+pub use fault::WriterFault;

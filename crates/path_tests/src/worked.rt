@@ -1,0 +1,112 @@
+// The worked rows: a procedure that is called, a loop, main, and an NMI routine.
+
+use crate::cases::{is_fault, is_walk, told};
+use path_time::TimeFault;
+use std::alloc::{AllocError, Global};
+use std::test::Fail;
+
+/// PUSH BC, LD B,3, POP BC and RET at 0008.
+pub const CALLED: [u8; 13] = [
+    0x31, 0x00, 0x44, 0xCD, 0x08, 0x00, 0x18, 0xFE, 0xC5, 0x06, 0x03, 0xC1, 0xC9,
+];
+
+pub const CALLED_TEXT: &str = "galcert 1\n\
+    rom 13\n\
+    stack 4380 4400\n\
+    budget -\n\
+    proc main 0000 1 4 -\n\
+    proc sub 0008 0 4 38\n\
+    row 0 0000 u * * * * * * * * * * - - - -\n\
+    row 0 0003 s * * * * * * * * * * - - - -\n\
+    row 0 0006 s * * * * * * * * * * - - - -\n\
+    row 1 0008 s *@AF *@BC *@DE *@HL *@IX *@IY *@AF' *@BC' *@DE' *@HL' - - - 38\n\
+    row 1 0009 s *@AF *@BC *@DE *@HL *@IX *@IY *@AF' *@BC' *@DE' *@HL' - - *@BC 27\n\
+    row 1 000B s *@AF 0300-03FF:03-03:00-FF *@DE *@HL *@IX *@IY *@AF' *@BC' *@DE' *@HL' - - *@BC 20\n\
+    row 1 000C s *@AF *@BC *@DE *@HL *@IX *@IY *@AF' *@BC' *@DE' *@HL' - - - 10\n\
+    end\n";
+
+/// LD B,8, DJNZ to itself and RET at 0008.
+const LOOP: [u8; 13] = [
+    0x31, 0x00, 0x44, 0xCD, 0x08, 0x00, 0x18, 0xFE, 0x06, 0x08, 0x10, 0xFE, 0xC9,
+];
+
+const LOOP_TEXT: &str = "galcert 1\n\
+    rom 13\n\
+    stack 4380 4400\n\
+    budget -\n\
+    proc main 0000 1 2 -\n\
+    proc sub 0008 0 2 116\n\
+    row 0 0000 u * * * * * * * * * * - - - -\n\
+    row 0 0003 s * * * * * * * * * * - - - -\n\
+    row 0 0006 s * * * * * * * * * * - - - -\n\
+    row 1 0008 s *@AF *@BC *@DE *@HL *@IX *@IY *@AF' *@BC' *@DE' *@HL' - - - 116\n\
+    row 1 000A s *@AF 0100-08FF:01-08:00-FF *@DE *@HL *@IX *@IY *@AF' *@BC' *@DE' *@HL' - - - 5+13*B\n\
+    row 1 000C s *@AF 0000-00FF:00-00:00-FF *@DE *@HL *@IX *@IY *@AF' *@BC' *@DE' *@HL' - - - 10\n\
+    end\n";
+
+/// Main code that enables NMIs, and an NMI routine at 0066 that disables and enables them.
+const ROUTINE_TEXT: &str = "galcert 1\n\
+    rom 114\n\
+    stack 4380 4400\n\
+    budget 50665\n\
+    proc main 0000 0 0 -\n\
+    proc nmi 0066 0 4 80\n\
+    row 0 0000 u * * * * * * * * * * - - - -\n\
+    row 0 0003 s * * * * * * * * * * - - - -\n\
+    row 0 0005 s 0100-01FF:01-01:00-FF * * * * * * * * * - - - -\n\
+    row 0 0008 n 0100-01FF:01-01:00-FF * * * * * * * * * - - - -\n\
+    row 1 0066 n *@AF *@BC *@DE *@HL *@IX *@IY *@AF' *@BC' *@DE' *@HL' - - - 69\n\
+    row 1 0067 n *@AF *@BC *@DE *@HL *@IX *@IY *@AF' *@BC' *@DE' *@HL' - - *@AF 58\n\
+    row 1 0068 n 0000-00FF:00-00:00-FF *@BC *@DE *@HL *@IX *@IY *@AF' *@BC' *@DE' *@HL' zA - *@AF 54\n\
+    row 1 006B n 0000-00FF:00-00:00-FF *@BC *@DE *@HL *@IX *@IY *@AF' *@BC' *@DE' *@HL' zA - *@AF 41\n\
+    row 1 006C n 0100-01FF:01-01:00-FF *@BC *@DE *@HL *@IX *@IY *@AF' *@BC' *@DE' *@HL' zA - *@AF 37\n\
+    row 1 006F n 0100-01FF:01-01:00-FF *@BC *@DE *@HL *@IX *@IY *@AF' *@BC' *@DE' *@HL' zA - *@AF 24\n\
+    row 1 0070 n *@AF *@BC *@DE *@HL *@IX *@IY *@AF' *@BC' *@DE' *@HL' - - - 14\n\
+    end\n";
+
+fn routine_rom(alloc: Global) -> Result<Vec<u8>, AllocError> {
+    let main = [0x31, 0x00, 0x44, 0x3E, 0x01, 0x32, 0x01, 0x70, 0x18, 0xFE];
+    let routine = [
+        0xF5, 0xAF, 0x32, 0x01, 0x70, 0x3C, 0x32, 0x01, 0x70, 0xF1, 0xED, 0x45,
+    ];
+    let mut rom = Vec::from_slice(alloc, &main)?;
+    for _ in main.len()..0x66 {
+        rom.push(0)?;
+    }
+    rom.extend_from_slice(&routine)?;
+    Ok(rom)
+}
+
+#[test]
+fn a_procedure_that_is_called(rt: HostRuntime) -> Result<(), Fail> {
+    let walk = told(rt.alloc(), &CALLED, CALLED_TEXT, 1)?;
+    assert!(rt; is_walk(&walk, 38, &[3, 4, 5, 6]));
+    Ok(())
+}
+
+#[test]
+fn a_loop(rt: HostRuntime) -> Result<(), Fail> {
+    let walk = told(rt.alloc(), &LOOP, LOOP_TEXT, 1)?;
+    assert!(rt; is_fault(&walk, TimeFault::Cycle(0x000A)));
+    Ok(())
+}
+
+#[test]
+fn main_has_no_time(rt: HostRuntime) -> Result<(), Fail> {
+    assert!(rt;
+        is_fault(
+            &told(rt.alloc(), &CALLED, CALLED_TEXT, 0)?,
+            TimeFault::Untimed
+        )
+    );
+    assert!(rt; is_fault(&told(rt.alloc(), &LOOP, LOOP_TEXT, 0)?, TimeFault::Untimed));
+    Ok(())
+}
+
+#[test]
+fn an_nmi_routine(rt: HostRuntime) -> Result<(), Fail> {
+    let rom = routine_rom(rt.alloc())?;
+    let walk = told(rt.alloc(), rom.as_slice(), ROUTINE_TEXT, 1)?;
+    assert!(rt; is_walk(&walk, 80, &[4, 5, 6, 7, 8, 9, 10]));
+    Ok(())
+}

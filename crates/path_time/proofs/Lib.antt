@@ -1,0 +1,6 @@
+-- Lemmas of the proofs.
+mod EdgeLemmas
+mod LinkLemmas
+mod RoundLemmas
+mod TableLemmas
+mod WalkLemmas

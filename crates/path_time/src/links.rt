@@ -1,0 +1,187 @@
+// Which rows may come next after which on a walk, and what lies between.
+
+ghost use Rattle.std.specs.Prelude.{◌≡◌, ◌<◌, ◌≤◌, IfOk, OnOk, length, map};
+ghost use Rattle.std.specs.List.Sorted.{IsNonDecreasingBy};
+ghost use Rattle.cert_cover.specs.Program.{map_of_board};
+ghost use Rattle.path_time.specs.Links.{Added, AreLinks, IsAny, IsArrival, IsArrivalOfSome, IsWithin, arrival_of, edge_of};
+ghost use Rattle.path_time.specs.Table.{AreLinksFrom};
+
+use abs_step::{Next, NextKind};
+use address_map::{Map, Rom};
+use call_graph::{Edge, ProcId};
+use cert_ways::{Subject, compared};
+use certificate::{Certificate, RowId};
+use std::alloc::{AllocError, Global};
+use std::ops::Range;
+
+/// Two rows, by their numbers, of which the second may come next after the first on a walk, and the T-states that lie between. There
+/// are 65,535 rows at most.
+#[derive(Clone, Copy)]
+pub(crate) struct Link {
+    pub(crate) from: u16,
+    pub(crate) to: u16,
+    pub(crate) cost: u32,
+}
+
+/// The links from the rows of a procedure, by the rows from which they lead.
+pub(crate) fn links_of(
+    alloc: Global,
+    rom: &Rom,
+    certificate: &Certificate,
+    proc: ProcId,
+) -> Result<Vec<Link>, AllocError>
+    requires { certificate.now.rom_len ≡ length rom.now }
+    ensures links { IfOk result (λ links. AreLinks rom.now certificate.now proc links.items) }
+    ensures rising { IfOk result (λ links. IsNonDecreasingBy (λ link. link.from) links.items) }
+{
+    let mut links = gathered(alloc, rom, certificate, proc)?;
+    links.sort_unstable_by_key(|link| link.from);
+    Ok(links)
+}
+
+/// The links from the rows of a procedure, in any order.
+fn gathered(
+    alloc: Global,
+    rom: &Rom,
+    certificate: &Certificate,
+    proc: ProcId,
+) -> Result<Vec<Link>, AllocError>
+    requires { certificate.now.rom_len ≡ length rom.now }
+    ensures { IfOk result (λ links. AreLinks rom.now certificate.now proc links.items) }
+{
+    let map = certificate.board().map(rom.len());
+    let mut links = Vec::new(alloc);
+    let rows = certificate.rows_of(proc);
+    for from in rows.start..rows.end {
+        add_links(alloc, rom, &map, certificate, from, &mut links)?;
+    }
+    Ok(links)
+}
+
+/// Adds the links from a row.
+fn add_links(
+    alloc: Global,
+    rom: &Rom,
+    map: &Map,
+    certificate: &Certificate,
+    from: RowId,
+    links: &mut Vec<Link>,
+) -> Result<(), AllocError>
+    requires map { map.now ≡ map_of_board certificate.now }
+    requires map_len { map.now.rom_len ≡ length rom.now }
+    requires len { certificate.now.rom_len ≡ length rom.now }
+    requires within { from < length certificate.now.rows }
+    ensures { OnOk result (Added rom.now certificate.now from IsAny links.old.items links.new.items) }
+{
+    let Some(subject) = Subject::of(rom, map, certificate, from) else {
+        return Ok(());
+    };
+    subject.is_subject();
+    let Ok(nexts) = subject.step(alloc) else {
+        return Ok(());
+    };
+    add_links_by_each(alloc, &subject, from, nexts.as_slice(), links)
+}
+
+/// Adds the links from the row of this number, the subject, by these ways on.
+fn add_links_by_each(
+    alloc: Global,
+    subject: &Subject,
+    from: RowId,
+    nexts: &[Next],
+    links: &mut Vec<Link>,
+) -> Result<(), AllocError>
+    requires len { subject.now.cert.rom_len ≡ length subject.now.rom }
+    requires within { from < length subject.now.cert.rows }
+    ensures { OnOk result (Added subject.now.rom subject.now.cert from (IsArrivalOfSome subject.now nexts.now) links.old.items links.new.items) }
+{
+    for next in nexts {
+        add_links_by(alloc, subject, from, next, links)?;
+    }
+    Ok(())
+}
+
+/// Adds the links from the row of this number, the subject, by a way on.
+fn add_links_by(
+    alloc: Global,
+    subject: &Subject,
+    from: RowId,
+    next: &Next,
+    links: &mut Vec<Link>,
+) -> Result<(), AllocError>
+    requires len { subject.now.cert.rom_len ≡ length subject.now.rom }
+    requires within { from < length subject.now.cert.rows }
+    ensures { OnOk result (Added subject.now.rom subject.now.cert from (IsArrival subject.now next.now) links.old.items links.new.items) }
+{
+    match arrival_of(subject, next) {
+        Some(address) => {
+            let rows = subject.certificate.rows_at(subject.row.proc, address);
+            add_links_to(alloc, subject.rom, subject.certificate, from, rows, links)
+        }
+        None => Ok(()),
+    }
+}
+
+/// The address to which a way on of a row leads within its procedure, through a call and back from it too; None for an exit.
+fn arrival_of(subject: &Subject, next: &Next) -> Option<u16>
+    ensures { result ≡ arrival_of subject.now next.now }
+{
+    match next.kind {
+        NextKind::Jump => Some(next.address),
+        NextKind::Call => Some(subject.behind),
+        NextKind::Exit => None,
+    }
+}
+
+/// Adds the links from a row to those of these rows that may come next.
+fn add_links_to(
+    alloc: Global,
+    rom: &Rom,
+    certificate: &Certificate,
+    from: RowId,
+    rows: Range<RowId>,
+    links: &mut Vec<Link>,
+) -> Result<(), AllocError>
+    requires len { certificate.now.rom_len ≡ length rom.now }
+    requires within { from < length certificate.now.rows }
+    requires rows { rows.end ≤ length certificate.now.rows }
+    ensures { OnOk result (Added rom.now certificate.now from (IsWithin rows.start rows.end) links.old.items links.new.items) }
+{
+    // In form: there are 65,535 rows at most.
+    certificate.is_in_form();
+    for to in rows.start..rows.end {
+        if let Some(cost) = compared(alloc, rom, certificate, from, to) {
+            links.push(Link {
+                from: from as u16,
+                to: to as u16,
+                cost,
+            })?;
+        }
+    }
+    Ok(())
+}
+
+/// The links without their costs.
+pub(crate) fn edges_of(alloc: Global, links: &[Link]) -> Result<Vec<Edge>, AllocError>
+    ensures { IfOk result (λ edges. edges.items ≡ map edge_of links.now) }
+{
+    let mut edges = Vec::new(alloc);
+    for link in links {
+        edges.push(Edge {
+            caller: link.from,
+            callee: link.to,
+        })?;
+    }
+    Ok(edges)
+}
+
+/// The links from a row, of links that stand by the rows from which they lead.
+pub(crate) fn links_from(links: &[Link], row: u16) -> &[Link]
+    requires { IsNonDecreasingBy (λ link. link.from) links.now }
+    ensures { AreLinksFrom links.now row result.now }
+{
+    let start = links.partition_point(|link| link.from < row);
+    let behind = &links[start..];
+    let count = behind.partition_point(|link| link.from <= row);
+    &behind[..count]
+}

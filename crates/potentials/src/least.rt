@@ -1,0 +1,212 @@
+// The least potential of a row that pays for what comes next.
+
+use crate::requests::{Request, Requests};
+use crate::sums::{greatest_value, least_value, terms_before, with_constant};
+use abs_state::AbsState;
+use certificate::Certificate;
+use loop_bounds::{Effect, Linear, Variable, decreases};
+
+/// The greatest constant of a linear.
+const GREATEST: i64 = 1_000_000_000;
+
+/// The potential of a row, if there is one yet.
+pub(crate) fn known_at(known: &[Option<Linear>], first: u32, row: u32) -> Option<Linear> {
+    let place = row.checked_sub(first)?;
+    *known.get(place as usize)?
+}
+
+/// Whether these terms with this constant pay so many T-states and leave what a potential comes to by a step.
+fn pays(
+    terms: &Linear,
+    constant: i32,
+    cost: u32,
+    to: &Linear,
+    effect: &Effect,
+    source: &AbsState,
+    target: &AbsState,
+) -> bool {
+    match with_constant(terms, constant) {
+        Some(from) => decreases(&from, to, cost, effect, source, target),
+        None => false,
+    }
+}
+
+/// The least constant with which these terms pay so many T-states and leave what a potential comes to by a step; None where none does.
+fn least_constant(
+    terms: &Linear,
+    cost: u32,
+    to: &Linear,
+    effect: &Effect,
+    source: &AbsState,
+    target: &AbsState,
+) -> Option<i32> {
+    let mut low = -GREATEST;
+    let mut high = GREATEST;
+    // 2,000,000,001 constants: after 31 halves one is left.
+    for _ in 0..31 {
+        if low < high {
+            let middle = low.saturating_add(high).div_euclid(2);
+            if pays(
+                terms,
+                i32::try_from(middle).unwrap_or(0),
+                cost,
+                to,
+                effect,
+                source,
+                target,
+            ) {
+                high = middle;
+            } else {
+                low = middle.saturating_add(1);
+            }
+        }
+    }
+    let constant = i32::try_from(low).unwrap_or(0);
+    if pays(terms, constant, cost, to, effect, source, target) {
+        Some(constant)
+    } else {
+        None
+    }
+}
+
+/// The greater of two constants, where there are two.
+fn greater(one: Option<i32>, other: i32) -> Option<i32> {
+    match one {
+        Some(one) => Some(one.max(other)),
+        None => Some(other),
+    }
+}
+
+/// What never changes while the potential of a row is looked for: the certificate, the number of its procedure's first row, the row's state, and what it has to
+/// pay for.
+#[derive(Drop)]
+pub(crate) struct Payer<'a> {
+    pub(crate) certificate: &'a Certificate,
+    pub(crate) first: u32,
+    pub(crate) state: AbsState,
+    pub(crate) requests: &'a Requests,
+}
+
+impl<'a> Payer<'a> {
+    /// The least constant with which these terms pay for leaving, if the row leaves.
+    fn constant_for_leaving(&self, terms: &Linear) -> Result<Option<i32>, Unpaid> {
+        let Some(cost) = self.requests.leaving else {
+            return Ok(None);
+        };
+        let unchanged = Effect::unchanged();
+        match least_constant(
+            terms,
+            cost,
+            &Linear::zero(),
+            &unchanged,
+            &self.state,
+            &self.state,
+        ) {
+            Some(constant) => Ok(Some(constant)),
+            None => Err(Unpaid),
+        }
+    }
+
+    /// The least constant with which these terms pay for a row that comes next, if that has a potential yet.
+    fn constant_for(
+        &self,
+        terms: &Linear,
+        request: &Request,
+        known: &[Option<Linear>],
+    ) -> Result<Option<i32>, Unpaid> {
+        let Some(to) = known_at(known, self.first, request.to) else {
+            return Ok(None);
+        };
+        let Some(target) = self.certificate.state(request.to) else {
+            return Ok(None);
+        };
+        match least_constant(
+            terms,
+            request.cost,
+            &to,
+            &request.effect,
+            &self.state,
+            &target,
+        ) {
+            Some(constant) => Ok(Some(constant)),
+            None => Err(Unpaid),
+        }
+    }
+
+    /// These terms with the least constant that pays for all, 0 where there is nothing to pay for.
+    pub(crate) fn least_with(
+        &self,
+        terms: &Linear,
+        known: &[Option<Linear>],
+    ) -> Result<Linear, Unpaid> {
+        let mut least = self.constant_for_leaving(terms)?;
+        for request in self.requests.of_rows.as_slice() {
+            if let Some(constant) = self.constant_for(terms, request, known)? {
+                least = greater(least, constant);
+            }
+        }
+        match with_constant(terms, least.unwrap_or(0)) {
+            Some(linear) => Ok(linear),
+            None => Err(Unpaid),
+        }
+    }
+
+    /// The terms that a request comes to before its step, if its row has a potential with terms that this row has variables for.
+    fn terms_of(&self, request: &Request, known: &[Option<Linear>]) -> Option<Linear> {
+        let to = known_at(known, self.first, request.to)?;
+        let terms = terms_before(&to, &request.effect)?;
+        if terms.terms().is_empty() || !names_slots_below(&terms, self.state.shape.len()) {
+            return None;
+        }
+        Some(terms)
+    }
+
+    /// The better of two potentials: the one with the lesser greatest value, then with the lesser least value.
+    fn better(&self, one: Result<Linear, Unpaid>, other: Linear) -> Result<Linear, Unpaid> {
+        let Ok(one) = one else {
+            return Ok(other);
+        };
+        let (most, others_most) = (
+            greatest_value(&one, &self.state),
+            greatest_value(&other, &self.state),
+        );
+        if others_most < most {
+            return Ok(other);
+        }
+        if others_most == most
+            && least_value(&other, &self.state) < least_value(&one, &self.state)
+        {
+            return Ok(other);
+        }
+        Ok(one)
+    }
+
+    /// The best potential of the row: a constant, or the terms of one request with one.
+    pub(crate) fn best(&self, known: &[Option<Linear>]) -> Result<Linear, Unpaid> {
+        let mut best = self.least_with(&Linear::zero(), known);
+        let mut last = Linear::zero();
+        for request in self.requests.of_rows.as_slice() {
+            if let Some(terms) = self.terms_of(request, known) {
+                if terms != last {
+                    last = terms;
+                    if let Ok(other) = self.least_with(&terms, known) {
+                        best = self.better(best, other);
+                    }
+                }
+            }
+        }
+        best
+    }
+}
+
+/// No constant pays.
+#[derive(Clone, Copy)]
+pub(crate) struct Unpaid;
+
+/// Whether a linear names no slot from this number on.
+fn names_slots_below(linear: &Linear, slots: usize) -> bool {
+    linear.terms().iter().all(|term| match term.variable {
+        Variable::Slot(number, _) => usize::from(number.number()) < slots,
+        _ => true,
+    })
+}

@@ -1,0 +1,137 @@
+// Linears made of terms, and their least and greatest values over what a row knows.
+
+use abs_state::AbsState;
+use intervals::WordRange;
+use loop_bounds::{Change, Effect, Linear, Ranges, Term, Variable};
+
+/// The least multiple of a value in a range.
+fn least_multiple(coefficient: i32, range: WordRange) -> i128 {
+    let end = if coefficient >= 0 {
+        range.low()
+    } else {
+        range.high()
+    };
+    i128::from(coefficient).saturating_mul(i128::from(end))
+}
+
+/// The least value of a linear over the ranges of a state.
+pub(crate) fn least_value(linear: &Linear, state: &AbsState) -> i128 {
+    let mut sum = i128::from(linear.constant());
+    for term in linear.terms() {
+        sum = sum.saturating_add(least_multiple(term.coefficient, state.range(term.variable)));
+    }
+    sum
+}
+
+/// The greatest value of a linear over the ranges of a state.
+pub fn greatest_value(linear: &Linear, state: &AbsState) -> i128 {
+    let mut sum = i128::from(linear.constant());
+    for term in linear.terms() {
+        let less = least_multiple(
+            term.coefficient.saturating_neg(),
+            state.range(term.variable),
+        );
+        sum = sum.saturating_sub(less);
+    }
+    sum
+}
+
+/// The same terms with another constant, or None where that is above 1,000,000,000 in size.
+pub(crate) fn with_constant(terms: &Linear, constant: i32) -> Option<Linear> {
+    let mut linear = Linear::of_constant(constant)?;
+    for term in terms.terms() {
+        linear = linear.with_term(*term)?;
+    }
+    Some(linear)
+}
+
+/// A constant of 0 and one multiple of a variable, or None where the coefficient is 0 or above 1,000,000 in size.
+pub(crate) fn multiple_of(variable: Variable, coefficient: i32) -> Option<Linear> {
+    Linear::zero().with_term(Term {
+        coefficient,
+        variable,
+    })
+}
+
+/// The variable before a step that tells what another one is after it, or None where a constant or nothing does.
+fn variable_before(effect: &Effect, variable: Variable) -> Option<Variable> {
+    match effect.change(variable) {
+        Change::Old(old) | Change::Raised(old) | Change::Lowered(old) => Some(old),
+        Change::Constant(_) | Change::Unknown => None,
+    }
+}
+
+/// Adds a multiple of a variable to at most three terms.
+fn add(terms: &mut [Option<Term>; 3], added: Term) {
+    for place in 0..3 {
+        let there: Option<Term> = terms[place];
+        match there {
+            Some(term) if term.variable == added.variable => {
+                terms[place] = Some(Term {
+                    coefficient: term.coefficient.saturating_add(added.coefficient),
+                    variable: term.variable,
+                });
+                return;
+            }
+            Some(_) => {}
+            None => {
+                terms[place] = Some(added);
+                return;
+            }
+        }
+    }
+}
+
+/// The terms that those of a linear come to before a step of this effect, with a constant of 0; None where a coefficient gets above 1,000,000 in size.
+pub(crate) fn terms_before(linear: &Linear, effect: &Effect) -> Option<Linear> {
+    let mut terms = [None; 3];
+    for term in linear.terms() {
+        if let Some(variable) = variable_before(effect, term.variable) {
+            add(
+                &mut terms,
+                Term {
+                    coefficient: term.coefficient,
+                    variable,
+                },
+            );
+        }
+    }
+    of_terms(&terms)
+}
+
+/// The term with the least variable from this rank on.
+fn next_from(terms: &[Option<Term>], rank: u16) -> Option<Term> {
+    let mut least: Option<Term> = None;
+    for place in terms {
+        if let Some(term) = place {
+            if term.variable.rank() >= rank {
+                least = lesser(least, *term);
+            }
+        }
+    }
+    least
+}
+
+/// The term of two whose variable comes first.
+fn lesser(one: Option<Term>, other: Term) -> Option<Term> {
+    match one {
+        Some(one) if one.variable.rank() <= other.variable.rank() => Some(one),
+        _ => Some(other),
+    }
+}
+
+/// A linear of some terms in any order, those of 0 left out.
+fn of_terms(terms: &[Option<Term>]) -> Option<Linear> {
+    let mut linear = Linear::zero();
+    let mut rank = 0u16;
+    for _ in 0..terms.len() {
+        let Some(term) = next_from(terms, rank) else {
+            return Some(linear);
+        };
+        rank = term.variable.rank().saturating_add(1);
+        if term.coefficient != 0 {
+            linear = linear.with_term(term)?;
+        }
+    }
+    Some(linear)
+}

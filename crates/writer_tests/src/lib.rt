@@ -1,0 +1,13 @@
+// The tests of the writer: worked rows, families of ROMs, what is refused, and refused memory.
+#![tactic(auto)]
+
+#[cfg(test)]
+mod families;
+#[cfg(test)]
+mod memory;
+#[cfg(test)]
+mod refused;
+#[cfg(test)]
+mod roms;
+#[cfg(test)]
+mod rows;

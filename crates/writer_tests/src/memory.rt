@@ -1,0 +1,43 @@
+// Memory that is refused once, at each of the growths in turn (`rt try --test --fail-alloc N`): the call answers `NoMemory`, and the next one as if nothing had been.
+
+use crate::roms::{ENABLING, WITH_NMI};
+use annotations::{AnnotationFault, Annotations};
+use cert_writer::{WriterFault, analyse};
+use std::test::Fail;
+
+/// A routine at 0066 that calls: PUSH BC; LD B,3; CALL 0070; DJNZ 0069; POP BC; RET; 0070 RET.
+const ROUTINE: [u8; 11] = [
+    0xC5, 0x06, 0x03, 0xCD, 0x70, 0x00, 0x10, 0xFB, 0xC1, 0xC9, 0xC9,
+];
+
+#[test]
+fn written_again(rt: HostRuntime) -> Result<(), Fail> {
+    let mut rom = [0; 0x71];
+    rom[..10].copy_from_slice(&ENABLING);
+    rom[0x66..].copy_from_slice(&ROUTINE);
+    let said =
+        "low = 0x4380\ntop = 0x4400\nnmi = true\nbudget = 50665\nloop = [{ at = 0x69, counter = \"B\" }]\n";
+    assert!(rt; said.as_bytes().starts_with(WITH_NMI.as_bytes()));
+    let mut refused = 0u8;
+    for _ in 0..3 {
+        match Annotations::read(rt.alloc(), said.as_bytes()) {
+            Ok(said) => match analyse(rt.alloc(), &rom, &said) {
+                Ok(certificate) => {
+                    // 11 + 11 + 7 + 3 * (17 + 10 + 13) - 5 + 10 + 10.
+                    assert!(rt; certificate.time(1) == Some(Some(164)));
+                    assert!(rt; certificate.depth(1) == Some(6));
+                }
+                Err(fault) => {
+                    assert!(rt; matches!(fault, WriterFault::NoMemory));
+                    refused = refused.wrapping_add(1);
+                }
+            },
+            Err(fault) => {
+                assert!(rt; fault == AnnotationFault::NoMemory);
+                refused = refused.wrapping_add(1);
+            }
+        }
+    }
+    assert!(rt; refused <= 1);
+    Ok(())
+}
