@@ -52,7 +52,7 @@ judge "no input" 3 '' $'device error\n'
 printf '\xD3\x00' > port.rom
 sed 's/^rom 6$/rom 2/; /^row 0 0003/d' "$six.cert" > port.cert
 ask run port.rom port.cert missing 3
-judge "a refused certificate, and no input" 1 $'refused 0000 12 NotCovered\n' ''
+judge "a refused certificate, and no input" 1 $'refused 0000 5 IoSpace\n' ''
 ask verify . "$six.cert"
 judge "a folder as ROM" 3 '' $'device error\n'
 
@@ -115,6 +115,38 @@ done
 rows 65536 > rows.cert
 ask verify "$six.rom" rows.cert
 judge "65,536 rows" 1 $'bad certificate limit\n' ''
+
+# An NMI routine that returns at once, and a run whose blank it meets.
+printf '\x31\x00\x44\x3E\x01\x32\x01\x70\xAF\x32\x01\x70\x18\xFE' > nmi.rom
+head -c 88 /dev/zero >> nmi.rom
+printf '\xED\x45' >> nmi.rom
+cat > nmi.cert << 'END'
+galcert 1
+rom 104
+stack 4380 4400
+budget 50665
+proc main 0000 0 0 -
+proc nmi 0066 0 2 25
+row 0 0000 u * * * * * * * * * * - - - -
+row 0 0003 s * * * * * * * * * * - - - -
+row 0 0005 s * * * * * * * * * * - - - -
+row 0 0008 n * * * * * * * * * * - - - -
+row 0 0009 n * * * * * * * * * * - - - -
+row 0 000C n * * * * * * * * * * - - - -
+row 1 0066 n *@AF *@BC *@DE *@HL *@IX *@IY *@AF' *@BC' *@DE' *@HL' - - - 14
+end
+END
+printf 'reset 50650 00\n7 00 00 00 00 00 00 1\n' > nmi.input
+ask verify nmi.rom nmi.cert
+judge "an NMI routine" 0 $'accepted\nmain 0000 depth     0 time      -\nnmi  0066 depth     2 time     25\nstack 2 of 128\nnmi 25 of 50665\n' ''
+ask run nmi.rom nmi.cert nmi.input 7
+judge "a run with an NMI" 0 $'nmi 5 000C\nend 6 25\ndone 7 72 000C 4400\nregs 0044 0000 0000 0000 0000 0000\nsum 12 0 0\n' ''
+printf '0 00 00 00 00 00 00 0\n' >> nmi.input
+ask run nmi.rom nmi.cert nmi.input 8
+judge "a bad line behind an NMI" 1 $'nmi 5 000C\nend 6 25\nbad input line 3\n' ''
+sed 's/^proc nmi 0066 0 2 25/proc nmi 0066 0 2 24/' nmi.cert > short.cert
+ask verify nmi.rom short.cert
+judge "a routine that takes longer" 1 $'refused 0066 17 Time\n' ''
 
 # Inputs.
 printf 'reset 0 00\n3 00 00 00 00 00 00 2\n' > bad.input
