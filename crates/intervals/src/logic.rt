@@ -62,14 +62,6 @@ impl ByteRange {
         }
     }
 
-    /// XOR A: the one operand is both, and the result is 0.
-    pub fn xor_with_itself(self) -> ByteRange
-        ensures exact { result ≡ single 0 }
-        ensures contains { TakesInto (λ x. bit_xor x x) self result }
-    {
-        ByteRange::single(0)
-    }
-
     /// CPL.
     pub fn complement(self) -> ByteRange
         ensures exact { result ≡ complement self }

@@ -80,14 +80,6 @@ impl ByteRange {
         bytes_in_window(256 + low - other_high - 1, 256 + high - other_low)
     }
 
-    /// SUB A: the one operand is both, and the difference is 0.
-    pub fn difference_from_itself(self) -> ByteRange
-        ensures exact { result ≡ single 0 }
-        ensures contains { TakesInto (λ x. (256 + x - x) % 256) self result }
-    {
-        ByteRange::single(0)
-    }
-
     /// INC r.
     pub fn increment(self) -> ByteRange
         ensures exact { result ≡ increment 256 self }
