@@ -12,7 +12,7 @@ use Rattle.cert_cover.specs.Program.{callee_at}
 use Rattle.cert_cover.specs.declared.program.Callee.{Callee}
 use Rattle.cert_lines.specs.declared.row.Row.{Row}
 use Rattle.cert_order.specs.Contents.{Contents}
-use Rattle.cert_ways.specs.Parts.{CostsExit, IsAmong, IsTimedCall, LiesBy, LiesByCall, LiesByKind, OnCall, greater}
+use Rattle.cert_ways.specs.Parts.{CostsExit, HasNoExit, IsAmong, IsTimedCall, LiesBy, LiesByCall, LiesByKind, OnCall, greater}
 use Rattle.cert_ways.specs.Pays.{IsExitCost, IsGreatest, IsWalked, Lands, LeavesAt, LieBetween, LiesBetween}
 use Rattle.cert_ways.specs.Ways.{Subject, IsJump, IsNumbered, IsReturn, IsWay, Way, jump_way, nexts_from, nexts_in, return_way, step_of}
 use Rattle.cert_ways.proofs.ExitLemmas.{subject_once}
@@ -207,3 +207,13 @@ leaves_number rom cert number s a is most =
     greatest_same (IsExitCost s) (LeavesAt rom cert number) a most
     (λ n leaves. record { subject = s; is_from = is; leaves = leaves })
     (λ n leaves. subst (λ (x : Subject). IsExitCost x n) (subject_once rom cert number leaves.subject s leaves.is_from is) leaves.leaves)
+
+-- a row without an exit has none that costs anything
+pub none_leaves : (rom : List ℕ) (cert : Contents) (number : ℕ) → HasNoExit rom cert number → (cost : ℕ) → LeavesAt rom cert number cost → ⊥
+none_leaves rom cert number none cost leaves =
+    none leaves.leaves.next.state
+    record {
+      subject = leaves.subject;
+      is = leaves.is_from;
+      leaves = record { next = leaves.leaves.next; leads = leaves.leaves.leads; kind = leaves.leaves.kind; state = refl };
+    }

@@ -1,6 +1,6 @@
 // The exits of a callee's rows.
 
-ghost use Rattle.std.specs.Prelude.{◌≡◌, ◌↔◌, IsTrue, MatchOption, Result};
+ghost use Rattle.std.specs.Prelude.{◌≡◌, ◌↔◌, IsTrue, MatchOption, Result, false};
 ghost use Rattle.abs_step.specs.Successors.{is_return};
 ghost use Rattle.abs_step.specs.declared.next.NextKind.TheVariants.{Exit as Leaving};
 ghost use Rattle.board_step.specs.Decoded.{StandsAt};
@@ -13,7 +13,7 @@ use abs_step::{Next, NextKind, Nexts};
 use address_map::Rom;
 use board_step::fetch;
 use call_graph::ProcId;
-use certificate::{RowId, RowView};
+use certificate::{Certificate, RowId, RowView};
 use std::alloc::Global;
 use z80_decode::Instr;
 
@@ -90,6 +90,16 @@ fn may_leave(rom: &Rom, row: &RowView) -> bool
     match fetch(rom, row.address) {
         Ok((instr, _)) => is_return(&instr),
         Err(_) => false,
+    }
+}
+
+/// Whether the row of a number may have an exit: where not, it has none.
+pub(crate) fn may_have_exit(rom: &Rom, certificate: &Certificate, id: RowId) -> bool
+    ensures { result ≡ false → HasNoExit rom.now certificate.now id }
+{
+    match certificate.row(id) {
+        Some(row) => may_leave(rom, &row),
+        None => false,
     }
 }
 

@@ -10,7 +10,7 @@ mod walks;
 mod ways;
 
 pub use going::goes_on;
-pub use paying::pays;
+pub use paying::{cost_before, pays};
 pub use subject::Subject;
-pub use walks::{compared, exit_cost};
+pub use walks::{compared, cost_between, cost_of_leaving, exit_cost};
 pub use ways::Way;

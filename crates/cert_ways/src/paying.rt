@@ -200,8 +200,8 @@ fn nexts_pay(alloc: Global, subject: &Subject, nexts: &[Next]) -> bool
     true
 }
 
-/// The T-states that an acceptance takes before the NMI routine's entry.
-fn cost_before(kind: ProcKind) -> u32
+/// The T-states that go by before the entry of a procedure of a kind: those of the acceptance, 11, before the NMI routine's.
+pub fn cost_before(kind: ProcKind) -> u32
     ensures { result ≡ cost_before kind }
 {
     match kind {

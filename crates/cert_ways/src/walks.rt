@@ -2,14 +2,15 @@
 
 ghost use Rattle.std.specs.List.{All};
 ghost use Rattle.std.specs.Prelude.{◌≡◌, ◌↔◌, Contains, IsSome, IsTrue, Ok, Some, length};
-ghost use Rattle.cert_cover.specs.Program.{callee_at};
+ghost use Rattle.cert_cover.specs.Program.{callee_at, map_of_board};
 ghost use Rattle.cert_ways.specs.Parts.{AtSomeExit, CostsExit, ExitLands, InSomeExit, IsAmong, LiesBy, LiesByCall, OnCall, OnSomeExit, ReturnLands, greater};
-ghost use Rattle.cert_ways.specs.Pays.{IsExitCost, IsGreatest, IsWalked, LeavesAt, LieBetween, LiesBetween};
-ghost use Rattle.cert_ways.specs.Ways.{step_of};
+ghost use Rattle.cert_ways.specs.Pays.{IsExitCost, IsGreatest, IsWalked, Lands, LeavesAt, LieBetween, LiesBetween};
+ghost use Rattle.cert_ways.specs.Ways.{jump_way, step_of};
 
+use crate::exits::may_have_exit;
 use crate::subject::Subject;
 use abs_step::{Next, NextKind};
-use address_map::Rom;
+use address_map::{Map, Rom};
 use cert_cover::{Callee, callee_at};
 use certificate::{Certificate, RowId, RowView};
 use std::alloc::Global;
@@ -118,6 +119,17 @@ fn cost_by_call(alloc: Global, subject: &Subject, next: &Next, target: &RowView)
     }
 }
 
+/// Whether a jump, or going on, leads to a row that is asked. The way is made only where it leads to the row's address: its state is large.
+fn jump_lands(subject: &Subject, next: &Next, target: &RowView) -> bool
+    requires { Contains subject.now.cert.rows target.now }
+    ensures { IsTrue result ↔ Lands subject.now.cert (jump_way subject.now next.now) target.now }
+{
+    if next.address != target.address {
+        return false;
+    }
+    subject.jump_way(next).lands(subject.certificate, target)
+}
+
 /// The T-states that lie between a row and another by a way on, or None where it doesn't lead there.
 fn cost_by(alloc: Global, subject: &Subject, next: &Next, target: &RowView) -> Option<u32>
     requires { Contains subject.now.cert.rows target.now }
@@ -125,7 +137,7 @@ fn cost_by(alloc: Global, subject: &Subject, next: &Next, target: &RowView) -> O
 {
     match next.kind {
         NextKind::Jump => {
-            if subject.jump_way(next).lands(subject.certificate, target) {
+            if jump_lands(subject, next, target) {
                 Some(u32::from(next.cost))
             } else {
                 None
@@ -188,18 +200,34 @@ fn calls_are_timed(subject: &Subject, nexts: &[Next]) -> bool
     true
 }
 
-/// The most T-states that lie between a row and another, where a walk may go from it to that.
-fn cost_between(alloc: Global, subject: &Subject, target: &RowView) -> Option<u32>
+/// The T-states that lie between a row and another, once the row's ways on are known, where the other may come next after it on a walk:
+/// the most of those of its ways on that lead there, with the time of a callee where a way leads through a call (docs/CHECKER.md,
+/// "Paying"). None where no way leads there, and where the row is one of a procedure without a time, or calls one. It takes no memory.
+pub fn cost_between(
+    alloc: Global,
+    subject: &Subject,
+    nexts: &[Next],
+    target: &RowView,
+) -> Option<u32>
+    requires step { step_of subject.now ≡ Ok nexts.now }
+    requires listed { Contains subject.now.cert.rows target.now }
+    ensures { IsGreatest (LiesBetween subject.now target.now) result }
+{
+    if is_walked(subject, nexts) {
+        greatest_cost(alloc, subject, nexts, target)
+    } else {
+        None
+    }
+}
+
+/// The most T-states that lie between a row and another; None also where the row is refused for itself.
+fn cost_from(alloc: Global, subject: &Subject, target: &RowView) -> Option<u32>
     requires { Contains subject.now.cert.rows target.now }
     ensures { IsGreatest (LiesBetween subject.now target.now) result }
 {
-    let Ok(nexts) = subject.step(alloc) else {
-        return None;
-    };
-    if is_walked(subject, nexts.as_slice()) {
-        greatest_cost(alloc, subject, nexts.as_slice(), target)
-    } else {
-        None
+    match subject.step(alloc) {
+        Ok(nexts) => cost_between(alloc, subject, nexts.as_slice(), target),
+        Err(_) => None,
     }
 }
 
@@ -225,7 +253,7 @@ fn greatest_exit(nexts: &[Next]) -> Option<u32>
 }
 
 /// The most T-states of an exit of a row, or None where it has none.
-fn cost_of_leaving(alloc: Global, subject: &Subject) -> Option<u32>
+fn cost_of_own_exit(alloc: Global, subject: &Subject) -> Option<u32>
     ensures { IsGreatest (IsExitCost subject.now) result }
 {
     match subject.step(alloc) {
@@ -253,7 +281,7 @@ pub fn compared(
     let subject = Subject::of(rom, &map, certificate, from)?;
     subject.is_subject();
     let target = certificate.row(to)?;
-    cost_between(alloc, &subject, &target)
+    cost_from(alloc, &subject, &target)
 }
 
 /// The T-states of the exit of a row, by its number, also in a procedure without a time; None where there is no such row, or it has no
@@ -263,7 +291,25 @@ pub fn exit_cost(alloc: Global, rom: &Rom, certificate: &Certificate, row: RowId
     ensures { IsGreatest (LeavesAt rom.now certificate.now row) result }
 {
     let map = certificate.board().map(rom.len());
-    let subject = Subject::of(rom, &map, certificate, row)?;
+    cost_of_leaving(alloc, rom, &map, certificate, row)
+}
+
+/// The same, with the map that the certificate names, for a ROM of this length.
+pub fn cost_of_leaving(
+    alloc: Global,
+    rom: &Rom,
+    map: &Map,
+    certificate: &Certificate,
+    row: RowId,
+) -> Option<u32>
+    requires map { map.now ≡ map_of_board certificate.now }
+    requires len { map.now.rom_len ≡ length rom.now }
+    ensures { IsGreatest (LeavesAt rom.now certificate.now row) result }
+{
+    if !may_have_exit(rom, certificate, row) {
+        return None;
+    }
+    let subject = Subject::of(rom, map, certificate, row)?;
     subject.is_subject();
-    cost_of_leaving(alloc, &subject)
+    cost_of_own_exit(alloc, &subject)
 }

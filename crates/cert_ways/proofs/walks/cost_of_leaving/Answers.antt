@@ -1,11 +1,12 @@
-use Rattle.std.proofs.Common.{List, subst}
-use Rattle.abs_step.specs.declared.next.Next.{Next}
-use Rattle.cert_ways.specs.Parts.{CostsExit, IsAmong}
-use Rattle.cert_ways.specs.Pays.{IsGreatest}
-use Rattle.cert_ways.proofs.WalkLemmas.{greatest_leaving}
+use Rattle.cert_ways.proofs.WalkLemmas.{leaves_number, none_leaves}
 use Rattle.cert_ways.proofs.walks.cost_of_leaving.Goals as goal
 
-pub returns-in-Ok : goal.returns-in-Ok
-returns-in-Ok c =
-    greatest_leaving c.args.subject.now c.in-Ok.nexts.items c.greatest_exit.result (c.in-Ok.ensures {u = tt}).ok
-    (subst (λ (ns : List Next). IsGreatest (IsAmong ns CostsExit) c.greatest_exit.result) c.as_slice.ensures c.greatest_exit.ensures)
+pub returns-then-not-may_have_exit : goal.returns-then-not-may_have_exit
+returns-then-not-may_have_exit c =
+    none_leaves c.args.rom.now c.args.certificate.now c.args.row (c.may_have_exit.ensures c.if-not-may_have_exit.true)
+
+pub returns : goal.returns
+returns c =
+    let of = (c.in_ok-subject.ensures {u = tt}).some in
+    leaves_number c.args.rom.now c.args.certificate.now c.args.row c.in_ok-subject.subject c.cost_of_own_exit.result
+    (record { is_subject = c.is_subject.ensures; same = (of.0, of.1); at = of.2 }) c.cost_of_own_exit.ensures
