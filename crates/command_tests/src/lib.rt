@@ -12,6 +12,6 @@ mod jumps;
 #[cfg(test)]
 mod memory;
 #[cfg(test)]
-mod ranges;
+mod outcomes;
 #[cfg(test)]
-mod verdicts;
+mod ranges;
