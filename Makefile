@@ -4,9 +4,10 @@ SIX = examples/six-bytes/six
 .PHONY: all test edits install clean
 
 all: galcert
-	@echo "== the six-byte example: its verdict, and a run of three events"
-	./galcert verify $(SIX).rom $(SIX).cert
-	./galcert run $(SIX).rom $(SIX).cert $(SIX).input 3
+	@echo "== the six-byte example: its verdict with a certificate, the certificate's, and a run of three events"
+	./galcert check $(SIX).rom $(SIX).toml --cert six.cert
+	./galcert verify $(SIX).rom six.cert
+	./galcert run $(SIX).rom six.cert $(SIX).input 3
 
 # What the program stands on is proved before it is built, lowest first.
 galcert: crates.txt $(shell find crates -name '*.rt' -o -name '*.antt' | grep -v /out/)
@@ -30,4 +31,4 @@ install: galcert
 	install -D -m 755 galcert $(DESTDIR)$(PREFIX)/bin/galcert
 
 clean:
-	rm -rf galcert crates/*/out
+	rm -rf galcert six.cert crates/*/out

@@ -157,11 +157,82 @@ judge "a bad line that is not needed" 0 "$run_of_none" ''
 ask run "$six.rom" "$six.cert" empty 0
 judge "an empty input" 1 $'bad input line 1\n' ''
 
+# Certificates that are made: FILE is written before the table, and only for an accepted ROM.
+printf 'low = 0x4380\ntop = 0x4400\n' > six.toml
+ask check "$six.rom" six.toml
+judge "the six bytes, checked" 0 "$table" ''
+ask check "$six.rom" six.toml --cert made.cert
+judge "the six bytes, checked, with a certificate" 0 "$table" ''
+holds() {
+    cases=$((cases + 1))
+    cmp -s "$2" "$3" || { echo "not as it should be: $1: $2 and $3 differ"; wrong=$((wrong + 1)); }
+}
+holds "the certificate of the six bytes" made.cert "$six.cert"
+printf 'loop = [{ at = 0x69, counter = "B" }]\nlow = 0x4380\ntop = 0x4400\nnmi = true\nbudget = 148\n' > loop.toml
+head -c 102 nmi.rom | sed 's/\xAF\x32\x01\x70\x18\xFE/\x18\xFE\x00\x00\x00\x00/' > loop.rom
+printf '\xC5\x06\x08\x10\xFE\xC1\xC9' >> loop.rom
+loop_table=$'accepted\nmain 0000 depth     0 time      -\nnmi  0066 depth     4 time    148\nstack 4 of 128\nnmi 148 of 148\n'
+ask check loop.rom loop.toml --cert loop.cert
+judge "a loop in the NMI routine" 0 "$loop_table" ''
+ask verify loop.rom loop.cert
+judge "its certificate" 0 "$loop_table" ''
+cp "$six.cert" old.cert
+grep -v loop loop.toml > unbounded.toml
+ask check loop.rom unbounded.toml --cert old.cert
+judge "a loop without a counter" 1 $'unbounded 0069\n' ''
+holds "a refusal leaves FILE as it was" old.cert "$six.cert"
+sed 's/148/147/' loop.toml > tight.toml
+ask check loop.rom tight.toml
+judge "a budget that is too small" 1 $'refused 0066 18 Budget\n' ''
+sed 's/148/50666/' loop.toml > late.toml
+ask check missing.rom late.toml
+judge "no ROM, and bad annotations" 3 '' $'device error\n'
+ask check empty late.toml
+judge "bad annotations, and a ROM of no bytes" 1 $'bad annotation budget\n' ''
+ask check loop.rom missing.toml
+judge "no annotations" 3 '' $'device error\n'
+ask check "$six.rom" "$six.cert"
+judge "a certificate as annotations" 1 $'bad annotation text\n' ''
+printf '\x31\x00\x44\xCD\x08\x00\x18\xFE\xCD\x08\x00\xC9' > circle.rom
+ask check circle.rom six.toml
+judge "a procedure that calls itself" 1 $'recursion 0008\n' ''
+ask check "$six.rom" six.toml --cert .
+judge "a folder as FILE" 3 '' $'device error\n'
+ask check "$six.rom" six.toml --cert /dev/full
+judge "a FILE that takes nothing" 3 '' $'device error\n'
+ask check "$six.rom" six.toml --cert
+judge "--cert without a FILE" 2 '' +
+ask check "$six.rom"
+judge "no word for ANNOT" 2 '' +
+
+# Certificates carried to version 2.
+ask migrate "$six.cert"
+cp out migrated.cert
+sed 's/^galcert 1/galcert 2/; s/^\(row 0 .... .\) /\1 0 /; s/^stack/map galaxian\n&/' "$six.cert" > second.cert
+judge "migrated" 0 "$(cat second.cert)"$'\n' ''
+ask migrate migrated.cert
+judge "migrated again" 0 "$(cat second.cert)"$'\n' ''
+ask verify "$six.rom" migrated.cert
+judge "the migrated certificate" 0 "$table" ''
+ask migrate unended.cert
+judge "a certificate without its last line feed, migrated" 1 $'bad certificate line 8\n' ''
+ask migrate missing
+judge "no certificate to migrate" 3 '' $'device error\n'
+for words in "check $six.rom six.toml" "migrate $six.cert"; do
+    # shellcheck disable=SC2086
+    "$galcert" $words > /dev/full 2> err < /dev/null
+    echo $? > status
+    : > out
+    judge "a full device: ${words%% *}" 3 '' $'device error\n'
+done
+
 # Files that give a byte at a time.
 bytes() { python3 -c 'import os, sys
 for byte in open(sys.argv[1], "rb").read(): os.write(1, bytes([byte]))' "$1"; }
 ask run <(bytes "$six.rom") <(bytes "$six.cert") <(bytes "$six.input") 3
 judge "a byte at a time" 0 "$run_of_three" ''
+ask check <(bytes "$six.rom") <(bytes six.toml)
+judge "a byte at a time, checked" 0 "$table" ''
 rows 200 > rows.cert
 ask verify <(bytes "$six.rom") <(bytes rows.cert)
 judge "a byte at a time, 200 rows" 0 "$table" ''

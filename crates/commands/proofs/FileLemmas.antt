@@ -11,7 +11,7 @@ use Rattle.cert_order.specs.Text.{HasTooMany, IsFirstBadLine, text_of}
 use Rattle.certificate.specs.Pieces.{GivesAll, OfBytes}
 use Rattle.texts.proofs.DeviceLemmas.{gives_all}
 use Rattle.texts.specs.Device.{DeviceState, GivesBytes}
-use Rattle.commands.specs.Judging.{HoldAccepted, IsAccepted, OnAccepted, TellsAccepted, TellsRefusal, WritesRefusalOf}
+use Rattle.commands.specs.Judging.{HoldAccepted, IsAccepted, IsTextOf, OnAccepted, TellsAccepted, TellsRefusal, WritesRefusalOf, WritesUnread}
 use Rattle.commands.specs.Reading.{FirstBytes, ROM_READ_LEN}
 use Rattle.commands.specs.Running.{PlaysPart, PlaysTo, PlaysToBadLine, TellsBadInput, TellsPart, TellsRun}
 use Rattle.verdicts.specs.Verdict.{Refused, accepted_text, bad_line_text, refused_text}
@@ -47,12 +47,12 @@ of_first None bytes Holds first holds = (bytes, subst Holds (sym (take_all ROM_R
 of_first (Some all) bytes Holds first holds = subst Holds first.first holds
 
 -- where the ROM is short enough, it holds of the whole file
-of_whole : (rom : Option (List ℕ)) (bytes : List ℕ) (Holds : List ℕ → Type 0) → FirstBytes ROM_READ_LEN rom bytes → length bytes < ROM_READ_LEN → Holds bytes → OfBytes rom Holds
+pub of_whole : (rom : Option (List ℕ)) (bytes : List ℕ) (Holds : List ℕ → Type 0) → FirstBytes ROM_READ_LEN rom bytes → length bytes < ROM_READ_LEN → Holds bytes → OfBytes rom Holds
 of_whole None bytes Holds first few holds = (bytes, holds)
 of_whole (Some all) bytes Holds first few holds = subst Holds (take_whole ROM_READ_LEN all bytes first.first few) holds
 
 -- what follows from what holds of the bytes of a source holds of them too
-of_bytes : (text : Option (List ℕ)) (P Q : List ℕ → Type 0) → ((bytes : List ℕ) → P bytes → Q bytes) → OfBytes text P → OfBytes text Q
+pub of_bytes : (text : Option (List ℕ)) (P Q : List ℕ → Type 0) → ((bytes : List ℕ) → P bytes → Q bytes) → OfBytes text P → OfBytes text Q
 of_bytes (Some bytes) P Q follows holds = follows bytes holds
 of_bytes None P Q follows (bytes, holds) = (bytes, follows bytes holds)
 
@@ -70,31 +70,43 @@ all_given old new text gives = by_bytes old.bytes (λ some. gives_all old new te
     by_bytes None same = (text, refl)
 
 -- a certificate that was read and accepted is that of its source
-pub accepted_of : (rom : List ℕ) (text : Option (List ℕ)) (read kept : Contents) → kept ≡ read → IsInForm read → OfBytes text (λ lines. lines ≡ text_of read) →
+pub accepted_of : (rom : List ℕ) (text : Option (List ℕ)) (read kept : Contents) → kept ≡ read → OfBytes text (IsTextOf read) →
     Accepts rom read → Safe (certified_profile rom read) (nmi_time read) → OfBytes text (λ lines. IsAccepted rom lines kept)
-accepted_of rom text read kept same form is accepts safe =
+accepted_of rom text read kept same is accepts safe =
     subst (λ (c : Contents). OfBytes text (λ lines. IsAccepted rom lines c)) (sym same)
-    (of_bytes text (λ lines. lines ≡ text_of read) (λ lines. IsAccepted rom lines read) (λ lines here. record { in_form = form; text_is = here; accepts = accepts; safe = safe }) is)
+    (of_bytes text (IsTextOf read) (λ lines. IsAccepted rom lines read) (λ lines here. record { in_form = here.in_form; text_is = here.text_is; accepts = accepts; safe = safe }) is)
 
--- the line of the first reason against a certificate that was read was printed
-pub refused_of : (Writes : DeviceState → List ℕ → DeviceState → Type 0) (rom : List ℕ) (text : Option (List ℕ)) (old new : DeviceState) (read : Contents) (refused : Refused) (printed : List ℕ) →
-    IsInForm read → OfBytes text (λ lines. lines ≡ text_of read) → IsRefused rom read refused.row refused.address refused.reason → printed ≡ refused_text refused → Writes old printed new →
-    WritesRefusalOf Writes rom text old new
-refused_of Writes rom text old new read refused printed form is told printed_is writes =
-    of_bytes text (λ lines. lines ≡ text_of read) _
-    (λ lines here. (printed, writes, inl (record { certificate = read; in_form = form; text_is = here; refused = refused; is_refused = told; printed_is = printed_is }))) is
+-- the line of the first reason against a certificate that was read was printed, to a sink that is the same
+pub refused_of : {X : Type 0} (Writes : DeviceState → List ℕ → DeviceState → Type 0) (state : X → DeviceState) (rom : List ℕ) (text : Option (List ℕ)) (new : DeviceState) (read : Contents) (refused : Refused) (printed : List ℕ) (before same : X) →
+    OfBytes text (IsTextOf read) → before ≡ same → IsRefused rom read refused.row refused.address refused.reason → printed ≡ refused_text refused → Writes (state before) printed new →
+    WritesRefusalOf Writes rom text (state same) new
+refused_of {X} Writes state rom text new read refused printed before same is kept told printed_is writes =
+    of_bytes text (IsTextOf read) _
+    (λ lines here. (
+      printed,
+      subst (λ (x : X). Writes (state x) printed new) kept writes,
+      inl (record { certificate = read; in_form = here.in_form; text_is = here.text_is; refused = refused; is_refused = told; printed_is = printed_is }),
+    )) is
+
+-- that a text is no certificate was printed
+pub unread_of : (Writes : DeviceState → List ℕ → DeviceState → Type 0) (rom : List ℕ) (text : Option (List ℕ)) (old new : DeviceState) → WritesUnread Writes text old new → WritesRefusalOf Writes rom text old new
+unread_of Writes rom text old new = of_bytes text _ _ (λ lines told. (told.0, told.1, inr told.2))
+
+-- a certificate that was read is that of its source
+pub read_of : (text : Option (List ℕ)) (read : Contents) → IsInForm read → OfBytes text (λ lines. lines ≡ text_of read) → OfBytes text (IsTextOf read)
+read_of text read form is = of_bytes text (λ lines. lines ≡ text_of read) _ (λ lines here. record { in_form = form; text_is = here }) is
 
 -- the number of the first bad line was printed
-pub bad_line_of : (Writes : DeviceState → List ℕ → DeviceState → Type 0) (rom : List ℕ) (text : Option (List ℕ)) (old new : DeviceState) (line : ℕ) (printed : List ℕ) →
-    OfBytes text (IsFirstBadLine line) → printed ≡ bad_line_text (codes "bad certificate") line → Writes old printed new → WritesRefusalOf Writes rom text old new
-bad_line_of Writes rom text old new line printed bad printed_is writes =
-    of_bytes text (IsFirstBadLine line) _ (λ lines here. (printed, writes, inr (inl (record { line = line; bad = here; printed_is = printed_is })))) bad
+pub bad_line_of : (Writes : DeviceState → List ℕ → DeviceState → Type 0) (text : Option (List ℕ)) (old new : DeviceState) (line : ℕ) (printed : List ℕ) →
+    OfBytes text (IsFirstBadLine line) → printed ≡ bad_line_text (codes "bad certificate") line → Writes old printed new → WritesUnread Writes text old new
+bad_line_of Writes text old new line printed bad printed_is writes =
+    of_bytes text (IsFirstBadLine line) _ (λ lines here. (printed, writes, inl (record { line = line; bad = here; printed_is = printed_is }))) bad
 
 -- that a count is above its limit was printed
-pub limit_of : (Writes : DeviceState → List ℕ → DeviceState → Type 0) (rom : List ℕ) (text : Option (List ℕ)) (old new : DeviceState) (printed : List ℕ) →
-    OfBytes text HasTooMany → printed ≡ codes "bad certificate limit\n" → Writes old printed new → WritesRefusalOf Writes rom text old new
-limit_of Writes rom text old new printed many printed_is writes =
-    of_bytes text HasTooMany _ (λ lines here. (printed, writes, inr (inr (record { many = here; printed_is = printed_is })))) many
+pub limit_of : (Writes : DeviceState → List ℕ → DeviceState → Type 0) (text : Option (List ℕ)) (old new : DeviceState) (printed : List ℕ) →
+    OfBytes text HasTooMany → printed ≡ codes "bad certificate limit\n" → Writes old printed new → WritesUnread Writes text old new
+limit_of Writes text old new printed many printed_is writes =
+    of_bytes text HasTooMany _ (λ lines here. (printed, writes, inr (record { many = here; printed_is = printed_is }))) many
 
 -- what was read of a ROM's file, where it is lent
 pub lent_first : (rom : Option (List ℕ)) (items bytes : List ℕ) → bytes ≡ items → FirstBytes ROM_READ_LEN rom items → FirstBytes ROM_READ_LEN rom bytes

@@ -9,6 +9,11 @@ use Rattle.texts.specs.Device.{DeviceState}
 use Rattle.commands.specs.Reading.{OfFiles, ROM_READ_LEN}
 use Rattle.verdicts.specs.Verdict.{Refused, accepted_text, bad_line_text, refused_text}
 
+-- the text of a certificate
+pub record IsTextOf (certificate : Contents) (text : List ℕ) : Type 0 where
+  pub in_form : IsInForm certificate
+  pub text_is : text ≡ text_of certificate
+
 -- the text of a certificate that is accepted for a ROM, and every run of the board on that ROM is safe
 pub record IsAccepted (rom text : List ℕ) (certificate : Contents) : Type 0 where
   pub in_form : IsInForm certificate
@@ -36,9 +41,18 @@ pub record PrintsLimit (text printed : List ℕ) : Type 0 where
   pub many : HasTooMany text
   pub printed_is : printed ≡ codes "bad certificate limit\n"
 
+-- why a text is no certificate
+abbrev pub PrintsUnread : List ℕ → List ℕ → Type 0
+PrintsUnread text printed = PrintsBadLine text printed ⊎ PrintsLimit text printed
+
 -- why the certificate in this text isn't accepted for a ROM
 abbrev pub PrintsRefusal : List ℕ → List ℕ → List ℕ → Type 0
-PrintsRefusal rom text printed = PrintsRefused rom text printed ⊎ (PrintsBadLine text printed ⊎ PrintsLimit text printed)
+PrintsRefusal rom text printed = PrintsRefused rom text printed ⊎ PrintsUnread text printed
+
+-- a source had a text that is no certificate, for which the line that says why was written to a sink: whole (`Takes`), or it failed amid
+-- it (`FailsAmid`)
+abbrev pub WritesUnread : (DeviceState → List ℕ → DeviceState → Type 0) → Option (List ℕ) → DeviceState → DeviceState → Type 0
+WritesUnread Writes text old new = OfBytes text (λ lines. (printed : List ℕ) × Writes old printed new × PrintsUnread lines printed)
 
 -- the line that says why was written to a sink: whole (`Takes`), or it failed amid it (`FailsAmid`)
 abbrev pub WritesRefusal : (DeviceState → List ℕ → DeviceState → Type 0) → List ℕ → List ℕ → DeviceState → DeviceState → Type 0

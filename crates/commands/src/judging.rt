@@ -1,16 +1,46 @@
-// Whether the certificate in a file is accepted for a ROM.
+// The certificate in a file, and whether it is accepted for a ROM.
 
 ghost use Rattle.std.specs.Prelude.{◌≡◌, ◌≢◌, ◌⊎◌, IfOk, OnOk};
 ghost use Rattle.certificate.specs.Pieces.{OfBytes};
-ghost use Rattle.commands.specs.Judging.{IsAccepted, WritesRefusalOf};
+ghost use Rattle.commands.specs.Judging.{IsAccepted, IsTextOf, WritesRefusalOf, WritesUnread};
 ghost use Rattle.texts.specs.Device.{FailsAmid, HasFailed, IsQuiet, Takes};
 
 use crate::stop::Stop;
-use certificate::{ReadFault, read_from};
+use certificate::{Certificate, ReadFault, read_from};
 use runner::cert_checker::{Accepted, CheckFault, check};
 use std::alloc::Global;
 use texts::{Sink, Source, put};
 use verdicts::{bad_line, refused_line};
+
+/// Reads a certificate. Where the text is none, the line that says why is written.
+pub fn read_certificate<B: Source, W: Sink>(
+    alloc: Global,
+    cert: &mut B,
+    out: &mut W,
+) -> Result<Certificate, Stop>
+    ensures read { IfOk result (λ certificate. OfBytes (B.state cert.old).bytes (IsTextOf certificate)) }
+    ensures kept { OnOk result (out.new ≡ out.old) }
+    ensures refused { result ≡ Err Stop.Refused → WritesUnread Takes (B.state cert.old).bytes (W.state out.old) (W.state out.new) }
+    ensures device { result ≡ Err Stop.Device → HasFailed (B.state cert.old) (B.state cert.new) ⊎ HasFailed (W.state out.old) (W.state out.new) }
+    ensures part { result ≡ Err Stop.Device → (out.new ≡ out.old) ⊎ WritesUnread FailsAmid (B.state cert.old).bytes (W.state out.old) (W.state out.new) }
+    ensures told { result ≢ Err Stop.Device → IsQuiet (B.state cert.old) (B.state cert.new) × IsQuiet (W.state out.old) (W.state out.new) }
+    ensures order { IsQuiet (B.state cert.old) (B.state cert.new) ⊎ (out.new ≡ out.old) }
+    ensures memory { result ≡ Err Stop.OutOfMemory → out.new ≡ out.old }
+{
+    match read_from(alloc, cert) {
+        Ok(certificate) => Ok(certificate),
+        Err(ReadFault::Line(line)) => {
+            put(out, bad_line(b"bad certificate", line).bytes())?;
+            Err(Stop::Refused)
+        }
+        Err(ReadFault::Limit) => {
+            put(out, b"bad certificate limit\n")?;
+            Err(Stop::Refused)
+        }
+        Err(ReadFault::NoMemory) => Err(Stop::OutOfMemory),
+        Err(ReadFault::Read) => Err(Stop::Device),
+    }
+}
 
 /// Reads a certificate, and checks it for a ROM. Where it is not accepted, the line that says why is written.
 pub fn judge<'r, B: Source, W: Sink>(
@@ -28,18 +58,9 @@ pub fn judge<'r, B: Source, W: Sink>(
     ensures order { IsQuiet (B.state cert.old) (B.state cert.new) ⊎ (out.new ≡ out.old) }
     ensures memory { result ≡ Err Stop.OutOfMemory → out.new ≡ out.old }
 {
-    let certificate = match read_from(alloc, cert) {
+    let certificate = match read_certificate(alloc, cert, out) {
         Ok(certificate) => certificate,
-        Err(ReadFault::Line(line)) => {
-            put(out, bad_line(b"bad certificate", line).bytes())?;
-            return Err(Stop::Refused);
-        }
-        Err(ReadFault::Limit) => {
-            put(out, b"bad certificate limit\n")?;
-            return Err(Stop::Refused);
-        }
-        Err(ReadFault::NoMemory) => return Err(Stop::OutOfMemory),
-        Err(ReadFault::Read) => return Err(Stop::Device),
+        Err(stop) => return Err(stop),
     };
     match check(alloc, rom, certificate) {
         Ok(accepted) => Ok(accepted),

@@ -1,6 +1,7 @@
-// The file of a ROM.
+// Files that are read to their end.
 
 ghost use Rattle.std.specs.Prelude.{◌≡◌, ◌≢◌, ◌≤◌, ◌<◌, ◌⊎◌, vec_len, IfOk, IfSome};
+ghost use Rattle.certificate.specs.Pieces.{OfBytes};
 ghost use Rattle.texts.specs.Device.{Gives, HasFailed, IsQuiet};
 ghost use Rattle.commands.specs.Reading.{FirstBytes, GivesUpTo};
 
@@ -35,4 +36,24 @@ pub fn read_rom<R: Source>(alloc: Global, rom: &mut R) -> Result<Vec<u8>, Stop>
         bytes.extend_from_slice(&chunk[..count])?;
     }
     Ok(bytes)
+}
+
+/// Reads a file to its end.
+pub fn read_all<B: Source>(alloc: Global, file: &mut B) -> Result<Vec<u8>, Stop>
+    ensures all { IfOk result (λ bytes. OfBytes (B.state file.old).bytes (λ all. all ≡ bytes.items)) }
+    ensures device { result ≡ Err Stop.Device → HasFailed (B.state file.old) (B.state file.new) }
+    ensures told { result ≢ Err Stop.Device → IsQuiet (B.state file.old) (B.state file.new) }
+    ensures never { result ≢ Err Stop.Refused }
+{
+    let mut bytes = Vec::new(alloc);
+    let mut chunk = [0; CHUNK_LEN];
+    loop {
+        let Ok(count) = file.read(&mut chunk) else {
+            return Err(Stop::Device);
+        };
+        if count == 0 {
+            return Ok(bytes);
+        }
+        bytes.extend_from_slice(&chunk[..count])?;
+    }
 }

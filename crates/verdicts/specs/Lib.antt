@@ -1,2 +1,3 @@
 -- The definitions: the lines of a verdict.
 pub mod Verdict
+pub mod WriterRefusals

@@ -1,0 +1,40 @@
+// Memory that is refused once, at each of the growths in turn (`rt try --test --fail-alloc N`): the command has status 4 and writes
+// and keeps nothing, and the next one goes as if nothing had been.
+
+use crate::checks::{Outcome, check_whole, migrated};
+use crate::samples::{COUNTED, COUNTED_TABLE, COUNTING, ENABLING, JUMP_CERTIFICATE, with_routine};
+use std::test::Fail;
+
+/// Whether a command ended for want of memory and wrote nothing; with status 3 it was a sink of this test that wanted memory.
+fn wants_memory(after: &Outcome) -> bool {
+    after.is(4, "") || after.status == 3
+}
+
+#[test]
+fn check_again(rt: HostRuntime) -> Result<(), Fail> {
+    let alloc = rt.alloc();
+    let rom = with_routine(alloc, ENABLING, COUNTING)?;
+    let mut refused = 0u8;
+    for _ in 0..3 {
+        let after = check_whole(alloc, rom.as_slice(), COUNTED);
+        if !after.is(0, COUNTED_TABLE) {
+            assert!(rt; wants_memory(&after));
+            refused = refused.wrapping_add(1);
+        }
+    }
+    assert!(rt; refused <= 1);
+    Ok(())
+}
+
+#[test]
+fn migrate_again(rt: HostRuntime) {
+    let cert = JUMP_CERTIFICATE.as_bytes();
+    let mut refused = 0u8;
+    for _ in 0..3 {
+        match migrated(rt.alloc(), cert, 0) {
+            Some(text) => assert!(rt; text.as_slice().starts_with(b"galcert 2\n")),
+            None => refused = refused.wrapping_add(1),
+        }
+    }
+    assert!(rt; refused <= 1);
+}
