@@ -1,6 +1,4 @@
 PREFIX ?= /usr/local
-# How many crates are proved at a time; each takes 1 to 2 GB.
-JOBS ?= 4
 SIX = examples/six-bytes/six
 
 .PHONY: all test edits install clean
@@ -13,7 +11,7 @@ all: galcert
 # What the program stands on is proved before it is built, lowest first.
 galcert: crates.txt $(shell find crates -name '*.rt' -o -name '*.antt' | grep -v /out/)
 	@echo "== proving what galcert stands on; the first time takes some minutes"
-	tools/prove.py $(JOBS) galcert
+	tools/prove.py galcert
 	@echo "== building ./galcert"
 	cd crates/galcert && rt run -- verify ../../$(SIX).rom ../../$(SIX).cert
 	cp crates/galcert/out/galcert galcert

@@ -1,28 +1,143 @@
-#!/usr/bin/env bash
-# Times calls of `successors` at all documented codes from random states, by processor time, in turns with libz80ex's mixed
-# loop (apt-get install libz80ex-dev). Prints the calls a second, the least of five rounds, and what that is on a core that
-# runs the mixed loop at 50 million events a second: the aim is 2,000,000.
-set -euo pipefail
-here=$(cd "$(dirname "$0")" && pwd)
-calls=${1:-20000000}
-events=50000000
-work=$(mktemp -d)
-trap 'rm -rf "$work"' EXIT
-cc -O2 -o "$work/libz80ex" "$here/libz80ex.c" -lz80ex
-(cd "$here/../crates/benchmarks" && rt run > /dev/null < /dev/null)
-ours=$here/../crates/benchmarks/out/benchmarks
-theirs=$work/libz80ex
+#!/bin/sh
+# Times how the program judges certificates by the rules, and how much memory it takes for that.
+#
+# usage: bench/rules.sh [PROGRAM]        PROGRAM is ./galcert where none is named
+#
+# It makes ROMs with certificates that are accepted: straight-line code of 65,529 rows in procedures with a time, and of half as many;
+# 10,000 calls of 1,022 procedures; 65,535 rows at two addresses, where the row that covers is the last one; 2,000 calls of a procedure of 2,000
+# exits, without times and with them; and 8,192 rows at two addresses, with pairs and shapes, where each is covered by another. Each is handed to
+# `PROGRAM verify` up to three times, and as often for a ROM of another length, which is refused at once: what is told are the least processor time
+# and the greatest memory beyond those of reading. The last grows fourfold with twice the rows.
+set -eu
+cd "$(dirname "$0")/.."
+exec python3 - "${1:-./galcert}" <<'PYTHON'
+import os
+import subprocess
+import sys
+import tempfile
 
-# The processor time of a command, in seconds.
-TIMEFORMAT=%U
-seconds() { { time "$@" < /dev/null > /dev/null; } 2>&1; }
+PROGRAM = os.path.abspath(sys.argv[1])
+ANY = "* " * 10
+OWN = "*@AF *@BC *@DE *@HL *@IX *@IY *@AF' *@BC' *@DE' *@HL' "
 
-for _ in 1 2 3 4 5; do
-    seconds "$ours" 0 0 0 "$calls" >> "$work/ours"
-    seconds "$theirs" "$events" >> "$work/theirs"
-done
-least() { sort -n "$1" | head -1; }
-"$ours" 0 0 0 "$calls" < /dev/null | head -1
-echo "$(least "$work/ours") $(least "$work/theirs") $calls $events" | awk '{
-    printf "successors %.1f ns a call, libz80ex %.1f ns an event\n", $1 * 1e9 / $3, $2 * 1e9 / $4
-    printf "%.2f million calls a second, %.2f million at 50 million events\n", $3 / $1 / 1e6, $3 / $1 / 1e6 * 50e6 * $2 / $4 }'
+
+def text(rom, procs, rows):
+    """A certificate of version 1 without an NMI routine."""
+    head = f"galcert 1\nrom {len(rom)}\nstack 4380 4400\nbudget -\n"
+    return head + "".join(f"proc {proc}\n" for proc in procs) + "".join(f"row {row}\n" for row in rows) + "end\n"
+
+
+def word(value):
+    return bytes([value % 256, value // 256])
+
+
+def straight(nops):
+    """Main is a loop; four procedures of one code, each entered at another of its NOPs."""
+    rom = b"\x18\xFE" + bytes(nops) + b"\xC9"
+    time = 4 * nops + 10
+    procs = ["main 0000 1 0 -"] + [f"sub {2 + i:04X} 0 2 {time}" for i in range(4)]
+    rows = [f"0 0000 u {ANY}- - - -"]
+    for proc in range(1, 5):
+        rows += [f"{proc} {2 + at:04X} s *@AF 0{proc}00-08FF:0{proc}-08:00-FF *@DE *@HL *@IX *@IY * * * * zB - - {time - 4 * at}"
+                 for at in range(nops + 1)]
+    return rom, text(rom, procs, rows)
+
+
+def calls(places, callees):
+    """Half of the calls in main, and once more in a procedure of the same code; each callee is one RET."""
+    first = 3 + 3 * places // 2 + 3
+    rom = b"\x31\x00\x44"
+    rom += b"".join(b"\xCD" + word(first + i % callees) for i in range(places // 2))
+    rom += b"\xC3\x03\x00" + b"\xC9" * callees
+    procs = ["main 0000 2 4 -", "sub 0003 1 4 -"] + [f"sub {first + i:04X} 0 2 -" for i in range(callees)]
+    rows = [f"0 0000 u {ANY}- - - -"]
+    for proc in range(2):
+        rows += [f"{proc} {3 + 3 * i:04X} s {ANY}- - - -" for i in range(places // 2 + 1)]
+    rows += [f"{2 + i} {first + i:04X} s {OWN}- - - -" for i in range(callees)]
+    return rom, text(rom, procs, rows)
+
+
+# NOP and a jump back: the two addresses of the rows.
+TWO = b"\x00\xC3\x00\x00"
+
+
+def many_last(count):
+    """Each row at 0000 leads to rows of which the last alone covers."""
+    half = count // 2
+    rows = [f"0 0000 u {ANY}- - - -"]
+    rows += [f"0 0000 u * * {number:04X}-FFFF:00-FF:00-FF * * * * * * * - - - -" for number in range(1, half)]
+    rows += [f"0 0001 s * * {number:04X}-FFFF:00-FF:00-FF * * * * * * * - - - -" for number in range(1, count - half)]
+    rows += [f"0 0001 u {ANY}- - - -"]
+    return TWO, text(TWO, ["main 0000 0 0 -"], rows)
+
+
+def many_each(count):
+    """Each row leads to rows of which another one alone covers, by the word in DE: the later a row stands, the earlier that."""
+    half = (count - 2) // 2
+    known = [f"{number:04X}-{number:04X}:{number // 256:02X}-{number // 256:02X}:{number % 256:02X}-{number % 256:02X}"
+             for number in range(half)]
+    rows = [f"0 0000 u {ANY}- - - -"]
+    rows += [f"0 0000 s * * {pair} * * * * * * * - - *@BC,{pair} -" for pair in known]
+    rows += [f"0 0001 u {ANY}- - - -"]
+    rows += [f"0 0001 s * * {pair} * * * * * * * - - *@BC,{pair} -" for pair in reversed(known)]
+    return TWO, text(TWO, ["main 0000 0 4 -"], rows)
+
+
+def exits(places, count, timed):
+    """Calls, one behind another, of a procedure that is made of RET NZ."""
+    first = 2 + 3 * places + 1
+    rom = b"\x18\xFE" + (b"\xCD" + word(first)) * places + b"\xC9" + b"\xC0" * count + b"\xC9"
+    took = 5 * count + 10
+    whole = places * (17 + took) + 10
+    times = (str(whole), str(took)) if timed else ("-", "-")
+    procs = ["main 0000 2 0 -", f"sub 0002 1 4 {times[0]}", f"sub {first:04X} 0 2 {times[1]}"]
+    rows = [f"0 0000 u {ANY}- - - -"]
+    rows += [f"1 {2 + 3 * i:04X} s {OWN}- - - {whole - i * (17 + took) if timed else '-'}" for i in range(places + 1)]
+    rows += [f"2 {first + i:04X} s {OWN}- - - {took - 5 * i if timed else '-'}" for i in range(count + 1)]
+    return rom, text(rom, procs, rows)
+
+
+def run(rom, cert):
+    """The processor time in seconds, the greatest memory in KB and the first line of the answer of one run."""
+    child = subprocess.Popen([PROGRAM, "verify", rom, cert], stdout=subprocess.PIPE, stderr=subprocess.STDOUT)
+    out = child.stdout.read().decode()
+    _, _, usage = os.wait4(child.pid, 0)
+    child.returncode = 0
+    return usage.ru_utime + usage.ru_stime, usage.ru_maxrss, out.split("\n")[0]
+
+
+def write(made, paths):
+    """Writes a ROM, its certificate and another ROM, in a process of its own, since what a child begins with counts as its memory."""
+    child = os.fork()
+    if child == 0:
+        rom, cert = made()
+        for path, content in zip(paths, (rom, cert.encode(), b"\x00")):
+            with open(path, "wb") as file:
+                file.write(content)
+        os._exit(0)
+    if os.waitpid(child, 0)[1] != 0:
+        sys.exit("no files were made")
+
+
+def tell(folder, what, made, times=3):
+    """The processor time that the rules take, in seconds."""
+    paths = [os.path.join(folder, name) for name in ("rom", "cert", "other")]
+    write(made, paths)
+    read = min(run(paths[2], paths[1]) for _ in range(times))
+    runs = [run(paths[0], paths[1]) for _ in range(times)]
+    seconds, memory = min(runs)[0] - read[0], max(r[1] for r in runs) - read[1]
+    print(f"{what:48} {seconds:7.3f} s {memory:8} KB   {runs[0][2]}", flush=True)
+    return seconds
+
+
+with tempfile.TemporaryDirectory() as folder:
+    tell(folder, "one row", lambda: (b"\x18\xFE", text(b"\x18\xFE", ["main 0000 0 0 -"], [f"0 0000 u {ANY}- - - -"])))
+    half = tell(folder, "32,765 rows of straight-line code", lambda: straight(8190))
+    whole = tell(folder, "65,529 rows of straight-line code", lambda: straight(16381))
+    print(f"twice the rows: {whole / half:.2f} times as long")
+    tell(folder, "10,000 calls of 1,022 procedures", lambda: calls(10000, 1022))
+    tell(folder, "65,535 rows at two addresses, the last covers", lambda: many_last(65535))
+    tell(folder, "2,000 calls of a procedure of 2,000 exits", lambda: exits(2000, 2000, False), 1)
+    tell(folder, "the same with times", lambda: exits(2000, 2000, True), 1)
+    tell(folder, "8,192 rows at two addresses, each covers once", lambda: many_each(8192), 1)
+PYTHON

@@ -1,9 +1,8 @@
 #!/usr/bin/env python3
-"""Proves a crate and all that it stands on, lowest first, some at a time: tools/prove.py JOBS CRATE.
+"""Proves a crate and all that it stands on, lowest first: tools/prove.py CRATE.
 
 Prints a line as each crate begins, with what the crate is, and what rt said of one that is not proved."""
 
-import concurrent.futures
 import pathlib
 import subprocess
 import sys
@@ -50,33 +49,23 @@ def head(name):
     return text.split(". ")[0].split(" (docs")[0].rstrip(".")
 
 
-def prove(name):
-    return subprocess.run(["rt", "check"], cwd=ROOT / "crates" / name, stdout=subprocess.PIPE, stderr=subprocess.STDOUT)
+def prove(name, below):
+    """Proves a crate; a library that others stand on is built too. A check keeps out all others of what it stands on, so they go one by one."""
+    words = ["rt", "lib" if below else "check"]
+    return subprocess.run(words, cwd=ROOT / "crates" / name, stdout=subprocess.PIPE, stderr=subprocess.STDOUT)
 
 
 def main():
-    jobs, top = int(sys.argv[1]), sys.argv[2]
-    named = crates()
-    waiting = needed(named, top)
-    count, begun, proved = len(waiting), 0, set()
+    top = sys.argv[1]
+    order = needed(crates(), top)
     start = time.monotonic()
-    with concurrent.futures.ThreadPoolExecutor(jobs) as pool:
-        running = {}
-        while waiting or running:
-            for name in [n for n in waiting if all(low in proved for low in named[n])]:
-                if len(running) < jobs:
-                    begun += 1
-                    minutes, seconds = divmod(int(time.monotonic() - start), 60)
-                    print(f"[{begun} of {count}, {minutes}:{seconds:02}] proving {name}: {head(name)}", flush=True)
-                    waiting.remove(name)
-                    running[pool.submit(prove, name)] = name
-            done, _ = concurrent.futures.wait(running, return_when=concurrent.futures.FIRST_COMPLETED)
-            for future in done:
-                name, result = running.pop(future), future.result()
-                if result.returncode != 0:
-                    sys.stdout.write(result.stdout.decode(errors="replace"))
-                    sys.exit(f"{name} is not proved")
-                proved.add(name)
+    for number, name in enumerate(order, 1):
+        minutes, seconds = divmod(int(time.monotonic() - start), 60)
+        print(f"[{number} of {len(order)}, {minutes}:{seconds:02}] proving {name}: {head(name)}", flush=True)
+        result = prove(name, name != top)
+        if result.returncode != 0:
+            sys.stdout.write(result.stdout.decode(errors="replace"))
+            sys.exit(f"{name} is not proved")
 
 
 main()

@@ -1,18 +1,22 @@
 // The program that bench/ times and compares: EVENTS of a mixed loop on the checked step, ORDERS of calls without a circle and
-// CIRCLES with one, CALLS of `successors` (each skipped where it is 0), and the steps that standard input tells, one a line.
+// CIRCLES with one, CALLS of `successors`, TWINS events of a ROM on the runner beside the checked step (each skipped where it is 0),
+// and the steps that standard input tells, one a line. Behind these five numbers stand a seed, a ROM's file and its certificate's.
 #![tactic(auto)]
 
 mod call_order;
 mod mixed_loop;
+mod numbers;
 mod rules;
 mod steps;
+mod twins;
 mod vectors;
 
-use std::{env, io};
+use crate::twins::Twins;
+use std::{env, fs, io};
 
-/// The first four arguments: 0 where there is none.
-fn counts(rt: &HostRuntime) -> [u64; 4] {
-    let mut counts = [0; 4];
+/// The first six arguments: 0 where there is none.
+fn counts(rt: &HostRuntime) -> [u64; 6] {
+    let mut counts = [0; 6];
     let Ok(words) = env::args(rt) else {
         return counts;
     };
@@ -26,7 +30,7 @@ fn counts(rt: &HostRuntime) -> [u64; 4] {
 }
 
 fn main(rt: HostRuntime) -> io::Result<()> {
-    let [events, orders, circles, calls] = counts(&rt);
+    let [events, orders, circles, calls, twins, seed] = counts(&rt);
     if events > 0 {
         print_loop(&rt, events)?;
     }
@@ -38,6 +42,9 @@ fn main(rt: HostRuntime) -> io::Result<()> {
     }
     if calls > 0 {
         print_rules(&rt, calls)?;
+    }
+    if twins > 0 {
+        print_twins(&rt, twins, seed)?;
     }
     compare_steps(&rt)
 }
@@ -75,6 +82,21 @@ fn print_rules(rt: &HostRuntime, calls: u64) -> io::Result<()> {
     match rules::counted(rt.alloc(), calls) {
         Ok((ways, refused)) => println!(rt; "{calls} rows: {ways} ways on, {refused} refused"),
         Err(_) => println!(rt; "out of memory"),
+    }
+}
+
+fn print_twins(rt: &HostRuntime, events: u64, seed: u64) -> io::Result<()> {
+    let words = env::args(rt)?.collect::<Vec<String>>(rt.alloc())?;
+    let (Some(rom), Some(cert)) = (words.get(7), words.get(8)) else {
+        return println!(rt; "no files");
+    };
+    let (rom, cert) = (fs::read(rt, rom.as_str())?, fs::read(rt, cert.as_str())?);
+    match twins::compared(rt.alloc(), rom.as_slice(), cert.as_slice(), events, seed) {
+        Twins::Refused => println!(rt; "not accepted"),
+        Twins::Differ(at) => println!(rt; "event {at} differs"),
+        Twins::Agree(accepts) => println!(rt;
+            "{events} events agree, {accepts} of them acceptances"
+        ),
     }
 }
 

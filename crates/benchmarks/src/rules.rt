@@ -1,5 +1,6 @@
 // Calls of `successors` at all documented codes, from random states.
 
+use crate::numbers::Numbers;
 use abs_state::{AbsState, FlagFact, KeptCell, Mode};
 use abs_step::successors;
 use address_map::{Map, Rom};
@@ -8,24 +9,7 @@ use intervals::{ByteRange, Pair, RegPair, WordRange};
 use std::alloc::{AllocError, Global};
 use z80_decode::{Register8, decode};
 
-/// Random numbers, always the same.
-#[derive(Drop)]
-struct Numbers {
-    state: u64,
-}
-
 impl Numbers {
-    /// A number from 0 to 65,535.
-    fn word(&mut self) -> u16 {
-        let product = self.state.wrapping_mul(6_364_136_223_846_793_005);
-        self.state = product.wrapping_add(1_442_695_040_888_963_407);
-        (self.state >> 48) as u16
-    }
-
-    fn byte(&mut self) -> u8 {
-        (self.word() / 256) as u8
-    }
-
     /// Words from one on, at most 256.
     fn words_from(&mut self, low: u16) -> WordRange {
         let high = low.saturating_add(u16::from(self.byte()));
@@ -167,7 +151,7 @@ impl Codes {
 
 /// How many ways on there were in so many calls, one code and one state after another, and how many calls refused the row.
 pub fn counted(alloc: Global, calls: u64) -> Result<(u64, u64), AllocError> {
-    let mut numbers = Numbers { state: 1 };
+    let mut numbers = Numbers::from_seed(1);
     let codes = Codes::of(alloc, &mut numbers)?;
     let mut states = Vec::new(alloc);
     for _ in 0..STATES {

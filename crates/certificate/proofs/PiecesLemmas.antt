@@ -1,5 +1,5 @@
 -- The text that a source gives in pieces, and what it is answered.
-use Rattle.std.proofs.Common.{◌≡◌, ◌<◌, ◌≤◌, ◌==◌, ◌+◌, ◌⊎◌, inl, inr, ℕ, suc, Bool, true, false, IsTrue, if◌then◌else◌, ◌∷◌, [], ◌++◌, List, length, Option, Some, None, IfSome, IsSome, Result, Ok, Err, refl, sym, ap, subst, ◌∙◌, arith, append_assoc, append-nil, length-append}
+use Rattle.std.proofs.Common.{◌≡◌, ◌≢◌, ◌<◌, ◌≤◌, ◌==◌, ◌+◌, ◌⊎◌, inl, inr, ℕ, suc, Bool, true, false, IsTrue, if◌then◌else◌, ◌∷◌, [], ◌++◌, List, length, Option, Some, None, IfSome, IsSome, Result, Ok, Err, refl, sym, ap, subst, ◌∙◌, arith, append_assoc, append-nil, length-append}
 use Rattle.std.specs.List.{AllByRecursion, slice_split}
 use Rattle.std.proofs.lemmas.Bool.{ne_eqb}
 use Rattle.std.proofs.lemmas.List.{length-map}
@@ -102,6 +102,25 @@ rest_of : (left : Option (List ℕ)) (bytes : List ℕ) (after : Option (List �
 rest_of left bytes after given rest is =
     let (more, _, parts) = subst (λ (o : Option (List ℕ)). GivesBytes o bytes after) is given in
     (more, parts)
+
+-- a list that ends in others has as many at least
+no_fewer : (more text rest : List ℕ) → rest ≡ text ++ more → 0 < length text → 0 < length rest
+no_fewer more text rest parts some = omega (arith, some, ap length parts, length-append text more)
+
+no_bytes : (text rest : List ℕ) → 0 < length rest → text ++ rest ≡ [] → ⊥
+no_bytes text rest some none = omega (arith, some, ap length none, length-append text rest)
+
+-- a source that gave some bytes behind the lines that were read has bytes
+pub source_some : (first mid after : DeviceState) (p : Progress) (text : List ℕ) → HasGiven first p mid → Gives mid text after →
+    0 < length text → OfBytes first.bytes (λ bytes. bytes ≢ [])
+source_some first mid after p text has next some =
+    of_bytes first mid p (λ rest. 0 < length rest) (λ bytes. bytes ≢ []) has
+    (λ bytes rest more stands none.
+    no_bytes (text_of_lines p.contents.version (lines_read p)) rest more (sym stands.text ∙ none))
+    text some
+    (λ rest is.
+    let (more, parts) = rest_of mid.bytes text after.bytes next.given rest is in
+    no_fewer more text rest parts some)
 
 -- the next line was refused
 pub refused_line : (T : Type 0) (first mid after : DeviceState) (p new : Progress) (text : List ℕ) (fault : CertFault) →

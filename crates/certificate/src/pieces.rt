@@ -1,6 +1,6 @@
 // A certificate that is read in pieces.
 
-ghost use Rattle.std.specs.Prelude.{◌≡◌, ◌≢◌, ℕ, Some, IfOk, Err};
+ghost use Rattle.std.specs.Prelude.{◌≡◌, ◌≢◌, ℕ, [], Some, IfOk, Err};
 ghost use Rattle.cert_order.specs.Contents.{Contents, IsInForm};
 ghost use Rattle.cert_order.specs.Text.{HasTooMany, IsFirstBadLine, text_of};
 ghost use Rattle.certificate.specs.Pieces.{GivesAll, IsReadUnless, OfBytes, read_fault};
@@ -48,7 +48,7 @@ impl From<CertFault> for ReadFault {
 ///
 /// # Errors
 ///
-/// As those of `read`, and `Read` where the source failed. A line is judged once its LF, its 1,048,576th byte or the end was read, and its
+/// As those of `read`, and `Read` where the source failed; `NoMemory` where memory was refused for a byte of a line, or for a line of a list. A line is judged once its LF, its 1,048,576th byte or the end was read, and its
 /// fault is answered before another read is asked for.
 pub fn read_from<R: Source>(alloc: Global, input: &mut R) -> Result<Certificate, ReadFault>
     // What is read is in form, and its text is all that the source gave and has.
@@ -59,6 +59,8 @@ pub fn read_from<R: Source>(alloc: Global, input: &mut R) -> Result<Certificate,
     // Which fault other bytes give.
     ensures line { (n : ℕ) → result ≡ Err (ReadFault.Line n) → OfBytes (R.state input.old).bytes (IsFirstBadLine n) }
     ensures limit { result ≡ Err ReadFault.Limit → OfBytes (R.state input.old).bytes HasTooMany }
+    // Memory is asked for once a byte was read, for the line that it begins.
+    ensures memory { result ≡ Err ReadFault.NoMemory → OfBytes (R.state input.old).bytes (λ bytes. bytes ≢ []) }
     // When the source failed: then, and only then, it is told.
     ensures quiet { result ≢ Err ReadFault.Read → IsQuiet (R.state input.old) (R.state input.new) }
     ensures failed { result ≡ Err ReadFault.Read → HasFailed (R.state input.old) (R.state input.new) }

@@ -1,59 +1,78 @@
-// Memory that is refused once, at each of the growths in turn (`rt try --test --fail-alloc N`): the call answers `NoMemory`, and
-// the next one as if nothing had been.
+// Memory that is refused once, at each of the growths in turn (`tools/memory.sh certificate_tests`): the call answers `NoMemory`, and
+// the next one, with memory, as if nothing had been. A refusal is told by a line.
 
 use crate::parts::parts_of;
-use crate::samples::{EVERY_FORM, ROUTINE};
-use certificate::{CertFault, Certificate, ReadFault, read, read_from};
-use memory_devices::Bytes;
+use crate::samples::EVERY_FORM;
+use certificate::{CertFault, Certificate, Parts, ReadFault, read, read_from, write};
+use memory_devices::{Bytes, Taken};
+use std::alloc::Global;
 use std::test::Fail;
 
-#[test]
-fn read_again(rt: HostRuntime) {
-    let mut refused = 0u8;
-    for _ in 0..3 {
-        match read(rt.alloc(), EVERY_FORM.as_bytes()) {
-            Ok(certificate) => assert!(rt; certificate.row_count() == 5),
-            Err(fault) => {
-                assert!(rt; fault == CertFault::NoMemory);
-                refused = refused.wrapping_add(1);
-            }
-        }
-    }
-    assert!(rt; refused <= 1);
+/// Whether a certificate is written as the text of every form.
+fn is_every_form(alloc: Global, certificate: &Certificate) -> bool {
+    let mut out = Taken::new(alloc);
+    write(certificate, &mut out).is_ok() && out.bytes.as_slice() == EVERY_FORM.as_bytes()
 }
 
 #[test]
-fn read_from_again(rt: HostRuntime) {
-    let mut refused = 0u8;
-    for _ in 0..3 {
-        let mut input = Bytes::failing(ROUTINE.as_bytes(), 100, u64::MAX);
-        match read_from(rt.alloc(), &mut input) {
-            Ok(certificate) => assert!(rt; certificate.row_count() == 9),
-            Err(fault) => {
-                assert!(rt; fault == ReadFault::NoMemory);
-                refused = refused.wrapping_add(1);
-            }
+fn read_again(rt: HostRuntime) -> Result<(), Fail> {
+    match read(rt.alloc(), EVERY_FORM.as_bytes()) {
+        Ok(certificate) => assert!(rt; certificate.row_count() == 5),
+        Err(fault) => {
+            println!(rt; "refused in read")?;
+            assert!(rt; fault == CertFault::NoMemory);
+            let again = read(rt.alloc(), EVERY_FORM.as_bytes())?;
+            assert!(rt; is_every_form(rt.alloc(), &again));
         }
     }
-    assert!(rt; refused <= 1);
+    Ok(())
+}
+
+/// What is read of a source that gives a hundred bytes at once.
+fn read_in_pieces(alloc: Global) -> Result<Certificate, ReadFault> {
+    read_from(
+        alloc,
+        &mut Bytes::failing(EVERY_FORM.as_bytes(), 100, u64::MAX),
+    )
+}
+
+#[test]
+fn read_from_again(rt: HostRuntime) -> Result<(), Fail> {
+    match read_in_pieces(rt.alloc()) {
+        Ok(certificate) => assert!(rt; certificate.row_count() == 5),
+        Err(fault) => {
+            println!(rt; "refused in read_from")?;
+            assert!(rt; fault == ReadFault::NoMemory);
+            let again = read_in_pieces(rt.alloc())?;
+            assert!(rt; is_every_form(rt.alloc(), &again));
+        }
+    }
+    Ok(())
+}
+
+/// The parts of the certificate of every form, or none where there is no memory for them.
+fn parts(alloc: Global) -> Option<Parts> {
+    let certificate = read(alloc, EVERY_FORM.as_bytes()).ok()?;
+    parts_of(alloc, &certificate).ok()
 }
 
 #[test]
 fn made_again(rt: HostRuntime) -> Result<(), Fail> {
-    let mut refused = 0u8;
-    for _ in 0..3 {
-        let Ok(certificate) = read(rt.alloc(), ROUTINE.as_bytes()) else {
-            return Ok(());
-        };
-        let parts = parts_of(rt.alloc(), &certificate)?;
-        match Certificate::of(rt.alloc(), parts) {
-            Ok(made) => assert!(rt; made.row_count() == 9),
-            Err(fault) => {
-                assert!(rt; fault == CertFault::NoMemory);
-                refused = refused.wrapping_add(1);
-            }
+    let Some(first) = parts(rt.alloc()) else {
+        println!(rt; "refused before Certificate::of")?;
+        return Ok(());
+    };
+    match Certificate::of(rt.alloc(), first) {
+        Ok(made) => assert!(rt; made.row_count() == 5),
+        Err(fault) => {
+            println!(rt; "refused in Certificate::of")?;
+            assert!(rt; fault == CertFault::NoMemory);
+            let Some(second) = parts(rt.alloc()) else {
+                return Err(Fail::new("no memory for the parts"));
+            };
+            let again = Certificate::of(rt.alloc(), second)?;
+            assert!(rt; is_every_form(rt.alloc(), &again));
         }
     }
-    assert!(rt; refused <= 1);
     Ok(())
 }

@@ -1,28 +1,10 @@
 // Calls and the words on the stack.
 
-use crate::changes::is_refused;
-use crate::commands_over::{run_whole, verify_whole};
-use crate::samples::{certificate_text, rows_text};
+use command_samples::{
+    SAVE, SAVE_CERTIFICATE, SAVE_TABLE, certificate_text, is_refused, rows_text, run_whole,
+    verify_whole,
+};
 use std::test::Fail;
-
-/// LD SP,4400H; CALL 0008H; JR -2; and from 0008 PUSH BC; LD B,3; POP BC; RET
-pub const SAVE: &[u8] = &[
-    0x31, 0x00, 0x44, 0xCD, 0x08, 0x00, 0x18, 0xFE, 0xC5, 0x06, 0x03, 0xC1, 0xC9,
-];
-
-pub const SAVE_CERTIFICATE: &str = rows_text!(
-    1, "rom 13\nstack 4380 4400\nbudget -\nproc main 0000 1 4 -\nproc sub 0008 0 4 -";
-    "0000 u" "* * * *" "- - - -",
-    "0003 s" "* * * *" "- - - -",
-    "0006 s" "* * * *" "- - - -";
-    "1 0008 s" "*@AF *@BC *@DE *@HL" "- - - -",
-    "1 0009 s" "*@AF *@BC *@DE *@HL" "- - *@BC -",
-    "1 000B s" "*@AF 0300-03FF:03-03:00-FF *@DE *@HL" "- - *@BC -",
-    "1 000C s" "*@AF *@BC *@DE *@HL" "- - - -"
-);
-
-pub const SAVE_TABLE: &str = "accepted\nmain 0000 depth     4 time      -\n\
-    sub  0008 depth     4 time      -\nstack 4 of 128\nnmi none\n";
 
 /// A part of its text, another in its place, and the refusal.
 const SAVE_CHANGES: &[(&str, &str, &str)] = &[

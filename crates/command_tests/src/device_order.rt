@@ -1,7 +1,6 @@
 // Which devices are asked, and in which order.
 
-use crate::commands_over::{accepted, run, verify};
-use crate::samples::{JUMP, JUMP_CERTIFICATE, JUMP_INPUT, ROW_MISSING};
+use command_samples::{JUMP, JUMP_CERTIFICATE, JUMP_INPUT, ROW_MISSING, accepted, run, verify};
 use commands::{FileSource, run_on};
 use memory_devices::{Bytes, Taken};
 use std::alloc::Global;

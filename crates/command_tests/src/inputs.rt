@@ -1,8 +1,8 @@
 // The lines of an input, field by field, and what a summary tells; worked by hand from docs/PROGRAM.md.
 
-use crate::samples::{JUMP, JUMP_CERTIFICATE};
 use board_step::{Env, Inputs, Reset};
 use certificate::read;
+use command_samples::{JUMP, JUMP_CERTIFICATE};
 use runner::cert_checker::check;
 use runner::{EnvLine, Machine, ResetLine, Summary, summary_lines};
 use std::alloc::Global;

@@ -1,7 +1,6 @@
 // Jumps by a table, calls whose return address the callee takes, and returns to a word that was pushed.
 
-use crate::commands_over::{run_whole, verify_whole};
-use crate::samples::{TABLE, certificate_text, rows_text};
+use command_samples::{TABLE, certificate_text, rows_text, run_whole, verify_whole};
 
 /// LD SP,4400H; LD A,(6000H); AND 1; ADD A,A; LD E,A; LD D,0; LD HL,0016H; ADD HL,DE; LD E,(HL); INC HL; LD D,(HL); EX DE,HL;
 /// JP (HL); the table 0003H, 001AH at 0016; JR -2

@@ -4,12 +4,6 @@
 #[cfg(test)]
 mod calls;
 #[cfg(test)]
-mod cells;
-#[cfg(test)]
-mod changes;
-#[cfg(test)]
-mod commands_over;
-#[cfg(test)]
 mod device_order;
 #[cfg(test)]
 mod inputs;
@@ -18,14 +12,6 @@ mod jumps;
 #[cfg(test)]
 mod memory;
 #[cfg(test)]
+mod outcomes;
+#[cfg(test)]
 mod ranges;
-#[cfg(test)]
-mod routine_runs;
-#[cfg(test)]
-mod routines;
-#[cfg(test)]
-mod samples;
-#[cfg(test)]
-mod times;
-#[cfg(test)]
-mod verdicts;

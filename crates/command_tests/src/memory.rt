@@ -1,9 +1,10 @@
 // Memory that is refused once, at each of the growths in turn (`rt try --test --fail-alloc N`): the command has status 4 and writes
 // nothing, and the next one goes as if nothing had been.
 
-use crate::calls::{SAVE, SAVE_CERTIFICATE, SAVE_TABLE};
-use crate::commands_over::{Outcome, run_whole, verify_whole};
-use crate::samples::{JUMP, JUMP_CERTIFICATE, THREE};
+use command_samples::{
+    JUMP, JUMP_CERTIFICATE, Outcome, SAVE, SAVE_CERTIFICATE, SAVE_TABLE, THREE, run_whole,
+    verify_whole,
+};
 
 /// Whether a command ended for want of memory and wrote nothing; with status 3 it was the sink of this test that wanted memory.
 fn wants_memory(after: &Outcome) -> bool {

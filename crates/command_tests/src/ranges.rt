@@ -1,8 +1,6 @@
 // Ranges and facts of main code: work RAM filled by LDIR, where DE and BC have one sum.
 
-use crate::changes::is_refused;
-use crate::commands_over::{run_whole, verify_whole};
-use crate::samples::{TABLE, rows_text};
+use command_samples::{TABLE, is_refused, rows_text, run_whole, verify_whole};
 use std::test::Fail;
 
 /// LD SP,4400H; LD HL,4000H; LD DE,4001H; LD BC,03FFH; LD (HL),0; LDIR; JR -2

@@ -1,5 +1,6 @@
 // Two reasons apply at once, neighbours in the table of reasons: the lower one is told. Main is a loop at 0000, unless another is named; nothing leads to the row
-// that is tried.
+// that is tried. Some neighbours cannot meet: 4 and 5 ask for bytes that spell no instruction and for one that they spell; 8 and 9, 13 and 14, 14 and 15, 19 and 20, and 20
+// and 21 ask for two instructions; and a range with an address of a cell and one of the NMI enable has some between where nothing listens, so 7 is told before 21 and 22.
 
 use crate::cases::{rom_with_routine, verdict, verdict_with_nmi, verdict_without_nmi};
 use std::test::Fail;
@@ -18,6 +19,19 @@ fn of_the_whole(rt: HostRuntime) -> Result<(), Fail> {
     let lines = "proc main 0000 0 0 -\nrow 0 0000 s * * * * * * * * * * - - - -\n";
     let told = verdict_without_nmi(alloc, &[0xED, 0x00], lines)?;
     assert!(rt; told == Some((0x0000, 3, &b"Entry"[..])));
+    Ok(())
+}
+
+#[test]
+fn of_instructions(rt: HostRuntime) -> Result<(), Fail> {
+    let alloc = rt.alloc();
+    // INI with any HL: an I/O instruction, whose write would go to the ROM too; and one whose bytes the ROM ends amid.
+    let lines = "proc main 0000 0 0 -\nrow 0 0000 u * * * * * * * * * * - - - -\n\
+        row 0 0002 s * * * * * * * * * * - - - -\n";
+    let told = verdict_without_nmi(alloc, &[0x18, 0xFE, 0xED, 0xA2], lines)?;
+    assert!(rt; told == Some((0x0002, 5, &b"IoSpace"[..])));
+    let told = verdict_without_nmi(alloc, &[0x18, 0xFE, 0xD3], lines)?;
+    assert!(rt; told == Some((0x0002, 4, &b"Decode"[..])));
     Ok(())
 }
 
@@ -98,6 +112,7 @@ fn of_nmis_and_time(rt: HostRuntime) -> Result<(), Fail> {
 fn of_rows_and_the_whole(rt: HostRuntime) -> Result<(), Fail> {
     let alloc = rt.alloc();
     let rom = rom_with_routine(alloc, &[0x18, 0xFE, 0x76], &[0xED, 0x45])?;
+    let halting = rom_with_routine(alloc, &[0x18, 0xFE, 0x76, 0x18, 0xFE], &[0xED, 0x45])?;
     // Main's depth alone is more than the region has, and the routine's time is above the budget.
     let lines =
         "proc main 0000 1 130 -\nproc nmi 0066 0 2 25\nrow 0 0000 u * * * * * * * * * * - - - -\n\
@@ -110,6 +125,13 @@ fn of_rows_and_the_whole(rt: HostRuntime) -> Result<(), Fail> {
         row 1 0066 n *@AF *@BC *@DE *@HL *@IX *@IY *@AF' *@BC' *@DE' *@HL' - - - 13\n";
     let told = verdict_with_nmi(alloc, rom.as_slice(), 24, lines)?;
     assert!(rt; told == Some((0x0066, 17, &b"Time"[..])));
+    // With a row besides that halts in a procedure with a time, the same, and not the budget, which has the lower number.
+    let lines =
+        "proc main 0000 1 0 -\nproc nmi 0066 0 2 25\nproc sub 0002 0 2 99\nrow 0 0000 u * * * * * * * * * * - - - -\n\
+        row 1 0066 n *@AF *@BC *@DE *@HL *@IX *@IY *@AF' *@BC' *@DE' *@HL' - - - 14\n\
+        row 2 0002 s * * * * * * * * * * - - - 4\nrow 2 0003 s * * * * * * * * * * - - - 0\n";
+    let told = verdict_with_nmi(alloc, halting.as_slice(), 24, lines)?;
+    assert!(rt; told == Some((0x0002, 19, &b"HaltInNmi"[..])));
     // Two rows are refused, the first for what has the higher number: nothing stands behind its NOP, and the second writes with any HL.
     let lines = "proc main 0000 0 0 -\nrow 0 0000 u * * * * * * * * * * - - - -\n\
         row 0 0002 s * * * * * * * * * * - - - -\nrow 0 0004 s * * * * * * * * * * - - - -\n";

@@ -1,10 +1,10 @@
-use Rattle.std.proofs.Common.{◌⊎◌, Err, Ok, ◌∷◌, [], length, length-append, inl, inr, subst, ap, ◌∙◌, arith}
+use Rattle.std.proofs.Common.{◌⊎◌, Err, Ok, ◌∷◌, ◌++◌, [], length, length-append, inl, inr, subst, ap, ◌∙◌, arith}
 use Rattle.std.proofs.lemmas.Result.{err_from_is_err_and}
 use Rattle.cert_order.specs.Reader.{lines_read}
 use Rattle.texts.specs.Device.{HasFailed, HasGrown}
-use Rattle.texts.specs.Incoming.{IsLine, IsTooLong, IsUnended, TakesNone, left_of}
+use Rattle.texts.specs.Incoming.{IsAmid, IsLine, IsTooLong, IsUnended, TakesNone, left_of}
 use Rattle.texts.proofs.IncomingLemmas.{fresh, fresh_ends}
-use Rattle.certificate.proofs.PiecesLemmas.{all_read, bad_end, few_lines, gave_all, gave_line, gave_none, refused_line, source_limit, source_line, source_only, source_same}
+use Rattle.certificate.proofs.PiecesLemmas.{all_read, bad_end, few_lines, gave_all, gave_line, gave_none, refused_line, source_limit, source_line, source_only, source_same, source_some}
 use Rattle.certificate.proofs.pieces.read_from.Goals as goal
 
 pub loop-reader-init : goal.loop-reader-init
@@ -146,3 +146,20 @@ returns-in-Err-Read-clause-failed g c _ =
     let after = left_of c.next_long_line.new.self (g.R.Source.state c.next_long_line.new.input) in
     let failed : HasFailed mid after = rw c.in-Err-Read.field-0-is at c.in-Err-Read.ensures.fault in
     subst (λ n. HasGrown n after.failures) c.loop-reader.invariant.has.given.quiet failed
+
+pub returns-in_err-line-in-Ok-Feed-clause-memory : goal.returns-in_err-line-in-Ok-Feed-clause-memory
+returns-in_err-line-in-Ok-Feed-clause-memory g c _ =
+    let first = g.R.Source.state c.args.input.now in
+    let mid = left_of c.loop-reader.incoming (g.R.Source.state c.loop-reader.input) in
+    let after = left_of c.next_long_line.new.self (g.R.Source.state c.next_long_line.new.input) in
+    let text = c.as_slice.result.now in
+    let next : IsLine 1048575 mid text after = rw (c.in-Ok-Feed.field-0-is, ← c.as_slice.ensures.value) at c.in-Ok-Feed.ensures.line in
+    source_some first mid after c.loop-reader.reader (text ++ 10 ∷ []) c.loop-reader.invariant.has next.given (omega (arith, length-append text (10 ∷ [])))
+
+pub returns-in-Err-NoMemory-clause-memory : goal.returns-in-Err-NoMemory-clause-memory
+returns-in-Err-NoMemory-clause-memory g c _ =
+    let first = g.R.Source.state c.args.input.now in
+    let mid = left_of c.loop-reader.incoming (g.R.Source.state c.loop-reader.input) in
+    let after = left_of c.next_long_line.new.self (g.R.Source.state c.next_long_line.new.input) in
+    let amid : IsAmid 1048575 mid after = rw c.in-Err-NoMemory.field-0-is at c.in-Err-NoMemory.ensures.fault in
+    source_some first mid after c.loop-reader.reader amid.text c.loop-reader.invariant.has amid.given amid.some

@@ -1,8 +1,6 @@
 // Certificates of version 2: cells that keep a range of bytes, and the raised board.
 
-use crate::changes::with_routine;
-use crate::commands_over::{run_whole, verify_whole};
-use crate::samples::{TABLE, rows_text};
+use command_samples::{TABLE, rows_text, run_whole, verify_whole, with_routine};
 use std::test::Fail;
 
 /// LD SP,4400H; LD A,50H; LD (4000H),A; and from 0008 LD A,(4000H); LD H,A; LD L,0; LD (HL),1; JR -10

@@ -1,11 +1,10 @@
 // Runs with NMIs: the lines of their routines, and devices that fail amid them.
 
-use crate::changes::with_routine;
-use crate::commands_over::{Outcome, run, run_whole};
 use crate::routines::{
     CALLING, CALLING_CERTIFICATE, FILL, FILL_CERTIFICATE, HALTED, HALTED_CERTIFICATE, REARM,
     RETURN, TOGGLE, TOGGLE_CERTIFICATE,
 };
+use command_samples::{Outcome, run, run_whole, with_routine};
 use memory_devices::{Bytes, Taken};
 use std::alloc::Global;
 use std::test::Fail;

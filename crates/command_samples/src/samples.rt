@@ -11,6 +11,7 @@ pub const STORES: &[u8] = &[
 
 /// The text of a certificate of a ROM of this length, with a stack in this region, this depth of main (0 where none is told)
 /// and rows of these addresses and modes (docs/CERTIFICATE.md).
+#[macro_export]
 macro_rules! certificate_text {
     ($len:literal, $region:literal, depth $depth:literal, $($row:literal),*) => {
         concat!(
@@ -20,15 +21,14 @@ macro_rules! certificate_text {
         )
     };
     ($len:literal, $region:literal, $($row:literal),*) => {
-        certificate_text!($len, $region, depth 0, $($row),*)
+        $crate::certificate_text!($len, $region, depth 0, $($row),*)
     };
 }
-
-pub(crate) use certificate_text;
 
 /// The text of a certificate of this version: the other lines ahead of its rows; then main's rows, each with its place, what is known of
 /// AF, BC, DE and HL, and the last four fields; then the rows of other procedures, each with its procedure and place, and likewise,
 /// which keep IX, IY and the alternate set.
+#[macro_export]
 macro_rules! rows_text {
     ($version:literal, $head:literal; $($main:literal $pairs:literal $rest:literal),*; $($row:literal $own:literal $last:literal),*) => {
         concat!(
@@ -39,8 +39,6 @@ macro_rules! rows_text {
         )
     };
 }
-
-pub(crate) use rows_text;
 
 /// The certificate of STORES.
 pub const STORES_CERTIFICATE: &str = certificate_text!(
@@ -71,3 +69,24 @@ pub const JUMP_INPUT: &[u8] = b"reset 0 00\n3 00 00 00 00 00 00 0\n";
 
 /// What `run` prints of three events of JUMP, from a reset to 00.
 pub const THREE: &str = "done 3 30 0003 4400\nregs 0000 0000 0000 0000 0000 0000\nsum 0 0 0\n";
+
+/// LD SP,4400H; CALL 0008H; JR -2; and from 0008 PUSH BC; LD B,3; POP BC; RET
+pub const SAVE: &[u8] = &[
+    0x31, 0x00, 0x44, 0xCD, 0x08, 0x00, 0x18, 0xFE, 0xC5, 0x06, 0x03, 0xC1, 0xC9,
+];
+
+/// The certificate of SAVE.
+pub const SAVE_CERTIFICATE: &str = rows_text!(
+    1, "rom 13\nstack 4380 4400\nbudget -\nproc main 0000 1 4 -\nproc sub 0008 0 4 -";
+    "0000 u" "* * * *" "- - - -",
+    "0003 s" "* * * *" "- - - -",
+    "0006 s" "* * * *" "- - - -";
+    "1 0008 s" "*@AF *@BC *@DE *@HL" "- - - -",
+    "1 0009 s" "*@AF *@BC *@DE *@HL" "- - *@BC -",
+    "1 000B s" "*@AF 0300-03FF:03-03:00-FF *@DE *@HL" "- - *@BC -",
+    "1 000C s" "*@AF *@BC *@DE *@HL" "- - - -"
+);
+
+/// What `verify` prints of it.
+pub const SAVE_TABLE: &str = "accepted\nmain 0000 depth     4 time      -\n\
+    sub  0008 depth     4 time      -\nstack 4 of 128\nnmi none\n";

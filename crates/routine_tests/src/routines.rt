@@ -1,8 +1,6 @@
 // NMI routines, whose NMI may come at any instruction.
 
-use crate::changes::{is_refused, with_routine};
-use crate::commands_over::verify_whole;
-use crate::samples::rows_text;
+use command_samples::{is_refused, rows_text, verify_whole, with_routine};
 use std::test::Fail;
 
 /// LD SP,4400H; LD A,1; LD (7001H),A; JR -2

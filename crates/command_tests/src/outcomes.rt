@@ -1,9 +1,8 @@
 // Verdicts and runs over devices in memory.
 
-use crate::commands_over::{accepted, run, run_whole, verify, verify_whole};
-use crate::samples::{
+use command_samples::{
     JUMP, JUMP_CERTIFICATE, JUMP_INPUT, ROW_MISSING, STORES, STORES_CERTIFICATE, TABLE, THREE,
-    certificate_text,
+    accepted, certificate_text, run, run_whole, verify, verify_whole,
 };
 use commands::steps_of;
 use memory_devices::{Bytes, Taken};

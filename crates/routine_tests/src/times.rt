@@ -1,14 +1,7 @@
 // Potentials: the T-states that a procedure takes at most.
 
-use crate::changes::is_refused;
-use crate::commands_over::verify_whole;
-use crate::samples::rows_text;
+use command_samples::{SAVE, is_refused, rows_text, verify_whole};
 use std::test::Fail;
-
-/// LD SP,4400H; CALL 0008H; JR -2; and from 0008 PUSH BC; LD B,3; POP BC; RET
-const SAVE: &[u8] = &[
-    0x31, 0x00, 0x44, 0xCD, 0x08, 0x00, 0x18, 0xFE, 0xC5, 0x06, 0x03, 0xC1, 0xC9,
-];
 
 /// 11 + 7 + 10 + 10 T-states.
 const SAVE_CERTIFICATE: &str = rows_text!(

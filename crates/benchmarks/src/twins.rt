@@ -1,0 +1,154 @@
+// Runs of an accepted ROM on the runner and, event by event, on the checked step, with random inputs near the vertical blank.
+
+use crate::numbers::Numbers;
+use address_map::{RamKind, Starts};
+use board_step::{Board, Env, Inputs, Kind, Profile, Reset};
+use certificate::{Certificate, read};
+use runner::Machine;
+use runner::cert_checker::{Accepted, check};
+use std::alloc::Global;
+use z80_alu::{RegisterSet, Regs};
+
+/// How many events each run has: those of about two frames of 50,688 T-states.
+const EVENTS: u64 = 10_000;
+
+/// The phase at a reset is at most so far before the blank, in T-states.
+const NEAR: u32 = 4096;
+
+const FRAME: u32 = 50_688;
+
+/// What came of so many events.
+#[derive(Clone, Copy)]
+pub enum Twins {
+    /// The ROM and the certificate are not accepted.
+    Refused,
+    /// The events of which the two differ, or of which the checked step told a trap: the number of the first.
+    Differ(u64),
+    /// There is none; and so many NMIs were accepted.
+    Agree(u64),
+}
+
+/// Does so many events, by runs from random resets, of a ROM and the text of its certificate.
+pub fn compared(alloc: Global, rom: &[u8], text: &[u8], events: u64, seed: u64) -> Twins {
+    let Ok(certificate) = read(alloc, text) else {
+        return Twins::Refused;
+    };
+    let starts = starts_of(&certificate);
+    match check(alloc, rom, certificate) {
+        Ok(accepted) => run_twice(&accepted, &starts, events, seed),
+        Err(_) => Twins::Refused,
+    }
+}
+
+/// The addresses of the rows.
+fn starts_of(certificate: &Certificate) -> Starts {
+    let mut starts = Starts::new();
+    for id in 0..certificate.row_count() {
+        if let Some(row) = certificate.row(id) {
+            starts.insert(row.address);
+        }
+    }
+    starts
+}
+
+fn run_twice(accepted: &Accepted, starts: &Starts, events: u64, seed: u64) -> Twins {
+    let mut numbers = Numbers::from_seed(seed);
+    let (mut done, mut accepts): (u64, u64) = (0, 0);
+    for _ in 0..events.div_ceil(EVENTS) {
+        match one_run(accepted, starts, &mut numbers) {
+            Ok(count) => accepts = accepts.wrapping_add(count),
+            Err(at) => return Twins::Differ(done.wrapping_add(at)),
+        }
+        done = done.wrapping_add(EVENTS);
+    }
+    Twins::Agree(accepts)
+}
+
+/// How many NMIs are accepted in one run; or the number of the first event that differs, or of the last where the RAMs differ behind it.
+fn one_run(accepted: &Accepted, starts: &Starts, numbers: &mut Numbers) -> Result<u64, u64> {
+    let reset = numbers.reset();
+    let mut machine = Machine::reset(accepted, &reset);
+    let mut board = Board::reset(&reset);
+    let profile = Profile {
+        map: accepted.map(),
+        starts,
+        region: accepted.certificate().region(),
+    };
+    let mut accepts: u64 = 0;
+    for at in 0..EVENTS {
+        let env = numbers.env();
+        match board.step_checked(accepted.rom(), &profile, &env) {
+            Ok(event) if event == machine.step(&env) && is_one(&board, machine.board()) => {
+                accepts = accepts.wrapping_add(u64::from(event.kind == Kind::Accept));
+            }
+            _ => return Err(at),
+        }
+    }
+    if have_one_ram(&board, machine.board()) {
+        Ok(accepts)
+    } else {
+        Err(EVENTS)
+    }
+}
+
+/// Whether all but the RAMs is one and the same.
+fn is_one(a: &Board, b: &Board) -> bool {
+    a.regs() == b.regs() && a.phase() == b.phase() && a.kind() == b.kind()
+}
+
+fn have_one_ram(a: &Board, b: &Board) -> bool {
+    [RamKind::Work, RamKind::Video, RamKind::Object]
+        .iter()
+        .all(|kind| a.ram(*kind) == b.ram(*kind))
+}
+
+impl Numbers {
+    fn env(&mut self) -> Env {
+        Env {
+            inputs: [self.inputs(), self.inputs()],
+            noise: self.byte(),
+            r: self.byte(),
+            latch: self.byte() < 128,
+        }
+    }
+
+    fn inputs(&mut self) -> Inputs {
+        Inputs {
+            in0: self.byte(),
+            in1: self.byte(),
+            in2: self.byte(),
+            bus: self.byte(),
+        }
+    }
+
+    fn set(&mut self) -> RegisterSet {
+        RegisterSet {
+            a: self.byte(),
+            f: self.byte(),
+            b: self.byte(),
+            c: self.byte(),
+            d: self.byte(),
+            e: self.byte(),
+            h: self.byte(),
+            l: self.byte(),
+        }
+    }
+
+    /// A reset shortly before the blank, with random registers and RAMs of one random byte each.
+    fn reset(&mut self) -> Reset {
+        Reset {
+            work: [self.byte(); 0x400],
+            video: [self.byte(); 0x400],
+            object: [self.byte(); 0x100],
+            regs: Regs {
+                main: self.set(),
+                alternate: self.set(),
+                ix: self.word(),
+                iy: self.word(),
+                sp: self.word(),
+                ..Regs::default()
+            },
+            phase: FRAME - 1 - u32::from(self.word()) % NEAR,
+        }
+    }
+}
