@@ -1,16 +1,17 @@
 // What lies ahead of the rows of a procedure: the longest way from each of them to an exit.
 
-ghost use Rattle.std.specs.Prelude.{◌≡◌, ◌+◌, ◌<◌, ◌≤◌, ◌^◌, ℕ, IfOk, IfSome, Contains, Some, length, map, vec_len};
+ghost use Rattle.std.specs.Prelude.{◌≡◌, ◌+◌, ◌<◌, ◌≤◌, ◌^◌, ℕ, IfOk, IfSome, Contains, Some, length, map as mapped, vec_len};
 ghost use Rattle.call_graph.specs.Calls.{IsCallOrder};
+ghost use Rattle.cert_cover.specs.Program.{map_of_board};
 ghost use Rattle.path_time.specs.Links.{AreLinks, edge_of};
 ghost use Rattle.path_time.specs.Table.{AreSmall, Ends, Follows, HasExits, IsAheadOfEntry, IsBest, IsOwnExit, IsTable, ahead_at, longer, one_more};
 ghost use Rattle.path_time.specs.declared.links.Link.{Link as Joined};
 ghost use Rattle.std.specs.List.Sorted.{IsNonDecreasingBy};
 
 use crate::links::{Link, links_from};
-use address_map::Rom;
+use address_map::{Map, Rom};
 use call_graph::ProcId;
-use cert_ways::exit_cost;
+use cert_ways::cost_of_leaving;
 use certificate::{Certificate, RowId};
 use std::alloc::{AllocError, Global};
 use std::ops::Range;
@@ -56,18 +57,20 @@ fn longer(one: Option<Ahead>, other: Option<Ahead>) -> Option<Ahead>
 pub(crate) fn table_along(
     alloc: Global,
     rom: &Rom,
+    map: &Map,
     certificate: &Certificate,
     proc: ProcId,
     links: &[Link],
     order: &[u16],
 ) -> Result<Vec<Option<Ahead>>, AllocError>
-    requires len { certificate.now.rom_len ≡ length rom.now }
+    requires map { map.now ≡ map_of_board certificate.now }
+    requires len { map.now.rom_len ≡ length rom.now }
     requires links { AreLinks rom.now certificate.now proc links.now }
     requires rising { IsNonDecreasingBy (λ link. link.from) links.now }
-    requires order { IsCallOrder (map edge_of links.now) order.now }
+    requires order { IsCallOrder (mapped edge_of links.now) order.now }
     ensures { IfOk result (λ table. IsTable rom.now certificate.now proc table.items) }
 {
-    let mut table = exits_of(alloc, rom, certificate, proc)?;
+    let mut table = exits_of(alloc, rom, map, certificate, proc)?;
     for row in order {
         let at = usize::from(*row);
         table[at] = best_by(links_from(links, *row), &table, table[at]);
@@ -79,16 +82,18 @@ pub(crate) fn table_along(
 fn exits_of(
     alloc: Global,
     rom: &Rom,
+    map: &Map,
     certificate: &Certificate,
     proc: ProcId,
 ) -> Result<Vec<Option<Ahead>>, AllocError>
-    requires { certificate.now.rom_len ≡ length rom.now }
+    requires map { map.now ≡ map_of_board certificate.now }
+    requires len { map.now.rom_len ≡ length rom.now }
     ensures { IfOk result (λ table. HasExits rom.now certificate.now proc table.items) }
 {
     let mut table = nothing_ahead(alloc, certificate.row_count() as usize)?;
     let rows = certificate.rows_of(proc);
     for row in rows.start..rows.end {
-        table[row as usize] = own_exit(alloc, rom, certificate, row);
+        table[row as usize] = own_exit(alloc, rom, map, certificate, row);
     }
     Ok(table)
 }
@@ -102,12 +107,19 @@ fn nothing_ahead(alloc: Global, count: usize) -> Result<Vec<Option<Ahead>>, Allo
 }
 
 /// The exit of a row, if it has one.
-fn own_exit(alloc: Global, rom: &Rom, certificate: &Certificate, row: RowId) -> Option<Ahead>
-    requires { certificate.now.rom_len ≡ length rom.now }
+fn own_exit(
+    alloc: Global,
+    rom: &Rom,
+    map: &Map,
+    certificate: &Certificate,
+    row: RowId,
+) -> Option<Ahead>
+    requires map { map.now ≡ map_of_board certificate.now }
+    requires len { map.now.rom_len ≡ length rom.now }
     ensures exit { IsOwnExit rom.now certificate.now row result }
     ensures low { IfSome result (λ ahead. (ahead.sum < 4294967296) × (ahead.behind ≡ 0)) }
 {
-    match exit_cost(alloc, rom, certificate, row) {
+    match cost_of_leaving(alloc, rom, map, certificate, row) {
         Some(cost) => Some(Ahead {
             sum: u64::from(cost),
             next: None,

@@ -1,15 +1,17 @@
 // Which rows may come next after which on a walk, and what lies between.
 
-ghost use Rattle.std.specs.Prelude.{◌≡◌, ◌<◌, ◌≤◌, IfOk, OnOk, length, map};
+ghost use Rattle.std.specs.Prelude.{◌≡◌, ◌<◌, ◌≤◌, ℕ, IfOk, Ok, OnOk, length, map};
 ghost use Rattle.std.specs.List.Sorted.{IsNonDecreasingBy};
 ghost use Rattle.cert_cover.specs.Program.{map_of_board};
+ghost use Rattle.cert_ways.specs.Pays.{IsGreatest, LieBetween};
+ghost use Rattle.cert_ways.specs.Ways.{IsNumbered, step_of};
 ghost use Rattle.path_time.specs.Links.{Added, AreLinks, IsAny, IsArrival, IsArrivalOfSome, IsWithin, arrival_of, edge_of};
 ghost use Rattle.path_time.specs.Table.{AreLinksFrom};
 
 use abs_step::{Next, NextKind};
 use address_map::{Map, Rom};
 use call_graph::{Edge, ProcId};
-use cert_ways::{Subject, compared};
+use cert_ways::{Subject, cost_between};
 use certificate::{Certificate, RowId};
 use std::alloc::{AllocError, Global};
 use std::ops::Range;
@@ -27,14 +29,16 @@ pub(crate) struct Link {
 pub(crate) fn links_of(
     alloc: Global,
     rom: &Rom,
+    map: &Map,
     certificate: &Certificate,
     proc: ProcId,
 ) -> Result<Vec<Link>, AllocError>
-    requires { certificate.now.rom_len ≡ length rom.now }
+    requires map { map.now ≡ map_of_board certificate.now }
+    requires len { map.now.rom_len ≡ length rom.now }
     ensures links { IfOk result (λ links. AreLinks rom.now certificate.now proc links.items) }
     ensures rising { IfOk result (λ links. IsNonDecreasingBy (λ link. link.from) links.items) }
 {
-    let mut links = gathered(alloc, rom, certificate, proc)?;
+    let mut links = gathered(alloc, rom, map, certificate, proc)?;
     links.sort_unstable_by_key(|link| link.from);
     Ok(links)
 }
@@ -43,17 +47,18 @@ pub(crate) fn links_of(
 fn gathered(
     alloc: Global,
     rom: &Rom,
+    map: &Map,
     certificate: &Certificate,
     proc: ProcId,
 ) -> Result<Vec<Link>, AllocError>
-    requires { certificate.now.rom_len ≡ length rom.now }
+    requires map { map.now ≡ map_of_board certificate.now }
+    requires len { map.now.rom_len ≡ length rom.now }
     ensures { IfOk result (λ links. AreLinks rom.now certificate.now proc links.items) }
 {
-    let map = certificate.board().map(rom.len());
     let mut links = Vec::new(alloc);
     let rows = certificate.rows_of(proc);
     for from in rows.start..rows.end {
-        add_links(alloc, rom, &map, certificate, from, &mut links)?;
+        add_links(alloc, rom, map, certificate, from, &mut links)?;
     }
     Ok(links)
 }
@@ -68,8 +73,7 @@ fn add_links(
     links: &mut Vec<Link>,
 ) -> Result<(), AllocError>
     requires map { map.now ≡ map_of_board certificate.now }
-    requires map_len { map.now.rom_len ≡ length rom.now }
-    requires len { certificate.now.rom_len ≡ length rom.now }
+    requires len { map.now.rom_len ≡ length rom.now }
     requires within { from < length certificate.now.rows }
     ensures { OnOk result (Added rom.now certificate.now from IsAny links.old.items links.new.items) }
 {
@@ -83,7 +87,7 @@ fn add_links(
     add_links_by_each(alloc, &subject, from, nexts.as_slice(), links)
 }
 
-/// Adds the links from the row of this number, the subject, by these ways on.
+/// Adds the links from the row of this number, the subject, by its ways on.
 fn add_links_by_each(
     alloc: Global,
     subject: &Subject,
@@ -91,32 +95,35 @@ fn add_links_by_each(
     nexts: &[Next],
     links: &mut Vec<Link>,
 ) -> Result<(), AllocError>
-    requires len { subject.now.cert.rom_len ≡ length subject.now.rom }
+    requires subject { IsNumbered subject.now.rom subject.now.cert from subject.now }
     requires within { from < length subject.now.cert.rows }
+    requires step { step_of subject.now ≡ Ok nexts.now }
     ensures { OnOk result (Added subject.now.rom subject.now.cert from (IsArrivalOfSome subject.now nexts.now) links.old.items links.new.items) }
 {
     for next in nexts {
-        add_links_by(alloc, subject, from, next, links)?;
+        add_links_by(alloc, subject, from, nexts, next, links)?;
     }
     Ok(())
 }
 
-/// Adds the links from the row of this number, the subject, by a way on.
+/// Adds the links from the row of this number, the subject, by one of its ways on.
 fn add_links_by(
     alloc: Global,
     subject: &Subject,
     from: RowId,
+    nexts: &[Next],
     next: &Next,
     links: &mut Vec<Link>,
 ) -> Result<(), AllocError>
-    requires len { subject.now.cert.rom_len ≡ length subject.now.rom }
+    requires subject { IsNumbered subject.now.rom subject.now.cert from subject.now }
     requires within { from < length subject.now.cert.rows }
+    requires step { step_of subject.now ≡ Ok nexts.now }
     ensures { OnOk result (Added subject.now.rom subject.now.cert from (IsArrival subject.now next.now) links.old.items links.new.items) }
 {
     match arrival_of(subject, next) {
         Some(address) => {
             let rows = subject.certificate.rows_at(subject.row.proc, address);
-            add_links_to(alloc, subject.rom, subject.certificate, from, rows, links)
+            add_links_to(alloc, subject, from, nexts, rows, links)
         }
         None => Ok(()),
     }
@@ -133,24 +140,25 @@ fn arrival_of(subject: &Subject, next: &Next) -> Option<u16>
     }
 }
 
-/// Adds the links from a row to those of these rows that may come next.
+/// Adds the links from the row of this number, the subject, to those of these rows that may come next.
 fn add_links_to(
     alloc: Global,
-    rom: &Rom,
-    certificate: &Certificate,
+    subject: &Subject,
     from: RowId,
+    nexts: &[Next],
     rows: Range<RowId>,
     links: &mut Vec<Link>,
 ) -> Result<(), AllocError>
-    requires len { certificate.now.rom_len ≡ length rom.now }
-    requires within { from < length certificate.now.rows }
-    requires rows { rows.end ≤ length certificate.now.rows }
-    ensures { OnOk result (Added rom.now certificate.now from (IsWithin rows.start rows.end) links.old.items links.new.items) }
+    requires subject { IsNumbered subject.now.rom subject.now.cert from subject.now }
+    requires within { from < length subject.now.cert.rows }
+    requires step { step_of subject.now ≡ Ok nexts.now }
+    requires rows { rows.end ≤ length subject.now.cert.rows }
+    ensures { OnOk result (Added subject.now.rom subject.now.cert from (IsWithin rows.start rows.end) links.old.items links.new.items) }
 {
     // In form: there are 65,535 rows at most.
-    certificate.is_in_form();
+    subject.certificate.is_in_form();
     for to in rows.start..rows.end {
-        if let Some(cost) = compared(alloc, rom, certificate, from, to) {
+        if let Some(cost) = cost_to(alloc, subject, nexts, to) {
             links.push(Link {
                 from: from as u16,
                 to: to as u16,
@@ -159,6 +167,15 @@ fn add_links_to(
         }
     }
     Ok(())
+}
+
+/// The T-states that lie between the subject, of these ways on, and the row of a number.
+fn cost_to(alloc: Global, subject: &Subject, nexts: &[Next], to: RowId) -> Option<u32>
+    requires step { step_of subject.now ≡ Ok nexts.now }
+    ensures { (from : ℕ) → IsNumbered subject.now.rom subject.now.cert from subject.now → IsGreatest (LieBetween subject.now.rom subject.now.cert from to) result }
+{
+    let target = subject.certificate.row(to)?;
+    cost_between(alloc, subject, nexts, &target)
 }
 
 /// The links without their costs.

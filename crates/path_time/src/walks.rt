@@ -2,7 +2,6 @@
 
 ghost use Rattle.std.specs.Prelude.{◌≡◌, ◌<◌, ◌↔◌, ℕ, List, IfErr, IfOk, OnOk, length, map, min, option_map, slice_get, slice_index};
 ghost use Rattle.call_graph.specs.Calls.{IsCallOrder, IsCycle};
-ghost use Rattle.cert_ways.specs.Pays.{cost_before};
 ghost use Rattle.path_time.specs.Links.{AreLinks, HaveRows, edge_of};
 ghost use Rattle.path_time.specs.Table.{Ends, Follows, IsOrderFault, IsTable, IsTableFault};
 ghost use Rattle.path_time.specs.Walks.{GoesRound, HasNoTime, IsLongest, IsLowestOnRound};
@@ -12,7 +11,8 @@ use crate::fault::TimeFault;
 use crate::links::{Link, edges_of, links_of};
 use address_map::Rom;
 use call_graph::{GraphFault, ProcId, order};
-use certificate::{Certificate, ProcKind, RowId};
+use cert_ways::cost_before;
+use certificate::{Certificate, RowId};
 use std::alloc::Global;
 
 /// The longest walk of a procedure of a certificate (docs/CHECKER.md, "Walks"): its T-states, with those of the acceptance for the NMI
@@ -52,16 +52,6 @@ pub fn longest(
     }
 }
 
-/// The T-states that an acceptance takes before the NMI routine's entry.
-fn cost_before(kind: ProcKind) -> u32
-    ensures { result ≡ cost_before kind }
-{
-    match kind {
-        ProcKind::Nmi => 11,
-        ProcKind::Main | ProcKind::Sub => 0,
-    }
-}
-
 /// The longest way from each row of a procedure to an exit.
 fn table_of(
     alloc: Global,
@@ -76,11 +66,12 @@ fn table_of(
 {
     // In form: the rows rise by address.
     certificate.is_in_form();
-    let Ok(links) = links_of(alloc, rom, certificate, proc) else {
+    let map = certificate.board().map(rom.len());
+    let Ok(links) = links_of(alloc, rom, &map, certificate, proc) else {
         return Err(TimeFault::NoMemory);
     };
     let rows = order_of(alloc, certificate, &links)?;
-    match table_along(alloc, rom, certificate, proc, &links, &rows) {
+    match table_along(alloc, rom, &map, certificate, proc, &links, &rows) {
         Ok(table) => Ok(table),
         Err(_) => Err(TimeFault::NoMemory),
     }

@@ -17,7 +17,7 @@ returns-in-Some c =
     let new = c.add_links_to.new.links.items in
     let view = c.subject.view_is in
     let inside = c.subject-inside.view_is in
-    let added : OnOk c.add_links_to.result (Added s.rom s.cert c.args.from (IsWithin start end) old new) = rw (← view, ← inside) c.add_links_to.ensures in
+    let added : OnOk c.add_links_to.result (Added s.rom s.cert c.args.from (IsWithin start end) old new) = c.add_links_to.ensures in
     let rows : (k : ℕ) (row : Row) → slice_get s.cert.rows k ≡ Some row → ((start ≤ k) × (k < end)) ↔ ((row.proc ≡ s.row.proc) × (row.address ≡ address)) =
     rw (← view, ← inside) c.rows_at-rows.ensures.at in
     on_ok_weaker c.add_links_to.result
