@@ -1,34 +1,18 @@
 // The least potential of a row that pays for what comes next.
 
 use crate::requests::{Request, Requests};
-use crate::sums::{greatest_value, least_value, terms_before, with_constant};
+use crate::sums::{greatest_value, least_left, least_value, terms_before, with_constant};
 use abs_state::AbsState;
 use certificate::Certificate;
 use loop_bounds::{Effect, Linear, Variable, decreases};
 
 /// The greatest constant of a linear.
-const GREATEST: i64 = 1_000_000_000;
+const GREATEST: i128 = 1_000_000_000;
 
 /// The potential of a row, if there is one yet.
 pub(crate) fn known_at(known: &[Option<Linear>], first: u32, row: u32) -> Option<Linear> {
     let place = row.checked_sub(first)?;
     *known.get(place as usize)?
-}
-
-/// Whether these terms with this constant pay so many T-states and leave what a potential comes to by a step.
-fn pays(
-    terms: &Linear,
-    constant: i32,
-    cost: u32,
-    to: &Linear,
-    effect: &Effect,
-    source: &AbsState,
-    target: &AbsState,
-) -> bool {
-    match with_constant(terms, constant) {
-        Some(from) => decreases(&from, to, cost, effect, source, target),
-        None => false,
-    }
 }
 
 /// The least constant with which these terms pay so many T-states and leave what a potential comes to by a step; None where none does.
@@ -40,29 +24,11 @@ fn least_constant(
     source: &AbsState,
     target: &AbsState,
 ) -> Option<i32> {
-    let mut low = -GREATEST;
-    let mut high = GREATEST;
-    // 2,000,000,001 constants: after 31 halves one is left.
-    for _ in 0..31 {
-        if low < high {
-            let middle = low.saturating_add(high).div_euclid(2);
-            if pays(
-                terms,
-                i32::try_from(middle).unwrap_or(0),
-                cost,
-                to,
-                effect,
-                source,
-                target,
-            ) {
-                high = middle;
-            } else {
-                low = middle.saturating_add(1);
-            }
-        }
-    }
-    let constant = i32::try_from(low).unwrap_or(0);
-    if pays(terms, constant, cost, to, effect, source, target) {
+    let least = least_left(terms, to, effect, source, target);
+    let needed = i128::from(cost).saturating_sub(least).max(-GREATEST);
+    let constant = i32::try_from(needed).ok()?;
+    let from = with_constant(terms, constant)?;
+    if decreases(&from, to, cost, effect, source, target) {
         Some(constant)
     } else {
         None
@@ -117,20 +83,21 @@ impl<'a> Payer<'a> {
         let Some(to) = known_at(known, self.first, request.to) else {
             return Ok(None);
         };
-        let Some(target) = self.certificate.state(request.to) else {
-            return Ok(None);
-        };
-        match least_constant(
-            terms,
-            request.cost,
-            &to,
-            &request.effect,
-            &self.state,
-            &target,
-        ) {
+        match self.constant_to(terms, request, &to) {
             Some(constant) => Ok(Some(constant)),
             None => Err(Unpaid),
         }
+    }
+
+    /// The least constant with which these terms pay for a row that comes next, which has this potential; None where none does. Of the
+    /// row's state only the ranges of that potential's variables count.
+    fn constant_to(&self, terms: &Linear, request: &Request, to: &Linear) -> Option<i32> {
+        let (cost, effect) = (request.cost, &request.effect);
+        if to.terms().is_empty() {
+            return least_constant(terms, cost, to, effect, &self.state, &self.state);
+        }
+        let target = self.certificate.state(request.to)?;
+        least_constant(terms, cost, to, effect, &self.state, &target)
     }
 
     /// These terms with the least constant that pays for all, 0 where there is nothing to pay for.

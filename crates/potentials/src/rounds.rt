@@ -135,6 +135,7 @@ fn places_of(alloc: Global, order: &[u16], count: usize) -> Result<Vec<u16>, Pot
 }
 
 /// The potentials, made anew in rounds until none changes: what a loop's row has for a constant depends on rows that lead back to it.
+/// Without a loop one round gives them all.
 fn settled(
     alloc: Global,
     certificate: &Certificate,
@@ -145,7 +146,12 @@ fn settled(
 ) -> Result<Vec<Option<Linear>>, PotentialFault> {
     let mut known = vec![in alloc; None; all.len()]?;
     let loops = turns.iter().filter(|turn| turn.is_some()).count();
-    for _ in 0..loops.saturating_add(3) {
+    let rounds = if loops == 0 {
+        1
+    } else {
+        loops.saturating_add(3)
+    };
+    for _ in 0..rounds {
         if !one_round(certificate, first, all, turns, places, &mut known)? {
             return Ok(known);
         }

@@ -61,9 +61,9 @@ fn variable_before(effect: &Effect, variable: Variable) -> Option<Variable> {
     }
 }
 
-/// Adds a multiple of a variable to at most three terms.
-fn add(terms: &mut [Option<Term>; 3], added: Term) {
-    for place in 0..3 {
+/// Adds a multiple of a variable to some terms; one that finds no place is left out.
+fn add(terms: &mut [Option<Term>], added: Term) {
+    for place in 0..terms.len() {
         let there: Option<Term> = terms[place];
         match there {
             Some(term) if term.variable == added.variable => {
@@ -97,6 +97,86 @@ pub(crate) fn terms_before(linear: &Linear, effect: &Effect) -> Option<Linear> {
         }
     }
     of_terms(&terms)
+}
+
+/// What the variables before a step say of a sum: its constant, and multiples of them.
+#[derive(Drop)]
+struct Before {
+    constant: i128,
+    terms: [Option<Term>; 6],
+}
+
+impl Before {
+    /// Adds what a multiple of a variable after a step of this effect is before it; the least of what the target's range leaves where
+    /// the step makes it unknown.
+    fn add_after(&mut self, term: Term, effect: &Effect, target: &AbsState) {
+        let (old, constant) = match effect.change(term.variable) {
+            Change::Old(old) => (Some(old), 0),
+            Change::Raised(old) => (Some(old), i128::from(term.coefficient)),
+            Change::Lowered(old) => (Some(old), i128::from(term.coefficient.saturating_neg())),
+            Change::Constant(value) => (
+                None,
+                i128::from(term.coefficient).saturating_mul(i128::from(value)),
+            ),
+            Change::Unknown => (
+                None,
+                least_multiple(term.coefficient, target.range(term.variable)),
+            ),
+        };
+        self.constant = self.constant.saturating_add(constant);
+        if let Some(variable) = old {
+            add(
+                &mut self.terms,
+                Term {
+                    coefficient: term.coefficient,
+                    variable,
+                },
+            );
+        }
+    }
+
+    /// The least value over the ranges of a state.
+    fn least(&self, source: &AbsState) -> i128 {
+        let mut sum = self.constant;
+        for place in &self.terms {
+            if let Some(term) = place {
+                sum = sum.saturating_add(least_multiple(
+                    term.coefficient,
+                    source.range(term.variable),
+                ));
+            }
+        }
+        sum
+    }
+}
+
+/// The least that some terms leave before a step of this effect once what a linear comes to after it is taken away.
+pub(crate) fn least_left(
+    terms: &Linear,
+    to: &Linear,
+    effect: &Effect,
+    source: &AbsState,
+    target: &AbsState,
+) -> i128 {
+    let mut left = Before {
+        constant: i128::from(to.constant()).saturating_neg(),
+        terms: [None; 6],
+    };
+    for term in terms.terms() {
+        add(&mut left.terms, *term);
+    }
+    for term in to.terms() {
+        left.add_after(negated(*term), effect, target);
+    }
+    left.least(source)
+}
+
+/// The negation of a term.
+fn negated(term: Term) -> Term {
+    Term {
+        coefficient: term.coefficient.saturating_neg(),
+        variable: term.variable,
+    }
 }
 
 /// The term with the least variable from this rank on.
