@@ -1,4 +1,4 @@
-// The longest walk of a procedure, in T-states (docs/CHECKER.md, "Walks").
+// The longest walk of a procedure, in T-states (docs/CHECKER.md, "Walks"), and the potentials of its rows (docs/ANALYSIS.md, "Potentials").
 #![tactic(auto)]
 
 mod ahead;
@@ -7,4 +7,5 @@ mod links;
 mod walks;
 
 pub use fault::TimeFault;
+pub use potentials::{PotentialFault, potentials};
 pub use walks::longest;
