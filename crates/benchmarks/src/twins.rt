@@ -44,8 +44,9 @@ pub fn compared(alloc: Global, rom: &[u8], text: &[u8], events: u64, seed: u64) 
 fn starts_of(certificate: &Certificate) -> Starts {
     let mut starts = Starts::new();
     for id in 0..certificate.row_count() {
-        if let Some(row) = certificate.row(id) {
-            starts.insert(row.address);
+        match certificate.row(id) {
+            Some(row) if row.address < 0x4000 => starts.insert(row.address),
+            _ => {}
         }
     }
     starts
@@ -67,6 +68,9 @@ fn run_twice(accepted: &Accepted, starts: &Starts, events: u64, seed: u64) -> Tw
 /// How many NMIs are accepted in one run; or the number of the first event that differs, or of the last where the RAMs differ behind it.
 fn one_run(accepted: &Accepted, starts: &Starts, numbers: &mut Numbers) -> Result<u64, u64> {
     let reset = numbers.reset();
+    if reset.phase >= FRAME {
+        return Err(0);
+    }
     let mut machine = Machine::reset(accepted, &reset);
     let mut board = Board::reset(&reset);
     let profile = Profile {
