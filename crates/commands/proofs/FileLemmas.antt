@@ -6,12 +6,13 @@ use Rattle.std.proofs.lemmas.List.{length-take-le}
 use Rattle.board_step.specs.Hardware.{Hardware}
 use Rattle.board_step.specs.Safe.{Safe}
 use Rattle.runner.specs.Certified.{Accepts, IsRefused, board_of, certified_profile, nmi_time}
-use Rattle.cert_order.specs.Contents.{Contents, IsInForm}
+use Rattle.cert_order.specs.Contents.{Contents, IsInForm, migrated}
 use Rattle.cert_order.specs.Text.{HasTooMany, IsFirstBadLine, text_of}
 use Rattle.certificate.specs.Pieces.{GivesAll, OfBytes}
 use Rattle.texts.proofs.DeviceLemmas.{gives_all}
 use Rattle.texts.specs.Device.{DeviceState, GivesBytes}
 use Rattle.commands.specs.Judging.{HoldAccepted, IsAccepted, IsTextOf, OnAccepted, TellsAccepted, TellsRefusal, WritesRefusalOf, WritesUnread}
+use Rattle.commands.specs.Migrating.{TellsMigrated}
 use Rattle.commands.specs.Reading.{FirstBytes, ROM_READ_LEN}
 use Rattle.commands.specs.Running.{PlaysPart, PlaysTo, PlaysToBadLine, TellsBadInput, TellsPart, TellsRun}
 use Rattle.verdicts.specs.Verdict.{Refused, accepted_text, bad_line_text, refused_text}
@@ -156,3 +157,10 @@ pub tells_part : {X : Type 0} (Writes : DeviceState → List ℕ → DeviceState
     FirstBytes ROM_READ_LEN rom bytes → OfBytes text (λ lines. IsAccepted bytes lines certificate) → own ≡ bytes → before ≡ same → PlaysPart Writes (board_of own certificate) steps input (state before) new →
     TellsPart Writes steps rom text input (state same) new
 tells_part Writes state steps rom text input new = on_played rom text state (λ hardware old. PlaysPart Writes hardware steps input old new)
+
+-- the text of a certificate that was read, migrated, was written, from a sink that is the same
+pub tells_migrated : {X : Type 0} (Writes : DeviceState → List ℕ → DeviceState → Type 0) (state : X → DeviceState) (text : Option (List ℕ)) (new : DeviceState) (read shown : Contents) (before same : X) →
+    OfBytes text (IsTextOf read) → shown ≡ migrated read → before ≡ same → Writes (state before) (text_of shown) new → TellsMigrated Writes text (state same) new
+tells_migrated {X} Writes state text new read shown before same is shows kept writes =
+    of_bytes text (IsTextOf read) _
+    (λ lines here. (read, here, subst (λ (x : X). Writes (state x) (text_of (migrated read)) new) kept (subst (λ (c : Contents). Writes (state before) (text_of c) new) shows writes))) is
