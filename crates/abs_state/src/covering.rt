@@ -75,7 +75,7 @@ impl AbsState {
 }
 
 /// Whether there are as many slots, and each origin that one of the first tells is that of the slot in its place of the second.
-fn keeps_slots(mine: &[Slot], theirs: &[Slot]) -> bool
+pub fn keeps_slots(mine: &[Slot], theirs: &[Slot]) -> bool
     ensures { IsTrue result ↔ AllZip KeepsSlot mine.now theirs.now }
 {
     mine.len() == theirs.len()

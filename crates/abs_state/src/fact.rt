@@ -58,7 +58,7 @@ pub(crate) fn fact_without(register: Register8, fact: Option<FlagFact>) -> Optio
 }
 
 /// Whether a row's fact is that of a state, or there is none in the row.
-pub(crate) fn covers_fact(fact: Option<FlagFact>, other: Option<FlagFact>) -> bool
+pub fn covers_fact(fact: Option<FlagFact>, other: Option<FlagFact>) -> bool
     ensures { result ≡ covers_fact fact other }
 {
     match (fact, other) {

@@ -16,7 +16,8 @@ mod state;
 mod variables;
 
 pub use cell::KeptCell;
-pub use fact::FlagFact;
+pub use covering::keeps_slots;
+pub use fact::{FlagFact, covers_fact};
 pub use mode::Mode;
 pub use pairs::Pairs;
 pub use state::AbsState;

@@ -93,7 +93,7 @@ impl Pairs {
     }
 
     /// Whether each pair covers the other's.
-    pub(crate) fn covers(&self, other: &Pairs) -> bool
+    pub fn covers(&self, other: &Pairs) -> bool
         ensures { IsTrue result ↔ CoversPairs self.now other.now }
     {
         self.covers_main(other) && self.covers_alternate(other)
@@ -120,7 +120,7 @@ impl Pairs {
     }
 
     /// Whether each origin that these pairs tell is that of the other's.
-    pub(crate) fn keeps(&self, other: &Pairs) -> bool
+    pub fn keeps(&self, other: &Pairs) -> bool
         ensures { IsTrue result ↔ KeepsPairs self.now other.now }
     {
         keeps_pair(self.af, other.af)

@@ -319,7 +319,7 @@ fn step_by_known(board: &mut Board, rom: &Rom, map: &Map, env: &Env) -> Option<E
                 not_taken: cost(&instr, false),
             };
             let known = Known { instr, len, costs };
-            Some(board.step_known(rom, map, Some(known), env))
+            Some(board.step_known(rom, map, Some(&known), env))
         }
     }
 }

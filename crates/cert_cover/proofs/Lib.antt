@@ -2,3 +2,4 @@ pub mod CoveringLemmas
 pub mod Lists
 pub mod OrderedLists
 pub mod ProgramLemmas
+pub mod RowLemmas

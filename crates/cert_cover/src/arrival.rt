@@ -5,6 +5,7 @@ ghost use Rattle.std.specs.List.{All};
 ghost use Rattle.cert_cover.specs.Covering.{CoversArrival, CoversTightened, IsKnown, Suits};
 
 use crate::knowing::{are_known, tightened};
+use crate::rows::{covers_state, keeps_state};
 use abs_state::AbsState;
 use call_graph::ProcId;
 use cert_lines::RowView;
@@ -43,10 +44,13 @@ impl<'a> Arrival<'a> {
         if !suits(row, state) {
             return false;
         }
+        if row.facts.as_slice().is_empty() {
+            return covers_state(row, state);
+        }
         if !self.knows_facts(row) {
             return false;
         }
-        row.state().keeps(state) && covers_tightened(row, state)
+        keeps_state(row, state) && covers_tightened(row, state)
     }
 
     /// Whether each fact of a row is known to hold.
@@ -69,7 +73,7 @@ fn covers_tightened(row: &RowView, state: &AbsState) -> bool
     ensures { IsTrue result ↔ CoversTightened row.now state.now }
 {
     match tightened(row.facts.as_slice(), state.copied()) {
-        Some(left) => row.state().covers(&left),
+        Some(left) => covers_state(row, &left),
         None => true,
     }
 }

@@ -94,16 +94,18 @@ impl<'a> Coverer<'a> {
         }
     }
 
-    /// The number of a row at the address that covers the state.
+    /// The number of a row at the address that covers the state. The rows about the one that covered last are looked at first, since rows that follow
+    /// one another mostly lead to rows that do.
     fn covering_row(&self, arrival: &Arrival, state: &AbsState) -> Option<RowId>
         ensures { MatchOption result (SomeCovers self.now arrival.now state.now → ⊥) (λ _. SomeCovers self.now arrival.now state.now) }
     {
         let rows = self.certificate.rows_at(arrival.proc, arrival.address);
-        let last = self.last;
-        if rows.start <= last && last < rows.end && self.row_covers(last, arrival, state) {
-            return Some(last);
+        let start = rows.start.max(self.last.saturating_sub(1));
+        let end = rows.end.min(self.last.saturating_add(2));
+        match self.first_covering(start, end, arrival, state) {
+            Some(near) => Some(near),
+            None => self.first_covering(rows.start, rows.end, arrival, state),
         }
-        self.first_covering(rows.start, rows.end, arrival, state)
     }
 
     /// The first of these numbers whose row covers the state.

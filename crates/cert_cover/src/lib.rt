@@ -5,6 +5,7 @@ mod arrival;
 mod covering;
 mod knowing;
 mod program;
+mod rows;
 
 pub use arrival::Arrival;
 pub use covering::Coverer;

@@ -26,43 +26,36 @@ fn potential_of(row: &RowView) -> Linear
     }
 }
 
-/// Whether a row's potential pays so many T-states and leaves what another row's potential comes to.
-fn pays_to(row: &RowView, cost: u32, effect: &Effect, target: &RowView) -> bool
-    ensures { IsTrue result ↔ PaysTo row.now cost effect.now target.now }
+/// Whether the row of a subject pays so many T-states.
+fn row_pays_out(subject: &Subject, cost: u32) -> bool
+    ensures { IsTrue result ↔ PaysOut subject.now.row cost }
 {
-    let from = potential_of(row);
-    let to = potential_of(target);
-    decreases(&from, &to, cost, effect, &row.state(), &target.state())
-}
-
-/// Whether a row's potential pays so many T-states.
-fn pays_out(row: &RowView, cost: u32) -> bool
-    ensures { IsTrue result ↔ PaysOut row.now cost }
-{
-    let from = potential_of(row);
-    let state = row.state();
+    let from = potential_of(&subject.row);
+    let state = &subject.state;
     decreases(
         &from,
         &Linear::zero(),
         cost,
         &Effect::unchanged(),
-        &state,
-        &state,
+        state,
+        state,
     )
-}
-
-/// Whether the row of a subject pays so many T-states.
-fn row_pays_out(subject: &Subject, cost: u32) -> bool
-    ensures { IsTrue result ↔ PaysOut subject.now.row cost }
-{
-    pays_out(&subject.row, cost)
 }
 
 /// Whether the row of a subject pays for a way to another row.
 fn row_pays_to(subject: &Subject, way: &Way, target: &RowView) -> bool
     ensures { IsTrue result ↔ PaysTo subject.now.row way.now.cost way.now.arrival.effect target.now }
 {
-    pays_to(&subject.row, way.cost, &way.effect, target)
+    let from = potential_of(&subject.row);
+    let to = potential_of(target);
+    decreases(
+        &from,
+        &to,
+        way.cost,
+        &way.effect,
+        &subject.state,
+        &target.state(),
+    )
 }
 
 /// Whether a row pays for a way to the row of a number, if that is asked.
@@ -110,12 +103,9 @@ fn exits_are_paid(subject: &Subject, next: &Next, callee: &Callee, exits: &[Next
     requires { callee_at subject.now.cert next.now.address ≡ Some callee.now }
     ensures { IsTrue result ↔ All (OnExit (PaysReturn subject.now next.now callee.now)) exits.now }
 {
-    for exit in exits {
-        if !exit_is_paid(subject, next, callee, exit) {
-            return false;
-        }
-    }
-    true
+    exits
+        .iter()
+        .all(|exit| exit_is_paid(subject, next, callee, exit))
 }
 
 /// Whether a row pays for the way back from each exit of a row of its callee.
@@ -192,12 +182,7 @@ fn next_pays(alloc: Global, subject: &Subject, next: &Next) -> bool
 fn nexts_pay(alloc: Global, subject: &Subject, nexts: &[Next]) -> bool
     ensures { IsTrue result ↔ All (NextPays subject.now) nexts.now }
 {
-    for next in nexts {
-        if !next_pays(alloc, subject, next) {
-            return false;
-        }
-    }
-    true
+    nexts.iter().all(|next| next_pays(alloc, subject, next))
 }
 
 /// The T-states that go by before the entry of a procedure of a kind: those of the acceptance, 11, before the NMI routine's.
@@ -228,8 +213,8 @@ fn meets_time(subject: &Subject) -> bool
     let left = linear_of(subject.time());
     let to = potential_of(&subject.row);
     let before = cost_before(subject.proc.kind);
-    let state = subject.row.state();
-    decreases(&left, &to, before, &Effect::unchanged(), &state, &state)
+    let state = &subject.state;
+    decreases(&left, &to, before, &Effect::unchanged(), state, state)
 }
 
 /// Whether a row has a potential.
@@ -243,11 +228,7 @@ fn has_potential(subject: &Subject) -> bool
 fn meets_entry(subject: &Subject) -> bool
     ensures { IsTrue result ↔ (subject.now.row.address ≡ subject.now.proc.entry → MeetsTime subject.now.proc subject.now.row) }
 {
-    if subject.row.address == subject.proc.entry {
-        meets_time(subject)
-    } else {
-        true
-    }
+    subject.row.address != subject.proc.entry || meets_time(subject)
 }
 
 /// Whether a row pays, once its ways on are known (docs/CHECKER.md, "Paying"): whether it has a potential, which pays for each way on

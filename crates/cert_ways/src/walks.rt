@@ -173,31 +173,19 @@ fn call_is_timed(subject: &Subject, next: &Next) -> bool
     }
 }
 
-/// Whether a row is one of a procedure with a time.
-fn is_timed(subject: &Subject) -> bool
-    ensures { IsTrue result ↔ IsSome subject.now.proc.time }
-{
-    subject.proc.time.is_some()
-}
-
 /// Whether a row is one of a procedure with a time, and calls none without.
 fn is_walked(subject: &Subject, nexts: &[Next]) -> bool
     requires { step_of subject.now ≡ Ok nexts.now }
     ensures { IsTrue result ↔ IsWalked subject.now }
 {
-    is_timed(subject) && calls_are_timed(subject, nexts)
+    subject.proc.time.is_some() && calls_are_timed(subject, nexts)
 }
 
 /// Whether each of these ways on that is a call calls a procedure with a time.
 fn calls_are_timed(subject: &Subject, nexts: &[Next]) -> bool
     ensures { IsTrue result ↔ All (OnCall subject.now) nexts.now }
 {
-    for next in nexts {
-        if !call_is_timed(subject, next) {
-            return false;
-        }
-    }
-    true
+    nexts.iter().all(|next| call_is_timed(subject, next))
 }
 
 /// The T-states that lie between a row and another, once the row's ways on are known, where the other may come next after it on a walk:

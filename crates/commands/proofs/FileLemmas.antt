@@ -1,15 +1,14 @@
 -- From what was read to what the files hold.
-use Rattle.std.proofs.Common.{◌≡◌, ◌<◌, ◌≤◌, ℕ, List, ◌++◌, IfSome, IsSome, codes, refl, Option, Some, None, length, take, take_all, ap, sym, subst, ◌∙◌, arith, inl, inr}
+use Rattle.std.proofs.Common.{◌≡◌, ◌<◌, ◌≤◌, ℕ, List, ◌++◌, IfSome, codes, refl, Option, Some, None, length, take, take_all, ap, sym, subst, ◌∙◌, arith, inl, inr}
 use Rattle.std.proofs.Math.Seq.{take-append_seam}
 use Rattle.std.proofs.lemmas.Bool.{cases_lt}
 use Rattle.std.proofs.lemmas.List.{length-take-le}
 use Rattle.board_step.specs.Hardware.{Hardware}
 use Rattle.board_step.specs.Safe.{Safe}
 use Rattle.runner.specs.Certified.{Accepts, IsRefused, board_of, certified_profile, nmi_time}
-use Rattle.cert_order.specs.Contents.{Contents, IsInForm, migrated}
+use Rattle.cert_order.specs.Contents.{Contents, migrated}
 use Rattle.cert_order.specs.Text.{HasTooMany, IsFirstBadLine, text_of}
-use Rattle.certificate.specs.Pieces.{GivesAll, OfBytes}
-use Rattle.texts.proofs.DeviceLemmas.{gives_all}
+use Rattle.certificate.specs.Pieces.{OfBytes}
 use Rattle.texts.specs.Device.{DeviceState, GivesBytes}
 use Rattle.commands.specs.Judging.{HoldAccepted, IsAccepted, IsTextOf, OnAccepted, TellsAccepted, TellsRefusal, WritesRefusalOf, WritesUnread}
 use Rattle.commands.specs.Migrating.{TellsMigrated}
@@ -62,14 +61,6 @@ some_bytes : (text : Option (List ℕ)) (P : List ℕ → Type 0) → OfBytes te
 some_bytes (Some bytes) P holds = (bytes, holds)
 some_bytes None P (bytes, holds) = (bytes, holds)
 
--- what a source gave up to its end are all of its bytes
-pub all_given : (old new : DeviceState) (text : List ℕ) → GivesAll old text new → OfBytes old.bytes (λ bytes. bytes ≡ text)
-all_given old new text gives = by_bytes old.bytes (λ some. gives_all old new text gives.given (gives.all some))
-  where
-    by_bytes : (all : Option (List ℕ)) → (IsSome all → IfSome all (λ bytes. text ≡ bytes)) → OfBytes all (λ bytes. bytes ≡ text)
-    by_bytes (Some bytes) same = sym (same refl)
-    by_bytes None same = (text, refl)
-
 -- a certificate that was read and accepted is that of its source
 pub accepted_of : (rom : List ℕ) (text : Option (List ℕ)) (read kept : Contents) → kept ≡ read → OfBytes text (IsTextOf read) →
     Accepts rom read → Safe (certified_profile rom read) (nmi_time read) → OfBytes text (λ lines. IsAccepted rom lines kept)
@@ -92,10 +83,6 @@ refused_of {X} Writes state rom text new read refused printed before same is kep
 -- that a text is no certificate was printed
 pub unread_of : (Writes : DeviceState → List ℕ → DeviceState → Type 0) (rom : List ℕ) (text : Option (List ℕ)) (old new : DeviceState) → WritesUnread Writes text old new → WritesRefusalOf Writes rom text old new
 unread_of Writes rom text old new = of_bytes text _ _ (λ lines told. (told.0, told.1, inr told.2))
-
--- a certificate that was read is that of its source
-pub read_of : (text : Option (List ℕ)) (read : Contents) → IsInForm read → OfBytes text (λ lines. lines ≡ text_of read) → OfBytes text (IsTextOf read)
-read_of text read form is = of_bytes text (λ lines. lines ≡ text_of read) _ (λ lines here. record { in_form = form; text_is = here }) is
 
 -- the number of the first bad line was printed
 pub bad_line_of : (Writes : DeviceState → List ℕ → DeviceState → Type 0) (text : Option (List ℕ)) (old new : DeviceState) (line : ℕ) (printed : List ℕ) →

@@ -1,6 +1,8 @@
-// The tests of the longest walks: worked rows, by hand, and refused memory.
+// The tests of the longest walks and of potentials: worked rows, by hand, and refused memory.
 #![tactic(auto)]
 
+#[cfg(test)]
+mod bounds_of_rows;
 #[cfg(test)]
 mod cases;
 #[cfg(test)]

@@ -26,11 +26,11 @@ pub const CALLED_TEXT: &str = "galcert 1\n\
     end\n";
 
 /// LD B,8, DJNZ to itself and RET at 0008.
-const LOOP: [u8; 13] = [
+pub const LOOP: [u8; 13] = [
     0x31, 0x00, 0x44, 0xCD, 0x08, 0x00, 0x18, 0xFE, 0x06, 0x08, 0x10, 0xFE, 0xC9,
 ];
 
-const LOOP_TEXT: &str = "galcert 1\n\
+pub const LOOP_TEXT: &str = "galcert 1\n\
     rom 13\n\
     stack 4380 4400\n\
     budget -\n\
@@ -45,7 +45,7 @@ const LOOP_TEXT: &str = "galcert 1\n\
     end\n";
 
 /// Main code that enables NMIs, and an NMI routine at 0066 that disables and enables them.
-const ROUTINE_TEXT: &str = "galcert 1\n\
+pub const ROUTINE_TEXT: &str = "galcert 1\n\
     rom 114\n\
     stack 4380 4400\n\
     budget 50665\n\
@@ -64,16 +64,19 @@ const ROUTINE_TEXT: &str = "galcert 1\n\
     row 1 0070 n *@AF *@BC *@DE *@HL *@IX *@IY *@AF' *@BC' *@DE' *@HL' - - - 14\n\
     end\n";
 
-fn routine_rom(alloc: Global) -> Result<Vec<u8>, AllocError> {
+/// PUSH AF, XOR A, LD (7001),A, INC A, LD (7001),A, POP AF and RETN.
+pub const ROUTINE: [u8; 12] = [
+    0xF5, 0xAF, 0x32, 0x01, 0x70, 0x3C, 0x32, 0x01, 0x70, 0xF1, 0xED, 0x45,
+];
+
+/// Main code that enables NMIs, and a routine at 0066.
+pub fn rom_with_routine(alloc: Global, routine: &[u8]) -> Result<Vec<u8>, AllocError> {
     let main = [0x31, 0x00, 0x44, 0x3E, 0x01, 0x32, 0x01, 0x70, 0x18, 0xFE];
-    let routine = [
-        0xF5, 0xAF, 0x32, 0x01, 0x70, 0x3C, 0x32, 0x01, 0x70, 0xF1, 0xED, 0x45,
-    ];
     let mut rom = Vec::from_slice(alloc, &main)?;
     for _ in main.len()..0x66 {
         rom.push(0)?;
     }
-    rom.extend_from_slice(&routine)?;
+    rom.extend_from_slice(routine)?;
     Ok(rom)
 }
 
@@ -105,7 +108,7 @@ fn main_has_no_time(rt: HostRuntime) -> Result<(), Fail> {
 
 #[test]
 fn an_nmi_routine(rt: HostRuntime) -> Result<(), Fail> {
-    let rom = routine_rom(rt.alloc())?;
+    let rom = rom_with_routine(rt.alloc(), &ROUTINE)?;
     let walk = told(rt.alloc(), rom.as_slice(), ROUTINE_TEXT, 1)?;
     assert!(rt; is_walk(&walk, 80, &[4, 5, 6, 7, 8, 9, 10]));
     Ok(())

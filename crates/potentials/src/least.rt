@@ -43,6 +43,26 @@ fn greater(one: Option<i32>, other: i32) -> Option<i32> {
     }
 }
 
+/// The least constant that pays for all that a row has to pay for, 0 where that is nothing; None where a potential that it needs has terms.
+/// It takes no look at the row's state, which is large.
+pub(crate) fn least_of_constants(
+    requests: &Requests,
+    first: u32,
+    known: &[Option<Linear>],
+) -> Option<i64> {
+    let mut least = requests.leaving.map(|cost| i64::from(cost));
+    for request in requests.of_rows.as_slice() {
+        if let Some(to) = known_at(known, first, request.to) {
+            if !to.terms().is_empty() {
+                return None;
+            }
+            let constant = i64::from(request.cost).saturating_add(i64::from(to.constant()));
+            least = least.max(Some(constant));
+        }
+    }
+    Some(least.unwrap_or(0))
+}
+
 /// What never changes while the potential of a row is looked for: the certificate, the number of its procedure's first row, the row's state, and what it has to
 /// pay for.
 #[derive(Drop)]

@@ -81,8 +81,9 @@ impl Requests {
         way: &Way,
         besides: u32,
     ) -> Result<(), PotentialFault> {
-        let lone = way.is_lone(certificate);
         let rows = way.rows(certificate);
+        // Of several rows none is lone.
+        let lone = rows.end.saturating_sub(rows.start) <= 1 && way.is_lone(certificate);
         for id in rows.start..rows.end {
             if let Some(row) = certificate.row(id) {
                 if way.asks(lone, &row) {

@@ -4,7 +4,7 @@ ghost use Rattle.std.specs.Prelude.{◌≡◌, length};
 ghost use Rattle.cert_cover.specs.Program.{map_of_board};
 
 use crate::fault::PotentialFault;
-use crate::least::Payer;
+use crate::least::{Payer, least_of_constants};
 use crate::links::{Link, edges_of, links_of};
 use crate::loops::{counters_of, mark_back, turn_of};
 use crate::requests::Requests;
@@ -195,6 +195,11 @@ fn potential_at(
     turn: Option<Linear>,
     known: &[Option<Linear>],
 ) -> Result<Linear, PotentialFault> {
+    if turn.is_none() {
+        if let Some(least) = least_of_constants(requests, first, known) {
+            return constant(least);
+        }
+    }
     let Some(state) = certificate.state(row) else {
         return Ok(Linear::zero());
     };
@@ -213,5 +218,16 @@ fn potential_at(
             Ok(potential) => Ok(potential),
             Err(_) => Err(PotentialFault::Limit),
         },
+    }
+}
+
+/// A constant, where a certificate has room for it.
+fn constant(least: i64) -> Result<Linear, PotentialFault> {
+    let Ok(least) = i32::try_from(least) else {
+        return Err(PotentialFault::Limit);
+    };
+    match Linear::of_constant(least) {
+        Some(linear) => Ok(linear),
+        None => Err(PotentialFault::Limit),
     }
 }

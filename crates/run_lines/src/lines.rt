@@ -34,13 +34,13 @@ pub fn begin_line(number: u64, at: u16) -> MadeLine
 
 /// The line of an NMI routine's end: the number of the event that ends it, from 0, and the T-states from its acceptance on, both
 /// events included.
-pub fn end_line(number: u64, spent: u128) -> MadeLine
+pub fn end_line(number: u64, spent: u64) -> MadeLine
     ensures { result ≡ end_line number spent }
 {
     let mut line = MadeLine::new();
     line.add(b"end");
     add_decimal_field(&mut line, u128::from(number));
-    add_decimal_field(&mut line, spent);
+    add_decimal_field(&mut line, u128::from(spent));
     line.add_byte(b'\n');
     line
 }

@@ -1,6 +1,6 @@
 // Which event of a run has a line.
 
-ghost use Rattle.std.specs.Prelude.{◌≡◌, ◌≢◌, ◌<◌, ◌+◌, ◌-◌, ◌++◌, ◌^◌, ℕ, List, Bool};
+ghost use Rattle.std.specs.Prelude.{◌≡◌, ◌≢◌, ◌<◌, ◌+◌, ◌-◌, ◌++◌, ◌^◌, ℕ, List, Bool, option_map};
 ghost use Rattle.board_step.specs.Hardware.{Hardware};
 ghost use Rattle.board_step.specs.Known.{IsKnown, IsKnownAt};
 ghost use Rattle.board_step.specs.Run.{is_return};
@@ -21,7 +21,7 @@ pub struct Moment {
     /// The stack pointer.
     pub sp: u16,
     /// The T-states of the run so far.
-    pub time: u128,
+    pub time: u64,
 }
 
 /// What is told of an event.
@@ -31,7 +31,7 @@ pub enum Note {
     /// It began an NMI routine: it accepted the NMI.
     Begins,
     /// It ended the NMI routine that ran, which took this many T-states.
-    Ends(u128),
+    Ends(u64),
 }
 
 /// Follows a run event by event, and knows which of them have a line.
@@ -40,7 +40,7 @@ pub struct Teller {
     /// The number of events so far.
     pub events: u64,
     /// Their T-states.
-    pub time: u128,
+    pub time: u64,
     /// The moment before the acceptance of the NMI routine that runs, if one does.
     pub running: Option<Moment>,
 }
@@ -61,7 +61,7 @@ impl Teller {
     /// instruction that returned.
     pub fn follow(&mut self, event: &Event, before: u16, after: u16, returned: bool) -> Note
         requires events { self.old.events < 2 ^ 64 - 1 }
-        requires time { self.old.time < 2 ^ 127 }
+        requires time { self.old.time < 2 ^ 63 }
         ensures events { self.new.events ≡ self.old.events + 1 }
         ensures time { self.new.time ≡ self.old.time + event.now.t }
         ensures note { Follows self.old.running event.now.kind (record { sp = before; time = self.old.time }) (record { sp = after; time = self.new.time }) returned result self.new.running }
@@ -71,7 +71,7 @@ impl Teller {
             time: self.time,
         };
         self.events += 1;
-        self.time += u128::from(event.t);
+        self.time += u64::from(event.t);
         let after = Moment {
             sp: after,
             time: self.time,
@@ -113,11 +113,11 @@ fn end_note(running: &mut Option<Moment>, after: Moment, returned: bool) -> Note
 }
 
 /// Whether an event is an instruction that returned, where this is known of the instruction.
-pub fn has_returned(known: Option<Known>, event: &Event) -> bool
-    ensures { (hardware : Hardware) (s new : State) (env : Env) → IsKnown hardware.rom s known → Step hardware s env event.now new → SaysReturned hardware s env result }
+pub fn has_returned(known: Option<&Known>, event: &Event) -> bool
+    ensures { (hardware : Hardware) (s new : State) (env : Env) → IsKnown hardware.rom s (option_map (λ k. k.now) known.entry) → Step hardware s env event.now new → SaysReturned hardware s env result }
 {
     match known {
-        Some(known) => returned_after(&known, event.t),
+        Some(known) => returned_after(known, event.t),
         None => false,
     }
 }

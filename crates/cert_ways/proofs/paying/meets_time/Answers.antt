@@ -17,11 +17,11 @@ returns c =
     let to = c.potential_of-to.result in
     let before = c.cost_before-before.result in
     let effect = c.unchanged.result in
-    let state = c.state-state.result in
+    let state = c.subject.inside.state in
     let left_is = c.linear_of-left.ensures ∙ ap constant_sum c.time.ensures.value in
     let to_is : to ≡ potential_of s.row = subst (λ (x : Subject). to ≡ potential_of x.row) c.subject.view_is c.potential_of-to.ensures in
     let before_is : before ≡ cost_before s.proc.kind = subst (λ (x : Subject). before ≡ cost_before x.proc.kind) c.subject.view_is c.cost_before-before.ensures in
-    let state_is : state ≡ s.row.state = subst (λ (x : Subject). state ≡ x.row.state) c.subject.view_is c.state-state.ensures in
+    let state_is : state ≡ s.row.state = subst (λ (x : Subject). state ≡ x.row.state) c.subject.view_is c.subject.invariant.3 in
     subst (λ (f : Sum). IsTrue paid ↔ Decreases f (potential_of s.row) (cost_before s.proc.kind) unchanged (range_of s.row.state) (range_of s.row.state)) left_is
     (subst (λ (t : Sum). IsTrue paid ↔ Decreases left t (cost_before s.proc.kind) unchanged (range_of s.row.state) (range_of s.row.state)) to_is
     (subst (λ (n : ℕ). IsTrue paid ↔ Decreases left to n unchanged (range_of s.row.state) (range_of s.row.state)) before_is

@@ -1,0 +1,58 @@
+-- A row without facts covers what its state covers, since what covers a state keeps what that tells of origins and flags.
+use Rattle.std.proofs.Common.{◌≡◌, ◌==◌, ◌↔◌, Bool, IsTrue, true, List, [], ◌∷◌, length, IfSome, arith, refl, sym, subst}
+use Rattle.std.proofs.lemmas.Bool.{eqb-true}
+use Rattle.std.specs.List.{All, AllZip}
+use Rattle.abs_state.specs.Covers.{CoversState, KeepsSlot, KeepsState}
+use Rattle.abs_state.specs.Pairs.{CoversPairs, KeepsPairs}
+use Rattle.abs_state.specs.declared.pairs.Pairs.{Pairs}
+use Rattle.abs_state.specs.declared.state.AbsState.{AbsState}
+use Rattle.cert_cover.specs.Arrival.{Arrival}
+use Rattle.cert_cover.specs.Covering.{CoversArrival, IsKnown, Suits, tightened_by}
+use Rattle.cert_lines.specs.declared.row.Row.{Row}
+use Rattle.loop_bounds.specs.Linear.{Sum}
+use Rattle.stack_shape.specs.Shape.{CoversShape}
+use Rattle.stack_shape.specs.declared.slot.Slot.{Slot}
+
+keeps_pairs : (p q : Pairs) → CoversPairs p q → KeepsPairs p q
+keeps_pairs p q covers = record {
+  af = covers.0.af.origin;
+  bc = covers.0.bc.origin;
+  de = covers.0.de.origin;
+  hl = covers.0.hl.origin;
+  ix = covers.0.ix.origin;
+  iy = covers.0.iy.origin;
+  alternate_af = covers.1.alternate_af.origin;
+  alternate_bc = covers.1.alternate_bc.origin;
+  alternate_de = covers.1.alternate_de.origin;
+  alternate_hl = covers.1.alternate_hl.origin;
+}
+
+keeps_slots : (mine theirs : List Slot) → CoversShape mine theirs → AllZip KeepsSlot mine theirs
+keeps_slots [] [] covers = tt
+keeps_slots [] (t ∷ ts) covers = absurd covers
+keeps_slots (s ∷ ss) [] covers = absurd covers
+keeps_slots (s ∷ ss) (t ∷ ts) covers = (covers.0.origin, keeps_slots ss ts covers.1)
+
+covering_keeps : (a b : AbsState) → CoversState a b → KeepsState a b
+covering_keeps a b covers = record {
+  pairs = keeps_pairs a.pairs b.pairs covers.pairs;
+  flag = covers.flag;
+  shape = keeps_slots a.shape b.shape covers.shape;
+}
+
+pub no_elements : (xs : List Sum) → true ≡ (length xs == 0) → xs ≡ []
+no_elements [] e = refl
+no_elements (x ∷ xs) e = let none = eqb-true (length (x ∷ xs)) 0 (sym e) in absurd (omega (arith, none))
+
+pub covers_without_facts : (a : Arrival) (state : AbsState) (row : Row) (told : Bool) → Suits row state → row.facts ≡ [] →
+    (IsTrue told ↔ CoversState row.state state) → IsTrue told ↔ CoversArrival a state row
+unfolding tightened_by
+covers_without_facts a state row told suits none exact = (
+  λ t. record {
+    suits = suits;
+    kept = covering_keeps row.state state (exact.0 t);
+    facts = subst (λ (facts : List Sum). All (IsKnown a.facts a.before a.effect) facts) (sym none) (λ k fact within. absurd (omega (arith, within)));
+    tightened = subst (λ (facts : List Sum). IfSome (tightened_by facts state) (CoversState row.state)) (sym none) (exact.0 t);
+  },
+  λ covers. exact.1 (subst (λ (facts : List Sum). IfSome (tightened_by facts state) (CoversState row.state)) none covers.tightened),
+)
