@@ -1,13 +1,10 @@
-/* The loop of crates/benchmarks on Debian's libz80ex (package libz80ex-dev): as many events as the argument says. */
+/* A ROM on Debian's libz80ex (package libz80ex-dev): libz80ex ROM EVENTS. It starts with all 0, does as many events, and prints the lines
+   that `galcert run` ends with, for a ROM that reads and writes no memory but its own and the cells of the RAMs. */
 #include <stdio.h>
 #include <stdlib.h>
 #include <z80ex/z80ex.h>
 
-static Z80EX_BYTE memory[65536] = {
-    0x31, 0x00, 0x44, 0xDD, 0x21, 0x00, 0x40, 0x06, 0x00, 0xDD, 0x7E, 0x05, 0xC6, 0x03, 0xDD, 0x77,
-    0x05, 0x21, 0x10, 0x40, 0x86, 0x77, 0x4F, 0xCD, 0x20, 0x00, 0x10, 0xED, 0x18, 0xE9, 0x00, 0x00,
-    0x3C, 0x80, 0xC9,
-};
+static Z80EX_BYTE memory[65536];
 
 static Z80EX_BYTE read_byte(Z80EX_CONTEXT *cpu, Z80EX_WORD at, int m1, void *data) {
     (void)cpu; (void)m1; (void)data;
@@ -33,15 +30,36 @@ static Z80EX_BYTE read_vector(Z80EX_CONTEXT *cpu, void *data) {
     return 0xFF;
 }
 
+static unsigned sum(unsigned from, unsigned count) {
+    unsigned total = 0;
+    for (unsigned i = 0; i < count; i++)
+        total += memory[from + i];
+    return total;
+}
+
 int main(int count, char **words) {
+    FILE *rom = count == 3 ? fopen(words[1], "rb") : NULL;
+    if (rom == NULL || fread(memory, 1, 0x4000, rom) == 0) {
+        fprintf(stderr, "usage: libz80ex ROM EVENTS\n");
+        return 2;
+    }
+    fclose(rom);
+    static const Z80_REG_T registers[] = {
+        regAF, regBC, regDE, regHL, regIX, regIY, regSP, regAF_, regBC_, regDE_, regHL_,
+    };
     Z80EX_CONTEXT *cpu = z80ex_create(read_byte, 0, write_byte, 0, read_port, 0, write_port, 0, read_vector, 0);
-    long events = count > 1 ? atol(words[1]) : 0;
+    for (unsigned i = 0; i < sizeof registers / sizeof *registers; i++)
+        z80ex_set_reg(cpu, registers[i], 0);
+    long events = atol(words[2]), states = 0;
     for (long event = 0; event < events; event++) {
         do {
-            z80ex_step(cpu);
+            states += z80ex_step(cpu);
         } while (z80ex_last_op_type(cpu) != 0);
     }
-    printf("A %u, B %u\n", z80ex_get_reg(cpu, regAF) >> 8, z80ex_get_reg(cpu, regBC) >> 8);
+    printf("done %ld %ld %04X %04X\nregs", events, states, z80ex_get_reg(cpu, regPC), z80ex_get_reg(cpu, regSP));
+    for (unsigned i = 0; i < 6; i++)
+        printf(" %04X", z80ex_get_reg(cpu, registers[i]));
+    printf("\nsum %u %u %u\n", sum(0x4000, 0x400), sum(0x5000, 0x400), sum(0x5800, 0x100));
     z80ex_destroy(cpu);
     return 0;
 }
