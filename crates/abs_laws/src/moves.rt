@@ -3,7 +3,7 @@
 ghost use Rattle.std.specs.Prelude.{ℕ, ◌+◌, ◌≤◌, ◌≡◌, Bool, List, length, Ok};
 ghost use Rattle.intervals.specs.Domain.{Entry};
 ghost use Rattle.loop_bounds.specs.Effect.{Valuation};
-ghost use Rattle.board_step.specs.Decoded.{StandsAt};
+ghost use Rattle.rom_fetch.specs.Decoded.{StandsAt};
 ghost use Rattle.board_step.specs.State.{AreBytes};
 ghost use Rattle.z80_decode.specs.declared.instr.Instr.{Instr};
 ghost use Rattle.z80_draft.specs.Draft.{Draft, moved};

@@ -1,8 +1,8 @@
 -- What an answer tells, said of what stands at the address.
 use Rattle.std.proofs.Common.{Bool, subst, drop, ℕ, List, Result, Ok, Err}
 use Rattle.std.specs.Prelude.{IfOk, IfErr}
-use Rattle.board_step.proofs.DecodedLemmas.{decoded_once}
-use Rattle.board_step.specs.Decoded.{StandsAt}
+use Rattle.rom_fetch.proofs.DecodedLemmas.{decoded_once}
+use Rattle.rom_fetch.specs.Decoded.{StandsAt}
 use Rattle.z80_decode.specs.declared.instr.Instr.{Instr}
 use Rattle.z80_decode.specs.declared.fault.DecodeFault.{DecodeFault}
 use Rattle.abs_state.specs.declared.state.AbsState.{AbsState}

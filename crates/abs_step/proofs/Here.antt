@@ -9,7 +9,7 @@ use Rattle.z80_draft.specs.Draft.{draft_on, past}
 use Rattle.z80_moves.specs.Moves.{moves_of}
 use Rattle.address_map.specs.declared.region.Region.{Region}
 use Rattle.board_step.specs.Context.{Context, context_of}
-use Rattle.board_step.specs.Decoded.{StandsAt}
+use Rattle.rom_fetch.specs.Decoded.{StandsAt}
 use Rattle.board_step.specs.Hardware.{hardware_of}
 use Rattle.board_step.specs.Reads.{outside_of}
 use Rattle.board_step.specs.State.{State}

@@ -12,7 +12,7 @@ use Rattle.z80_draft.specs.Draft.{Draft, draft_on, drafted, moved, past, test_ho
 use Rattle.z80_moves.specs.declared.moves.Test.TheVariants as tests
 use Rattle.address_map.specs.declared.region.Region.{Region}
 use Rattle.board_step.specs.Context.{Context, context_of}
-use Rattle.board_step.specs.Decoded.{StandsAt}
+use Rattle.rom_fetch.specs.Decoded.{StandsAt}
 use Rattle.board_step.specs.Hardware.{Hardware, hardware_of}
 use Rattle.board_step.specs.State.{State}
 use Rattle.board_step.specs.Step.{instr_draft}

@@ -14,7 +14,7 @@ use Rattle.z80_moves.specs.Moves.{moves_of}
 use Rattle.z80_moves.specs.declared.moves.Test.{Test}
 use Rattle.address_map.specs.declared.region.Region.{Region}
 use Rattle.board_step.specs.Context.{Context}
-use Rattle.board_step.specs.Decoded.{StandsAt}
+use Rattle.rom_fetch.specs.Decoded.{StandsAt}
 use Rattle.board_step.specs.Reads.{outside_of}
 use Rattle.board_step.specs.State.{State}
 use Rattle.board_step.specs.Step.{done, instr_draft}

@@ -1,6 +1,6 @@
 // The successors of a row, and its data writes.
 ghost use Rattle.std.specs.Prelude.{◌≡◌, ◌≤◌, [], length, Ok, Err, Result, IfOk, IfErr};
-ghost use Rattle.board_step.specs.Decoded.{StandsAt};
+ghost use Rattle.rom_fetch.specs.Decoded.{StandsAt};
 ghost use Rattle.z80_decode.specs.Spelling.{spelling};
 ghost use Rattle.z80_decode.specs.declared.instr.Instr.{Instr as Instruction};
 ghost use Rattle.z80_decode.specs.declared.fault.DecodeFault.{DecodeFault as Fault};
@@ -16,7 +16,7 @@ use crate::rules::{kind_of, refusal, set_stack};
 use abs_draft::{DataWrite, Ground, Known};
 use abs_state::{AbsState, KeptCell};
 use address_map::{Map, Rom};
-use board_step::fetch;
+use rom_fetch::fetch;
 use smallvec::SmallVec;
 use std::alloc::Global;
 use t_states::{cost, is_io};

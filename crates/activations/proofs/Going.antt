@@ -3,7 +3,7 @@ use Rattle.std.proofs.Common.{◌≡◌, ◌≢◌, ◌≤◌, ◌+◌, ◌*◌,
 use Rattle.std.specs.List.{All}
 use Rattle.z80_alu.specs.declared.regs.Regs.{Regs}
 use Rattle.z80_draft.specs.Registers.{IsRegs}
-use Rattle.board_step.specs.Decoded.{StandsAt}
+use Rattle.rom_fetch.specs.Decoded.{StandsAt}
 use Rattle.board_step.specs.Env.{IsEnv}
 use Rattle.board_step.specs.State.{IsState, State}
 use Rattle.board_step.specs.Step.{done}

@@ -9,7 +9,7 @@ use Rattle.z80_decode.specs.declared.fault.DecodeFault.{DecodeFault}
 use Rattle.z80_decode.specs.declared.fault.DecodeFault.TheVariants.{Truncated, Undocumented}
 use Rattle.z80_decode.specs.declared.instr.Instr.{Instr}
 use Rattle.z80_decode.proofs.Laws.{front, no_beginning, no_front, proper_beginning}
-use Rattle.board_step.specs.Decoded.{StandsAt}
+use Rattle.rom_fetch.specs.Decoded.{StandsAt}
 use Rattle.board_step.specs.State.{AreBytes}
 use Rattle.abs_step.specs.Successors.{answer_by, has_no_shape, jumps_anywhere, nexts_of, uses_stack}
 use Rattle.abs_step.specs.declared.next.Next.{Next}

@@ -2,7 +2,7 @@
 use Rattle.std.specs.Prelude.{ℕ, ◌≤◌, ◌≡◌, Bool, true, false, List, [], ◌∷◌, Ok, None, pos, ◌+ℤ◌, ◌≤ℤ◌}
 use Rattle.z80_decode.specs.declared.instr.Instr.{Instr}
 use Rattle.board_step.specs.Context.{Context, context_of}
-use Rattle.board_step.specs.Decoded.{StandsAt}
+use Rattle.rom_fetch.specs.Decoded.{StandsAt}
 use Rattle.board_step.specs.Run.{is_return}
 use Rattle.board_step.specs.State.{State}
 use Rattle.board_step.specs.Step.{done, instr_draft, t_of}

@@ -10,7 +10,7 @@ use crate::task::Task;
 use crate::ways::ways_on;
 use abs_state::AbsState;
 use abs_step::{Next, NextKind, Nexts, Reason};
-use board_step::fetch;
+use rom_fetch::fetch;
 use std::alloc::Global;
 use std::collections::{BTreeMap, BTreeSet};
 

@@ -6,9 +6,9 @@ use abs_draft::DataWrite;
 use abs_state::{AbsState, KeptCell, Mode};
 use abs_step::{Next, NextKind, Reason, Saved};
 use address_map::Map;
-use board_step::fetch;
 use intervals::{Domain, RegPair};
 use nmi_saves::restores;
+use rom_fetch::fetch;
 use z80_decode::{Direct, Instr, Register16, Special};
 
 /// The lowest reason against the data writes of a row that stands in the way of its other ones: 6, 7 or 8.

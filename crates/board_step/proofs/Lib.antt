@@ -1,4 +1,3 @@
-pub mod DecodedLemmas
 pub mod RangeLemmas
 pub mod RunLemmas
 pub mod StateRangeLemmas

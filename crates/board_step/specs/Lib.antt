@@ -1,6 +1,5 @@
 -- The machine's definitions. The first line of each file says whether the word "safe" reaches it (Trusted) or not (Helper).
 pub mod Context
-pub mod Decoded
 pub mod Direct
 pub mod Env
 pub mod Hardware

@@ -6,7 +6,6 @@ mod board;
 mod context;
 mod env;
 mod event;
-mod fetching;
 mod known;
 mod profile;
 mod ranges;
@@ -16,7 +15,6 @@ mod trap;
 pub use board::{Board, Reset};
 pub use env::{Env, Inputs};
 pub use event::{Event, Kind};
-pub use fetching::fetch;
 pub use known::{Costs, Known};
 pub use profile::{Profile, Trap};
 pub use ranges::{

@@ -2,7 +2,7 @@
 // hand from docs/BOARD.md; T-states are those of the instructions in docs/INSTRUCTIONS.md.
 
 ghost use Rattle.std.specs.Prelude.{◌<◌};
-ghost use Rattle.t_states.specs.Frame.{frame};
+ghost use Rattle.frame_times.specs.Frame.{frame};
 
 use crate::machine::map_for;
 use address_map::{Cell, RamKind, Region, Rom, Starts};

@@ -1,11 +1,12 @@
 // Steps whose answers come from the manual by hand. Those of another program are in crates/benchmarks.
 
 ghost use Rattle.std.specs.Prelude.{◌≡◌, ◌<◌, length};
-ghost use Rattle.t_states.specs.Frame.{frame};
+ghost use Rattle.frame_times.specs.Frame.{frame};
 
 use crate::rows::{BEFORE, BY_HAND, Row, TRAPS, TrapRow};
 use address_map::{Map, RamKind, Region, Rom, Starts};
-use board_step::{Board, Costs, Env, Event, Inputs, Kind, Known, Profile, Reset, Trap, fetch};
+use board_step::{Board, Costs, Env, Event, Inputs, Kind, Known, Profile, Reset, Trap};
+use rom_fetch::fetch;
 use t_states::cost;
 use z80_alu::{RegisterSet, Regs};
 

@@ -4,7 +4,7 @@ use Rattle.std.proofs.lemmas.Grind.{common_steps}
 use Rattle.std.proofs.lemmas.Option.{slice_get_cases, slice_get_within, get_or_from_slice_get}
 use Rattle.std.specs.List.{All, Contains}
 use Rattle.address_map.specs.Starts.{is_start}
-use Rattle.board_step.specs.Decoded.{StandsAt}
+use Rattle.rom_fetch.specs.Decoded.{StandsAt}
 use Rattle.board_step.specs.State.{AreBytes}
 use Rattle.cert_lines.specs.declared.proc.Proc.{Proc}
 use Rattle.cert_lines.specs.declared.row.Row.{Row}
@@ -14,7 +14,7 @@ use Rattle.safety.specs.Acceptance.{Accepts}
 use Rattle.code_map.specs.Code.{AllStand}
 use Rattle.safety.specs.Chain.{IsAccepted}
 use Rattle.safety.proofs.Judging.{judge, listed_at}
-use Rattle.board_step.proofs.DecodedLemmas.{inside}
+use Rattle.rom_fetch.proofs.DecodedLemmas.{inside}
 use Rattle.safety.specs.Profile.{has_row}
 use Rattle.safety.proofs.BoundedLemmas.{keeps_times}
 use Rattle.safety.proofs.Whole.{laid_out, safe}

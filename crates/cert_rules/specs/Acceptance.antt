@@ -12,7 +12,7 @@ use Rattle.cert_lines.specs.declared.proc.Proc.{Proc}
 use Rattle.cert_order.specs.Contents.{Contents}
 use Rattle.cert_rules.specs.Table.{IsConsistent, IsLowest}
 use Rattle.cert_ways.specs.Ways.{IsSubject, Subject}
-use Rattle.t_states.specs.Frame.{max_budget}
+use Rattle.frame_times.specs.Frame.{max_budget}
 
 -- ---- of the whole, before the rows
 

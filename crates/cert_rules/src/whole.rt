@@ -11,8 +11,8 @@ use abs_state::{AbsState, KeptCell};
 use address_map::{Map, Region, Rom};
 use cert_cover::{Arrival, Coverer};
 use certificate::{Certificate, Proc};
+use frame_times::MAX_BUDGET;
 use loop_bounds::Effect;
-use t_states::MAX_BUDGET;
 
 /// The bytes as the ROM of a certificate; None where there are none, more than 16,384, or not as many as it says.
 pub(crate) fn rom_for<'r>(bytes: &'r [u8], certificate: &Certificate) -> Option<Rom<'r>>

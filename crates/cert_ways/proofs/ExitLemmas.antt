@@ -13,8 +13,8 @@ use Rattle.abs_step.specs.declared.next.Next.{Next}
 use Rattle.abs_step.specs.declared.next.NextKind.{NextKind}
 use Rattle.abs_step.specs.declared.next.NextKind.TheVariants.{Jump, Call, Exit}
 use Rattle.abs_step.specs.declared.reason.Reason.{Reason}
-use Rattle.board_step.proofs.DecodedLemmas.{decoded_once}
-use Rattle.board_step.specs.Decoded.{StandsAt}
+use Rattle.rom_fetch.proofs.DecodedLemmas.{decoded_once}
+use Rattle.rom_fetch.specs.Decoded.{StandsAt}
 use Rattle.cert_cover.specs.Program.{ground_for, is_inline, is_main}
 use Rattle.cert_lines.specs.declared.proc.Proc.{Proc}
 use Rattle.cert_lines.specs.declared.row.Row.{Row}

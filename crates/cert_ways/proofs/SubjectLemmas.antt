@@ -3,7 +3,7 @@ use Rattle.std.proofs.Common.{◌≡◌, ◌≤◌, ℕ, zero, suc, Bool, if◌t
 use Rattle.std.specs.List.{AllByRecursion}
 use Rattle.std.proofs.lemmas.Bool.{cases_Bool}
 use Rattle.std.proofs.lemmas.Option.{get_or_from_slice_get, none-some, same_Some, slice_get-get_or, slice_get_within}
-use Rattle.board_step.specs.Decoded.{StandsAt}
+use Rattle.rom_fetch.specs.Decoded.{StandsAt}
 use Rattle.cert_cover.specs.Program.{callee_among, callee_at, is_called_at}
 use Rattle.cert_cover.specs.declared.program.Callee.{Callee}
 use Rattle.cert_lines.specs.Proc.{IsProc}

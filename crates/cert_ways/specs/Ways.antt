@@ -8,7 +8,7 @@ use Rattle.abs_step.specs.declared.next.Next.{Next}
 use Rattle.abs_step.specs.declared.next.NextKind.TheVariants.{Jump, Call, Exit}
 use Rattle.abs_step.specs.declared.reason.Reason.{Reason}
 use Rattle.abs_step.specs.declared.reason.Reason.TheVariants.{NotCovered}
-use Rattle.board_step.specs.Decoded.{StandsAt}
+use Rattle.rom_fetch.specs.Decoded.{StandsAt}
 use Rattle.cert_cover.specs.Arrival.{Arrival}
 use Rattle.cert_cover.specs.Covering.{Covered}
 use Rattle.cert_cover.specs.Program.{callee_at, ground_for, is_inline, is_main}

@@ -3,7 +3,7 @@
 ghost use Rattle.std.specs.Prelude.{◌≡◌, ◌↔◌, IsTrue, MatchOption, Result, false};
 ghost use Rattle.abs_step.specs.Successors.{is_return};
 ghost use Rattle.abs_step.specs.declared.next.NextKind.TheVariants.{Exit as Leaving};
-ghost use Rattle.board_step.specs.Decoded.{StandsAt};
+ghost use Rattle.rom_fetch.specs.Decoded.{StandsAt};
 ghost use Rattle.cert_ways.specs.Parts.{AnyExit, AtSomeExit, HasExits, HasNoExit, InSomeExit, OnSomeExit, may_leave};
 ghost use Rattle.z80_decode.specs.declared.fault.DecodeFault.{DecodeFault as Fault};
 ghost use Rattle.z80_decode.specs.declared.instr.Instr.{Instr as Instruction};
@@ -11,9 +11,9 @@ ghost use Rattle.z80_decode.specs.declared.instr.Instr.{Instr as Instruction};
 use crate::subject::Subject;
 use abs_step::{Next, NextKind, Nexts};
 use address_map::Rom;
-use board_step::fetch;
 use call_graph::ProcId;
 use certificate::{Certificate, RowId, RowView};
+use rom_fetch::fetch;
 use std::alloc::Global;
 use z80_decode::Instr;
 

@@ -2,17 +2,17 @@
 
 ghost use Rattle.std.specs.Prelude.{◌≡◌, ◌≤◌, IfOk, IfErr, Ok, Err, IfSome, MatchOption, None, Some, length, slice_get, unwrap_or};
 ghost use Rattle.cert_cover.specs.Program.{is_main, map_of_board};
-ghost use Rattle.board_step.specs.Decoded.{StandsAt};
+ghost use Rattle.rom_fetch.specs.Decoded.{StandsAt};
 ghost use Rattle.cert_ways.specs.Ways.{IsSubject, behind_of, step_of};
 
 use abs_state::AbsState;
 use abs_step::{Nexts, Reason, successors};
 use address_map::{Map, Rom};
-use board_step::fetch;
 use call_graph::ProcId;
 use cert_cover::{Arrival, is_inline};
 use certificate::{Certificate, Proc, RowId, RowView};
 use loop_bounds::Effect;
+use rom_fetch::fetch;
 use std::alloc::Global;
 use std::marker::Model;
 use z80_decode::{DecodeFault, Instr};

@@ -2,7 +2,7 @@
 use Rattle.std.proofs.Common.{◌≡◌, ℕ, ◌+◌, ◌%◌, ◌≤◌, Bool, true, false, ◌&&◌, ◌||◌, not, refl, sym, ap, subst, ◌∙◌, arith, nat_le}
 use Rattle.std.proofs.Math.Bool.{cond}
 use Rattle.std.proofs.lemmas.Bool.{leb-true}
-use Rattle.t_states.specs.Frame.{frame, idle_cost, nmi_cost}
+use Rattle.frame_times.specs.Frame.{frame, idle_cost, nmi_cost}
 use Rattle.board_step.specs.Context.{context_of}
 use Rattle.board_step.specs.Hardware.{Hardware}
 use Rattle.board_step.specs.Kind.{kind_of}

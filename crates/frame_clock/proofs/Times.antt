@@ -1,7 +1,7 @@
 -- The phase along a run, and when an NMI can be latched.
 use Rattle.std.proofs.Common.{◌≡◌, ◌↔◌, ℕ, zero, suc, ◌+◌, ◌%◌, ◌<◌, ◌≤◌, true, false, inl, inr, refl, sym, subst, ◌∙◌, arith}
 use Rattle.std.proofs.lemmas.Bool.{cases_Bool, cases_lt}
-use Rattle.t_states.specs.Frame.{frame, max_budget}
+use Rattle.frame_times.specs.Frame.{frame, max_budget}
 use Rattle.board_step.specs.Hardware.{Hardware}
 use Rattle.board_step.specs.Run.{AcceptsAt, Run, time_before}
 use Rattle.board_step.proofs.SingleLemmas.{takes_time}

@@ -1,6 +1,6 @@
 -- Helper: what an event does to the phase and the flip-flop, and the time between events of a run.
 use Rattle.std.specs.Prelude.{ℕ, ◌+◌, ◌-◌, ◌%◌, ◌<◌, ◌≤◌, ◌≡◌, true, false}
-use Rattle.t_states.specs.Frame.{frame}
+use Rattle.frame_times.specs.Frame.{frame}
 use Rattle.board_step.specs.Hardware.{Hardware}
 use Rattle.board_step.specs.Run.{Run, time_before}
 use Rattle.board_step.specs.State.{State}

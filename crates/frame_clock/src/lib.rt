@@ -3,7 +3,7 @@
 #![tactic(auto)]
 
 ghost use Rattle.std.specs.Prelude.{ℕ, ◌+◌, ◌%◌, ◌<◌, ◌≤◌, ◌≡◌, ◌↔◌, true, false};
-ghost use Rattle.t_states.specs.Frame.{frame, max_budget};
+ghost use Rattle.frame_times.specs.Frame.{frame, max_budget};
 ghost use Rattle.board_step.specs.Hardware.{Hardware};
 ghost use Rattle.board_step.specs.Run.{AcceptsAt, Run};
 ghost use Rattle.board_step.specs.State.{State};

@@ -6,7 +6,7 @@ use Rattle.board_step.specs.Hardware.{Hardware}
 use Rattle.board_step.specs.Kind.{kind_of}
 use Rattle.board_step.specs.Known.{IsKnownAt}
 use Rattle.board_step.specs.declared.known.Known.{Known}
-use Rattle.board_step.proofs.DecodedLemmas.{decoded_once}
+use Rattle.rom_fetch.proofs.DecodedLemmas.{decoded_once}
 use Rattle.t_states.specs.Costs.{cost_of}
 use Rattle.std.proofs.lemmas.Bool.{false≢true}
 use Rattle.z80_decode.specs.declared.fault.DecodeFault.{DecodeFault}

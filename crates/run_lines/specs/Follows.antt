@@ -1,7 +1,7 @@
 -- Helper: how a run is followed event by event.
 use Rattle.std.specs.Prelude.{ℕ, ◌-◌, ◌<◌, ◌≤◌, ◌≡◌, ◌≢◌, Bool, true, List, [], length, slice_get, Option, Some, None, Ok}
 use Rattle.board_step.specs.Context.{context_of}
-use Rattle.board_step.specs.Decoded.{StandsAt}
+use Rattle.rom_fetch.specs.Decoded.{StandsAt}
 use Rattle.board_step.specs.Hardware.{Hardware}
 use Rattle.board_step.specs.Kind.{kind_of}
 use Rattle.board_step.specs.Run.{AcceptsAt, ReturnsTo, Run, is_return, time_before}

@@ -7,7 +7,7 @@ use Rattle.board_step.specs.declared.env.Env.{Env}
 use Rattle.texts.specs.Numbers.{IsByte, flag_digit, hex2}
 use Rattle.runner.specs.declared.input.EnvLine.{EnvLine}
 use Rattle.runner.specs.declared.input.ResetLine.{ResetLine}
-use Rattle.t_states.specs.Frame.{frame}
+use Rattle.frame_times.specs.Frame.{frame}
 use Rattle.z80_alu.specs.Word.{word_of}
 use Rattle.z80_alu.specs.declared.regs.RegisterSet.{RegisterSet}
 use Rattle.z80_alu.specs.declared.regs.Regs.{Regs}

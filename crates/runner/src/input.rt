@@ -5,7 +5,7 @@ ghost use Rattle.texts.specs.Numbers.{Reads};
 ghost use Rattle.runner.specs.Input.{IsResetLine, IsEnvLine, reset_fields, reset_text, reset_of, regs_of, env_fields, env_text, env_of};
 
 use board_step::{Env, Inputs, Reset};
-use t_states::FRAME;
+use frame_times::FRAME;
 use texts::{Fields, decimal_between, flag_field, hex2_field};
 use z80_alu::{RegisterSet, Regs, Word};
 

@@ -3,7 +3,7 @@ use Rattle.std.proofs.Common.{◌⊎◌, ◌≡◌, ◌≢◌, ◌<◌, ◌≤�
 use Rattle.std.proofs.lemmas.Bool.{cases_lt}
 use Rattle.address_map.specs.declared.region.Region.{Region}
 use Rattle.board_step.specs.Context.{context_of}
-use Rattle.board_step.specs.Decoded.{Spells}
+use Rattle.rom_fetch.specs.Decoded.{Spells}
 use Rattle.board_step.specs.Env.{IsEnv}
 use Rattle.board_step.specs.Reset.{IsReset}
 use Rattle.board_step.specs.Run.{Run, time_before, AcceptsAt, is_return, ReturnsTo, EndsAt, GivesBack}

@@ -2,8 +2,8 @@
 use Rattle.std.proofs.Common.{◌≡◌, ◌≢◌, ◌≤◌, ◌∙◌, ℕ, Bool, true, false, cond, List, [], drop, None, Result, Ok, refl, sym, ap, subst}
 use Rattle.z80_decode.specs.declared.instr.Instr.{Instr}
 use Rattle.z80_decode.specs.declared.fault.DecodeFault.{DecodeFault}
-use Rattle.t_states.specs.Frame.{idle_cost}
-use Rattle.board_step.specs.Decoded.{StandsAt}
+use Rattle.frame_times.specs.Frame.{idle_cost}
+use Rattle.rom_fetch.specs.Decoded.{StandsAt}
 use Rattle.board_step.specs.Env.{IsEnv}
 use Rattle.board_step.specs.Kind.{kind_of}
 use Rattle.board_step.specs.State.{IsState, State}
@@ -13,7 +13,7 @@ use Rattle.board_step.specs.declared.env.Env.{Env}
 use Rattle.board_step.specs.declared.event.Event.{Event}
 use Rattle.board_step.specs.declared.event.Kind.{Kind}
 use Rattle.board_step.specs.declared.event.Kind.TheVariants as kinds
-use Rattle.board_step.proofs.DecodedLemmas.{decoded_once}
+use Rattle.rom_fetch.proofs.DecodedLemmas.{decoded_once}
 use Rattle.board_step.proofs.SingleLemmas.{takes_time}
 use Rattle.board_step.proofs.StateRangeLemmas.{done_keeps, step_keeps}
 use Rattle.board_step.proofs.StepLemmas.{traps_executing, traps_idling}

@@ -1,7 +1,7 @@
 -- What is accepted is safe.
 use Rattle.std.proofs.Common.{◌≡◌, ◌≤◌, ◌+◌, ◌∙◌, ℕ, Bool, true, false, List, [], ◌∷◌, ◌<◌, inl, inr, slice_get, Option, Some, None, refl, sym, ap, subst, arith}
 use Rattle.std.proofs.lemmas.List.{append-nil}
-use Rattle.t_states.specs.Frame.{nmi_cost}
+use Rattle.frame_times.specs.Frame.{nmi_cost}
 use Rattle.board_step.specs.Env.{IsEnv}
 use Rattle.board_step.specs.Kind.{kind_of}
 use Rattle.board_step.specs.Reset.{IsReset}

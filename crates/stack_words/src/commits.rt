@@ -7,7 +7,7 @@ ghost use Rattle.z80_decode.specs.declared.instr.Instr.{Instr};
 ghost use Rattle.z80_draft.specs.Draft.{Draft};
 ghost use Rattle.z80_draft.specs.declared.access.Write.{Write};
 ghost use Rattle.board_step.specs.Context.{Context};
-ghost use Rattle.board_step.specs.Decoded.{StandsAt};
+ghost use Rattle.rom_fetch.specs.Decoded.{StandsAt};
 ghost use Rattle.board_step.specs.Env.{IsEnv};
 ghost use Rattle.board_step.specs.Memory.{stored_all};
 ghost use Rattle.board_step.specs.State.{AreBytes, IsState, State};

@@ -1,4 +1,3 @@
--- The definitions: the T-states of instructions and of a frame, and the use of ports.
+-- The definitions: the T-states of instructions, and the use of ports.
 pub mod Costs
-pub mod Frame
 pub mod Io

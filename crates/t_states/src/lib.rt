@@ -1,10 +1,8 @@
-// What each instruction of the Z80 costs in T-states (Zilog UM0080), and the length of a frame.
+// What each instruction of the Z80 costs in T-states (Zilog UM0080), and which use a port.
 #![tactic(auto)]
 
 mod costs;
-mod frame;
 mod io;
 
 pub use costs::{cost, cost_range};
-pub use frame::{FRAME, IDLE_COST, MAX_BUDGET, NMI_COST, fixed_numbers};
 pub use io::is_io;

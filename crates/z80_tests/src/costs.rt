@@ -1,6 +1,7 @@
 // T-states and ports against UM0080: each table was written from the manual's T-states, not from the code.
 use crate::pages::with_code;
-use t_states::{FRAME, IDLE_COST, MAX_BUDGET, NMI_COST, cost, cost_range, fixed_numbers, is_io};
+use frame_times::{FRAME, IDLE_COST, MAX_BUDGET, NMI_COST, fixed_numbers};
+use t_states::{cost, cost_range, is_io};
 use z80_decode::decode;
 
 /// The T-states behind each first byte, with zeros after it, where no condition holds and nothing

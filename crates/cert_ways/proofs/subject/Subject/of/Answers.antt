@@ -1,5 +1,5 @@
 use Rattle.std.proofs.Common.{◌≡◌, Some, slice_get, subst, sym}
-use Rattle.board_step.specs.Decoded.{StandsAt}
+use Rattle.rom_fetch.specs.Decoded.{StandsAt}
 use Rattle.cert_lines.specs.declared.row.Row.{Row}
 use Rattle.cert_ways.specs.Ways.{behind_of}
 use Rattle.cert_ways.proofs.SubjectLemmas.{subject_at}

@@ -1,7 +1,8 @@
-// What stands at an address of the ROM.
+// What stands at an address of the ROM: the decoder over its bytes from there on.
+#![tactic(auto)]
 
 ghost use Rattle.std.specs.Prelude.{◌≡◌, Ok, Err, IfOk, IfErr, length};
-ghost use Rattle.board_step.specs.Decoded.{StandsAt};
+ghost use Rattle.rom_fetch.specs.Decoded.{StandsAt};
 ghost use Rattle.z80_decode.specs.Spelling.{spelling};
 
 use address_map::Rom;

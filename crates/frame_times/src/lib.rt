@@ -1,6 +1,8 @@
-// The T-states of a frame, and of what no instruction costs.
+// The T-states of a frame of the board, and of what no instruction costs.
+#![tactic(auto)]
+
 ghost use Rattle.std.specs.Prelude.{◌≡◌, ◌-◌, ◌*◌};
-ghost use Rattle.t_states.specs.Frame.{nmi_cost, idle_cost, frame, max_budget};
+ghost use Rattle.frame_times.specs.Frame.{nmi_cost, idle_cost, frame, max_budget};
 
 /// T-states of the acceptance of a non-maskable interrupt (UM0080, "Interrupt Response").
 pub const NMI_COST: u8 = 11;

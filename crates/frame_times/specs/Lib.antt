@@ -1,0 +1,2 @@
+-- The definitions of a frame and of what no instruction costs.
+pub mod Frame
