@@ -5,13 +5,15 @@
 #
 # It makes ROMs with certificates that are accepted: straight-line code of 65,529 rows in procedures with a time, and of half as many;
 # 10,000 calls of 1,022 procedures; 65,535 rows at two addresses, where the row that covers is the last one; 2,000 calls of a procedure of 2,000
-# exits, without times and with them; and 8,192 rows at two addresses, with pairs and shapes, where each is covered by another. Each is handed to
-# `PROGRAM verify` up to three times, and as often for a ROM of another length, which is refused at once: what is told are the least processor time
-# and the greatest memory beyond those of reading. The last grows fourfold with twice the rows.
+# exits, without times and with them, where 10 s are the aim; and rows at two addresses, with pairs and shapes, where each is covered by another: in
+# order, and at random, where 60 s are the aim for 65,535. Each is handed to `PROGRAM verify` up to three times, and as often for a ROM of another
+# length, which is refused at once: what is told are the least processor time and the greatest memory beyond those of reading. Rows in order are found
+# beside the one that covered last; at random they are looked for, which grows fourfold with twice the rows.
 set -eu
 cd "$(dirname "$0")/.."
 exec python3 - "${1:-./galcert}" <<'PYTHON'
 import os
+import random
 import subprocess
 import sys
 import tempfile
@@ -71,14 +73,18 @@ def many_last(count):
     return TWO, text(TWO, ["main 0000 0 0 -"], rows)
 
 
-def many_each(count):
-    """Each row leads to rows of which another one alone covers, by the word in DE: the later a row stands, the earlier that."""
+def many_each(count, at_random):
+    """Each row leads to rows of which another one alone covers, by the word in DE: the later a row stands, the earlier that, or at random."""
     half = (count - 2) // 2
     known = [f"{number:04X}-{number:04X}:{number // 256:02X}-{number // 256:02X}:{number % 256:02X}-{number % 256:02X}"
              for number in range(half)]
+    if at_random:
+        random.Random(1).shuffle(known)
     rows = [f"0 0000 u {ANY}- - - -"]
     rows += [f"0 0000 s * * {pair} * * * * * * * - - *@BC,{pair} -" for pair in known]
     rows += [f"0 0001 u {ANY}- - - -"]
+    if at_random:
+        random.Random(2).shuffle(known)
     rows += [f"0 0001 s * * {pair} * * * * * * * - - *@BC,{pair} -" for pair in reversed(known)]
     return TWO, text(TWO, ["main 0000 0 4 -"], rows)
 
@@ -139,5 +145,7 @@ with tempfile.TemporaryDirectory() as folder:
     tell(folder, "65,535 rows at two addresses, the last covers", lambda: many_last(65535))
     tell(folder, "2,000 calls of a procedure of 2,000 exits", lambda: exits(2000, 2000, False), 1)
     tell(folder, "the same with times", lambda: exits(2000, 2000, True), 1)
-    tell(folder, "8,192 rows at two addresses, each covers once", lambda: many_each(8192), 1)
+    tell(folder, "65,535 rows at two addresses, each covers once", lambda: many_each(65535, False), 1)
+    tell(folder, "8,192 rows of these at random", lambda: many_each(8192, True), 1)
+    tell(folder, "65,535 rows of these at random", lambda: many_each(65535, True), 1)
 PYTHON

@@ -1,5 +1,5 @@
 -- A row without facts covers what its state covers, since what covers a state keeps what that tells of origins and flags.
-use Rattle.std.proofs.Common.{◌≡◌, ◌==◌, ◌↔◌, Bool, IsTrue, true, List, [], ◌∷◌, length, IfSome, arith, refl, sym, subst}
+use Rattle.std.proofs.Common.{◌≡◌, ◌==◌, ◌↔◌, suc, ap, Bool, IsTrue, true, List, [], ◌∷◌, length, IfSome, arith, refl, sym, subst}
 use Rattle.std.proofs.lemmas.Bool.{eqb-true}
 use Rattle.std.specs.List.{All, AllZip}
 use Rattle.abs_state.specs.Covers.{CoversState, KeepsSlot, KeepsState}
@@ -7,7 +7,7 @@ use Rattle.abs_state.specs.Pairs.{CoversPairs, KeepsPairs}
 use Rattle.abs_state.specs.declared.pairs.Pairs.{Pairs}
 use Rattle.abs_state.specs.declared.state.AbsState.{AbsState}
 use Rattle.cert_cover.specs.Arrival.{Arrival}
-use Rattle.cert_cover.specs.Covering.{CoversArrival, IsKnown, Suits, tightened_by}
+use Rattle.cert_cover.specs.Covering.{CoversArrival, IsKnown, tightened_by}
 use Rattle.cert_lines.specs.declared.row.Row.{Row}
 use Rattle.loop_bounds.specs.Linear.{Sum}
 use Rattle.stack_shape.specs.Shape.{CoversShape}
@@ -44,12 +44,22 @@ pub no_elements : (xs : List Sum) → true ≡ (length xs == 0) → xs ≡ []
 no_elements [] e = refl
 no_elements (x ∷ xs) e = let none = eqb-true (length (x ∷ xs)) 0 (sym e) in absurd (omega (arith, none))
 
-pub covers_without_facts : (a : Arrival) (state : AbsState) (row : Row) (told : Bool) → Suits row state → row.facts ≡ [] →
+one_length : (mine theirs : List Slot) → CoversShape mine theirs → length mine ≡ length theirs
+one_length [] [] covers = refl
+one_length [] (t ∷ ts) covers = absurd covers
+one_length (s ∷ ss) [] covers = absurd covers
+one_length (s ∷ ss) (t ∷ ts) covers = ap suc (one_length ss ts covers.1)
+
+pub covers_without_facts : (a : Arrival) (state : AbsState) (row : Row) (told : Bool) → row.facts ≡ [] →
     (IsTrue told ↔ CoversState row.state state) → IsTrue told ↔ CoversArrival a state row
 unfolding tightened_by
-covers_without_facts a state row told suits none exact = (
+covers_without_facts a state row told none exact = (
   λ t. record {
-    suits = suits;
+    suits = record {
+      slots = one_length row.state.shape state.shape (exact.0 t).shape;
+      mode = (exact.0 t).mode;
+      armed = (exact.0 t).armed;
+    };
     kept = covering_keeps row.state state (exact.0 t);
     facts = subst (λ (facts : List Sum). All (IsKnown a.facts a.before a.effect) facts) (sym none) (λ k fact within. absurd (omega (arith, within)));
     tightened = subst (λ (facts : List Sum). IfSome (tightened_by facts state) (CoversState row.state)) (sym none) (exact.0 t);

@@ -41,11 +41,11 @@ impl<'a> Arrival<'a> {
     pub(crate) fn is_covered_by(&self, state: &AbsState, row: &RowView) -> bool
         ensures { IsTrue result ↔ CoversArrival self.now state.now row.now }
     {
-        if !suits(row, state) {
-            return false;
-        }
         if row.facts.as_slice().is_empty() {
             return covers_state(row, state);
+        }
+        if !suits(row, state) {
+            return false;
         }
         if !self.knows_facts(row) {
             return false;

@@ -1,8 +1,8 @@
 -- The exits of a procedure are those of its rows, and those of a row are told by its ways on.
-use Rattle.std.proofs.Common.{◌≡◌, ◌<◌, ◌≤◌, ◌↔◌, ◌&&◌, ℕ, zero, suc, if◌then◌else◌, not, Bool, true, false, List, [], ◌∷◌, ◌++◌, get_or, length, Option, Some, None, Result, Ok, Err, slice_get, refl, sym, subst, ap, ◌∙◌, inl, inr, arith, drop, IsTrue, ◌+◌}
-use Rattle.std.specs.List.{All, Contains}
+use Rattle.std.proofs.Common.{◌≡◌, ◌<◌, ◌≤◌, ◌↔◌, ◌&&◌, ℕ, zero, suc, if◌then◌else◌, not, Bool, true, false, List, [], ◌∷◌, ◌++◌, Option, Some, None, Result, Ok, Err, slice_get, refl, sym, subst, ap, ◌∙◌, inl, inr, arith, drop, is_some, IsTrue, ◌+◌}
+use Rattle.std.specs.List.{Contains}
 use Rattle.std.proofs.lemmas.Bool.{cases_lt, false≢true}
-use Rattle.std.proofs.lemmas.List.Elements.{All-contains, Contains-append_cases, Contains-get_or, at_read}
+use Rattle.std.proofs.lemmas.List.Elements.{Contains-append_cases}
 use Rattle.std.proofs.lemmas.Option.{same_Some, slice_get_read}
 use Rattle.abs_draft.specs.Ground.{Ground}
 use Rattle.abs_draft.specs.Outcomes.{after_moves, before_test, behind_test, known_before, test_of, tested}
@@ -19,7 +19,7 @@ use Rattle.cert_cover.specs.Program.{ground_for, is_inline, is_main}
 use Rattle.cert_lines.specs.declared.proc.Proc.{Proc}
 use Rattle.cert_lines.specs.declared.row.Row.{Row}
 use Rattle.cert_order.specs.Contents.{Contents}
-use Rattle.cert_ways.specs.Parts.{AtEachExit, AtSomeExit, HasExits, HasNoExit, InSomeExit, IsExitAt, IsExitIn, OnEachExit, OnExit, OnSomeExit, may_leave}
+use Rattle.cert_ways.specs.Parts.{AnyExit, AtEachExit, AtSomeExit, HasExits, HasNoExit, IsExitAt, IsExitIn, IsOnlyExit, OnEachExit, OnSomeExit, may_leave}
 use Rattle.cert_ways.specs.Ways.{Subject, IsExit, IsNumbered, nexts_from, nexts_in, step_of}
 use Rattle.stack_shape.specs.declared.slot.Slot.{Slot}
 use Rattle.z80_decode.specs.declared.fault.DecodeFault.{DecodeFault}
@@ -56,7 +56,7 @@ pub record Stated (rom : List ℕ) (cert : Contents) (row : Row) (p : Proc) (d :
   pub procedure : slice_get cert.procs row.proc ≡ Some p
   pub stands : StandsAt rom row.address d
 
-stated : (rom : List ℕ) (cert : Contents) (number : ℕ) (row : Row) (s : Subject) → slice_get cert.rows number ≡ Some row → IsNumbered rom cert number s →
+pub stated : (rom : List ℕ) (cert : Contents) (number : ℕ) (row : Row) (s : Subject) → slice_get cert.rows number ≡ Some row → IsNumbered rom cert number s →
     (s.row ≡ row) × Stated rom cert row s.proc s.decoded
 stated rom cert number row s at is =
     let same : s.row ≡ row = same_Some s.row row (sym is.at ∙ at) in (
@@ -89,10 +89,10 @@ has_exits rom cert number s nexts is same exit = (
   (λ leaves. record { subject = s; is = is; leaves = subst (λ (ns : List Next). IsExitIn ns exit) (sym same) leaves }),
 )
 
-none_in : (x : Next) → Contains [] x → ⊥
+pub none_in : (x : Next) → Contains [] x → ⊥
 none_in x listed = absurd (omega (arith, listed.1))
 
-no_exit_in : (exit : AbsState) → IsExitIn [] exit → ⊥
+pub no_exit_in : (exit : AbsState) → IsExitIn [] exit → ⊥
 no_exit_in exit leaves = none_in leaves.next leaves.leads
 
 -- a row that the abstract step refuses has no exit
@@ -104,12 +104,12 @@ refused_has_none rom cert number s why is refused exit at =
 -- ---- rows that may leave
 
 -- the one way on in a list of one
-in_one : (x n : Next) → Contains (x ∷ []) n → x ≡ n
+pub in_one : (x n : Next) → Contains (x ∷ []) n → x ≡ n
 in_one x n (zero, within, is) = is
 in_one x n (suc k, within, is) = absurd (omega (arith, within))
 
 -- a way on that is an exit is the one where the instruction is taken
-exit_way : (k : Option Known) (f : Known → Next) (n : Next) → Contains (way_on k f) n → (k' : Known) × (f k' ≡ n)
+pub exit_way : (k : Option Known) (f : Known → Next) (n : Next) → Contains (way_on k f) n → (k' : Known) × (f k' ≡ n)
 exit_way None f n listed = absurd (none_in n listed)
 exit_way (Some k) f n listed = (k, in_one (f k) n listed)
 
@@ -154,7 +154,7 @@ kind_leaves inline instr shape leaves = kinds (is_call instr) inline (is_return 
     kinds false inline false empty e = cc
 
 -- a row with an exit is one that may leave
-leaves_by : (g : Ground) (address : ℕ) (main inline : Bool) (state : AbsState) (decoded : Result Instr DecodeFault) (exit : AbsState) →
+pub leaves_by : (g : Ground) (address : ℕ) (main inline : Bool) (state : AbsState) (decoded : Result Instr DecodeFault) (exit : AbsState) →
     IsExitIn (nexts_in (answer_of g address main inline state decoded)) exit → may_leave state decoded ≡ true
 leaves_by g address main inline state (Err fault) exit leaves = absurd (no_exit_in exit leaves)
 leaves_by g address main inline state (Ok instr) exit leaves = by (refusal main inline instr state) leaves
@@ -298,62 +298,37 @@ each_more s start k P answer found exact each n from below =
           subst (λ (m : ℕ). AtEachExit s m P) same (exact.0 found)
     ]
 
--- ---- exits among ways on
+-- ---- the exit of a row of a callee
 
--- what holds of each way on that is an exit holds of each exit among them
-pub of_exits_in : (P : AbsState → Type 0) (nexts : List Next) → All (OnExit P) nexts → (exit : AbsState) → IsExitIn nexts exit → P exit
-of_exits_in P nexts all exit leaves =
-    subst P (sym leaves.state) (All-contains (OnExit P) nexts leaves.next all leaves.leads leaves.kind)
-
-pub at_exits_in : (P : AbsState → Type 0) (nexts : List Next) → ((exit : AbsState) → IsExitIn nexts exit → P exit) → All (OnExit P) nexts
-at_exits_in P nexts all k d within leaves =
-    all (get_or nexts k d).state record { next = get_or nexts k d; leads = Contains-get_or nexts k d within; kind = leaves; state = refl }
-
--- each exit of a row, by its ways on
-pub at_each_exit : (s : Subject) (number : ℕ) (P : AbsState → Type 0) (nexts : List Next) (answer : Bool) → HasExits s.rom s.cert number nexts →
-    (IsTrue answer ↔ All (OnExit P) nexts) → IsTrue answer ↔ AtEachExit s number P
-at_each_exit s number P nexts answer has exact = (
-  (λ yes. record { each = λ exit at. of_exits_in P nexts (exact.0 yes) exit ((has exit).0 at) }),
-  (λ all. exact.1 (at_exits_in P nexts (λ exit leaves. all.each exit ((has exit).1 leaves)))),
+-- each exit of a row that has one
+pub at_each_exit : (s : Subject) (number : ℕ) (P : AbsState → Type 0) (only : AbsState) (answer : Bool) → IsOnlyExit s number (Some only) →
+    (IsTrue answer ↔ P only) → IsTrue answer ↔ AtEachExit s number P
+at_each_exit s number P only answer is exact = (
+  (λ yes. record { each = λ exit at. subst P (same_Some only exit ((is.is exit).0 at)) (exact.0 yes) }),
+  (λ all. exact.1 (all.each only ((is.is only).1 refl))),
 )
 
--- a row without an exit
-pub at_no_exit : (s : Subject) (number : ℕ) (P : AbsState → Type 0) → HasNoExit s.rom s.cert number → IsTrue true ↔ AtEachExit s number P
-at_no_exit s number P none = ((λ yes. record { each = λ exit at. absurd (none exit at) }), (λ all. refl))
+not_some : (exit : AbsState) → None ≡ Some exit → ⊥
+not_some exit e = cc
 
--- some exit of a row, by its ways on
-pub at_some_exit : (s : Subject) (number : ℕ) (P : AbsState → Type 0) (nexts : List Next) (answer : Bool) → HasExits s.rom s.cert number nexts →
-    (IsTrue answer ↔ InSomeExit nexts P) → IsTrue answer ↔ AtSomeExit s number P
-at_some_exit s number P nexts answer has exact = (
-  (λ yes. let some = exact.0 yes in record { exit = some.exit; at = (has some.exit).1 some.among; holds = some.holds }),
-  (λ some. exact.1 record { exit = some.exit; among = (has some.exit).0 some.at; holds = some.holds }),
+-- a row without an exit
+pub at_no_exit : (s : Subject) (number : ℕ) (P : AbsState → Type 0) → IsOnlyExit s number None → IsTrue true ↔ AtEachExit s number P
+at_no_exit s number P is = ((λ yes. record { each = λ exit at. absurd (not_some exit ((is.is exit).0 at)) }), (λ all. refl))
+
+-- some exit of a row that has one
+pub at_some_exit : (s : Subject) (number : ℕ) (P : AbsState → Type 0) (only : AbsState) (answer : Bool) → IsOnlyExit s number (Some only) →
+    (IsTrue answer ↔ P only) → IsTrue answer ↔ AtSomeExit s number P
+at_some_exit s number P only answer is exact = (
+  (λ yes. record { exit = only; at = (is.is only).1 refl; holds = exact.0 yes }),
+  (λ some. exact.1 (subst P (sym (same_Some only some.exit ((is.is some.exit).0 some.at))) some.holds)),
 )
 
 -- a row without an exit has none of which this is so
-pub at_none : (s : Subject) (number : ℕ) (P : AbsState → Type 0) → HasNoExit s.rom s.cert number → IsTrue false ↔ AtSomeExit s number P
-at_none s number P none = ((λ yes. absurd (false≢true yes)), (λ some. absurd (none some.exit some.at)))
+pub at_none : (s : Subject) (number : ℕ) (P : AbsState → Type 0) → IsOnlyExit s number None → IsTrue false ↔ AtSomeExit s number P
+at_none s number P is = ((λ yes. absurd (false≢true yes)), (λ some. absurd (not_some some.exit ((is.is some.exit).0 some.at))))
 
--- ---- loops over ways on
-
--- one more way on of which this is not so
-pub none_more_in : (Q : Next → Type 0) (xs : List Next) (i : ℕ) (item : Next) (answer : Bool) → item ≡ get_or xs i item → i < length xs → answer ≡ false →
-    (IsTrue answer ↔ Q item) → ((k : ℕ) (d : Next) → k < i → Q (get_or xs k d) → ⊥) → (k : ℕ) (d : Next) → k < i + 1 → Q (get_or xs k d) → ⊥
-none_more_in Q xs i item answer is within refused exact none k d below =
-    elim (cases_lt k i) [
-      | inl before ↦ none k d before
-      | inr behind ↦
-          let here : Q (get_or xs i d) → ⊥ = at_read xs (λ (x : Next). Q x → ⊥) i item within is (λ q. false≢true (sym refused ∙ exact.1 q)) d in
-          let same : i ≡ k = omega (arith, below, behind) in
-          subst (λ (m : ℕ). Q (get_or xs m d) → ⊥) same here
-    ]
-
--- one more way on of which this is so
-pub each_more_in : (Q : Next → Type 0) (xs : List Next) (i : ℕ) (item : Next) (answer : Bool) → item ≡ get_or xs i item → i < length xs → answer ≡ true →
-    (IsTrue answer ↔ Q item) → ((k : ℕ) (d : Next) → k < i → Q (get_or xs k d)) → (k : ℕ) (d : Next) → k < i + 1 → Q (get_or xs k d)
-each_more_in Q xs i item answer is within found exact each k d below =
-    elim (cases_lt k i) [
-      | inl before ↦ each k d before
-      | inr behind ↦
-          let same : i ≡ k = omega (arith, below, behind) in
-          subst (λ (m : ℕ). Q (get_or xs m d)) same (at_read xs Q i item within is (exact.0 found) d)
-    ]
+-- whether a row has an exit
+pub has_one : (s : Subject) (number : ℕ) (only : Option AbsState) (answer : Bool) → IsOnlyExit s number only → answer ≡ is_some only →
+    IsTrue answer ↔ AtSomeExit s number AnyExit
+has_one s number (Some only) answer is told = at_some_exit s number AnyExit only answer is ((λ yes. tt), (λ any. told))
+has_one s number None answer is told = subst (λ (b : Bool). IsTrue b ↔ AtSomeExit s number AnyExit) (sym told) (at_none s number AnyExit is)

@@ -1,6 +1,8 @@
 -- The parts of going on, of paying and of walks: what is asked of one way on of a row, and of one row of a callee.
-use Rattle.std.specs.Prelude.{ℕ, ◌≡◌, ◌↔◌, ◌&&◌, Bool, false, List, Option, Some, None, Result, Ok, Err, Contains, IsSome, max, slice_get}
+use Rattle.std.specs.Prelude.{ℕ, ◌≡◌, ◌↔◌, ◌&&◌, Bool, true, false, not, if◌then◌else◌, List, Option, Some, None, Result, Ok, Err, Contains, IsSome, max, slice_get}
 use Rattle.abs_state.specs.Entries.{callee_entry}
+use Rattle.abs_state.specs.Mode.{is_unset}
+use Rattle.abs_state.specs.Narrowing.{condition_is}
 use Rattle.abs_state.specs.declared.state.AbsState.{AbsState}
 use Rattle.abs_step.specs.Successors.{is_empty, is_return}
 use Rattle.abs_step.specs.declared.next.Next.{Next}
@@ -15,8 +17,26 @@ use Rattle.cert_ways.specs.Pays.{IsAsked, Lands, PaysCall, PaysOut, PaysTo}
 use Rattle.cert_ways.specs.Ways.{Subject, IsNumbered, IsExit, Way, call_cost, entry_of, jump_way, nexts_from, return_way}
 use Rattle.z80_decode.specs.declared.fault.DecodeFault.{DecodeFault}
 use Rattle.z80_decode.specs.declared.instr.Instr.{Instr}
+use Rattle.z80_decode.specs.declared.instr.Instr.TheVariants.{Return, ReturnIf, ReturnFromInterrupt, ReturnFromNonMaskable}
 
 -- ---- exits
+
+-- a return leads out of its procedure where there are no words on its stack and SP is set; main is never left
+abbrev pub is_at_end : Bool → AbsState → Bool
+is_at_end main s = is_empty s.shape && (not (is_unset s.mode) && not main)
+
+-- the state in which a return leads out, where it does
+abbrev pub state_left : Instr → AbsState → Option AbsState
+state_left Return s = Some s
+state_left (ReturnIf condition) s = condition_is true condition s
+state_left ReturnFromInterrupt s = Some s
+state_left ReturnFromNonMaskable s = Some s
+state_left _ s = None
+
+-- the state in which a row leaves its procedure, by what stands at its address
+abbrev pub exit_by : Bool → AbsState → Result Instr DecodeFault → Option AbsState
+exit_by main s (Ok instr) = if is_at_end main s then state_left instr s else None
+exit_by main s (Err fault) = None
 
 -- an exit among some ways on leaves in this state
 pub record IsExitIn (nexts : List Next) (exit : AbsState) : Type 0 where
@@ -39,14 +59,14 @@ HasExits rom cert number nexts = (exit : AbsState) → IsExitAt rom cert number 
 abbrev pub HasNoExit : List ℕ → Contents → ℕ → Type 0
 HasNoExit rom cert number = (exit : AbsState) → IsExitAt rom cert number exit → ⊥
 
+-- the row of a number, in the certificate of another row, has this exit alone, or none
+pub record IsOnlyExit (s : Subject) (number : ℕ) (only : Option AbsState) : Type 0 where
+  pub is : (exit : AbsState) → IsExitAt s.rom s.cert number exit ↔ (only ≡ Some exit)
+
 -- a row may have an exit only where it has no words on its stack, and a return stands at its address
 abbrev pub may_leave : AbsState → Result Instr DecodeFault → Bool
 may_leave state (Ok instr) = is_empty state.shape && is_return instr
 may_leave state (Err fault) = false
-
--- a way on is no exit, or this holds of its state
-abbrev pub OnExit : (AbsState → Type 0) → Next → Type 0
-OnExit Holds next = next.kind ≡ Exit → Holds next.state
 
 -- this holds of each exit of the row of a number, in the certificate of another row
 pub record AtEachExit (s : Subject) (number : ℕ) (Holds : AbsState → Type 0) : Type 0 where
@@ -66,12 +86,6 @@ pub record AtSomeExit (s : Subject) (number : ℕ) (Holds : AbsState → Type 0)
 pub record OnSomeExit (s : Subject) (proc : ℕ) (Holds : AbsState → Type 0) : Type 0 where
   pub exit : AbsState
   pub of : IsExit s.rom s.cert proc exit
-  pub holds : Holds exit
-
--- this holds of some exit among some ways on
-pub record InSomeExit (nexts : List Next) (Holds : AbsState → Type 0) : Type 0 where
-  pub exit : AbsState
-  pub among : IsExitIn nexts exit
   pub holds : Holds exit
 
 -- any exit will do
@@ -142,10 +156,6 @@ greater None b = b
 -- a call comes back to this row, which is asked, from this exit of its callee
 abbrev pub ReturnLands : Subject → Next → Callee → Row → AbsState → Type 0
 ReturnLands s next callee target exit = Lands s.cert (return_way s next callee exit) target
-
--- a way on of a callee is an exit, and a call comes back to this row, which is asked
-abbrev pub ExitLands : Subject → Next → Callee → Row → Next → Type 0
-ExitLands s next callee target exit = (exit.kind ≡ Exit) × ReturnLands s next callee target exit.state
 
 -- so many T-states lie between a row and another by a call of a procedure, or of none
 abbrev pub LiesByCall : Subject → Next → Row → Option Callee → ℕ → Type 0

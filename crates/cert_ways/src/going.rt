@@ -5,7 +5,7 @@ ghost use Rattle.std.specs.List.{All};
 ghost use Rattle.abs_state.specs.Entries.{callee_entry};
 ghost use Rattle.cert_cover.specs.Covering.{Covered};
 ghost use Rattle.cert_cover.specs.Program.{callee_at};
-ghost use Rattle.cert_ways.specs.Parts.{AtEachExit, CallGoesOn, IsCoveredWay, NextGoesOn, OnEachExit, OnExit, ReturnCovered};
+ghost use Rattle.cert_ways.specs.Parts.{AtEachExit, CallGoesOn, IsCoveredWay, NextGoesOn, OnEachExit, ReturnCovered};
 ghost use Rattle.cert_ways.specs.Ways.{GoesOn, entry_of, jump_way, step_of};
 
 use crate::effects::effect_of_call;
@@ -52,45 +52,8 @@ fn return_is_covered(
     coverer.covers(&arrival, &after)
 }
 
-/// Whether a way on of a callee is no exit, or the call comes back from it in a state that is covered.
-fn exit_is_covered(
-    subject: &Subject,
-    next: &Next,
-    callee: &Callee,
-    exit: &Next,
-    coverer: &mut Coverer,
-) -> bool
-    ensures exact { IsTrue result ↔ OnExit (ReturnCovered coverer.old subject.now next.now callee.now) exit.now }
-    ensures same { coverer.new ≡ coverer.old }
-{
-    match exit.kind {
-        NextKind::Exit => return_is_covered(subject, next, callee, &exit.state, coverer),
-        NextKind::Jump | NextKind::Call => true,
-    }
-}
-
-/// Whether a call comes back in a state that is covered from each exit among some ways on of its callee.
-fn exits_are_covered(
-    subject: &Subject,
-    next: &Next,
-    callee: &Callee,
-    exits: &[Next],
-    coverer: &mut Coverer,
-) -> bool
-    ensures exact { IsTrue result ↔ All (OnExit (ReturnCovered coverer.old subject.now next.now callee.now)) exits.now }
-    ensures same { coverer.new ≡ coverer.old }
-{
-    for exit in exits {
-        if !exit_is_covered(subject, next, callee, exit, coverer) {
-            return false;
-        }
-    }
-    true
-}
-
 /// Whether a call comes back in a state that is covered from each exit of a row of its callee.
 fn row_is_covered(
-    alloc: Global,
     subject: &Subject,
     next: &Next,
     callee: &Callee,
@@ -100,15 +63,14 @@ fn row_is_covered(
     ensures exact { IsTrue result ↔ AtEachExit subject.now id (ReturnCovered coverer.old subject.now next.now callee.now) }
     ensures same { coverer.new ≡ coverer.old }
 {
-    match subject.exits_at(alloc, id) {
-        Some(exits) => exits_are_covered(subject, next, callee, exits.as_slice(), coverer),
+    match subject.exit_at(id) {
+        Some(exit) => return_is_covered(subject, next, callee, &exit, coverer),
         None => true,
     }
 }
 
 /// Whether a call comes back in a state that is covered from each exit of its callee.
 fn returns_are_covered(
-    alloc: Global,
     subject: &Subject,
     next: &Next,
     callee: &Callee,
@@ -119,7 +81,7 @@ fn returns_are_covered(
 {
     let rows = subject.certificate.rows_of(callee.number);
     for id in rows.start..rows.end {
-        if !row_is_covered(alloc, subject, next, callee, id, coverer) {
+        if !row_is_covered(subject, next, callee, id, coverer) {
             return false;
         }
     }
@@ -127,38 +89,38 @@ fn returns_are_covered(
 }
 
 /// Whether a call enters its callee in a state that is covered, and comes back from each exit in one.
-fn call_goes_on(alloc: Global, subject: &Subject, next: &Next, coverer: &mut Coverer) -> bool
+fn call_goes_on(subject: &Subject, next: &Next, coverer: &mut Coverer) -> bool
     ensures exact { IsTrue result ↔ CallGoesOn coverer.old subject.now next.now (callee_at subject.now.cert next.now.address) }
     ensures same { coverer.new ≡ coverer.old }
 {
     match callee_at(subject.certificate, next.address) {
         Some(callee) => {
             entry_is_covered(subject, next, &callee, coverer)
-                && returns_are_covered(alloc, subject, next, &callee, coverer)
+                && returns_are_covered(subject, next, &callee, coverer)
         }
         None => false,
     }
 }
 
 /// Whether a row goes on by one of its ways.
-fn next_goes_on(alloc: Global, subject: &Subject, next: &Next, coverer: &mut Coverer) -> bool
+fn next_goes_on(subject: &Subject, next: &Next, coverer: &mut Coverer) -> bool
     ensures exact { IsTrue result ↔ NextGoesOn coverer.old subject.now next.now }
     ensures same { coverer.new ≡ coverer.old }
 {
     match next.kind {
         NextKind::Jump => jump_is_covered(subject, next, coverer),
-        NextKind::Call => call_goes_on(alloc, subject, next, coverer),
+        NextKind::Call => call_goes_on(subject, next, coverer),
         NextKind::Exit => true,
     }
 }
 
 /// Whether a row goes on by each of these ways.
-fn nexts_go_on(alloc: Global, subject: &Subject, nexts: &[Next], coverer: &mut Coverer) -> bool
+fn nexts_go_on(subject: &Subject, nexts: &[Next], coverer: &mut Coverer) -> bool
     ensures exact { IsTrue result ↔ All (NextGoesOn coverer.old subject.now) nexts.now }
     ensures same { coverer.new ≡ coverer.old }
 {
     for next in nexts {
-        if !next_goes_on(alloc, subject, next, coverer) {
+        if !next_goes_on(subject, next, coverer) {
             return false;
         }
     }
@@ -175,5 +137,5 @@ pub fn goes_on(alloc: Global, subject: &Subject, nexts: &[Next], coverer: &mut C
     ensures exact { IsTrue result ↔ GoesOn subject.now }
     ensures same { coverer.new ≡ coverer.old }
 {
-    nexts_go_on(alloc, subject, nexts, coverer)
+    nexts_go_on(subject, nexts, coverer)
 }

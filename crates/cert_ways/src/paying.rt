@@ -4,7 +4,7 @@ ghost use Rattle.std.specs.List.{All};
 ghost use Rattle.std.specs.Prelude.{◌≡◌, ◌≤◌, ◌↔◌, IsSome, IsTrue, Ok, Some};
 ghost use Rattle.cert_cover.specs.Program.{callee_at};
 ghost use Rattle.cert_lines.specs.declared.row.Row.{Row};
-ghost use Rattle.cert_ways.specs.Parts.{AtEachExit, CallPays, NextPays, OnEachExit, OnExit, PaysReturn, PaysToRow, PaysWay};
+ghost use Rattle.cert_ways.specs.Parts.{AtEachExit, CallPays, NextPays, OnEachExit, PaysReturn, PaysToRow, PaysWay};
 ghost use Rattle.cert_ways.specs.Pays.{IsLone, MeetsTime, Pays, PaysCall, PaysOut, PaysTo, constant_sum, cost_before, potential_of};
 ghost use Rattle.cert_ways.specs.Ways.{step_of};
 
@@ -87,46 +87,25 @@ fn pays_way(subject: &Subject, way: &Way) -> bool
     true
 }
 
-/// Whether a way on of a callee is no exit, or a row pays for the way back from it.
-fn exit_is_paid(subject: &Subject, next: &Next, callee: &Callee, exit: &Next) -> bool
-    requires { callee_at subject.now.cert next.now.address ≡ Some callee.now }
-    ensures { IsTrue result ↔ OnExit (PaysReturn subject.now next.now callee.now) exit.now }
-{
-    match exit.kind {
-        NextKind::Exit => { pays_way(subject, &subject.return_way(next, callee, &exit.state)) }
-        NextKind::Jump | NextKind::Call => true,
-    }
-}
-
-/// Whether a row pays for the way back from each exit among some ways on of its callee.
-fn exits_are_paid(subject: &Subject, next: &Next, callee: &Callee, exits: &[Next]) -> bool
-    requires { callee_at subject.now.cert next.now.address ≡ Some callee.now }
-    ensures { IsTrue result ↔ All (OnExit (PaysReturn subject.now next.now callee.now)) exits.now }
-{
-    exits
-        .iter()
-        .all(|exit| exit_is_paid(subject, next, callee, exit))
-}
-
 /// Whether a row pays for the way back from each exit of a row of its callee.
-fn row_is_paid(alloc: Global, subject: &Subject, next: &Next, callee: &Callee, id: RowId) -> bool
+fn row_is_paid(subject: &Subject, next: &Next, callee: &Callee, id: RowId) -> bool
     requires { callee_at subject.now.cert next.now.address ≡ Some callee.now }
     ensures { IsTrue result ↔ AtEachExit subject.now id (PaysReturn subject.now next.now callee.now) }
 {
-    match subject.exits_at(alloc, id) {
-        Some(exits) => exits_are_paid(subject, next, callee, exits.as_slice()),
+    match subject.exit_at(id) {
+        Some(exit) => pays_way(subject, &subject.return_way(next, callee, &exit)),
         None => true,
     }
 }
 
 /// Whether a row pays for the way back from each exit of its callee.
-fn returns_are_paid(alloc: Global, subject: &Subject, next: &Next, callee: &Callee) -> bool
+fn returns_are_paid(subject: &Subject, next: &Next, callee: &Callee) -> bool
     requires { callee_at subject.now.cert next.now.address ≡ Some callee.now }
     ensures { IsTrue result ↔ OnEachExit subject.now callee.now.number (PaysReturn subject.now next.now callee.now) }
 {
     let rows = subject.certificate.rows_of(callee.number);
     for id in rows.start..rows.end {
-        if !row_is_paid(alloc, subject, next, callee, id) {
+        if !row_is_paid(subject, next, callee, id) {
             return false;
         }
     }
@@ -141,48 +120,47 @@ fn has_time(callee: &Callee) -> bool
 }
 
 /// Whether a callee has a time, and an exit, or else its time and the call are paid.
-fn call_is_paid(alloc: Global, subject: &Subject, next: &Next, callee: &Callee) -> bool
+fn call_is_paid(subject: &Subject, next: &Next, callee: &Callee) -> bool
     requires { callee_at subject.now.cert next.now.address ≡ Some callee.now }
     ensures { IsTrue result ↔ PaysCall subject.now next.now callee.now }
 {
     if !has_time(callee) {
         return false;
     }
-    if subject.has_exit(alloc, callee.number) {
+    if subject.has_exit(callee.number) {
         return true;
     }
     row_pays_out(subject, subject.call_cost(next, callee))
 }
 
 /// Whether a row pays for a call, and for each way back from it.
-fn call_pays(alloc: Global, subject: &Subject, next: &Next) -> bool
+fn call_pays(subject: &Subject, next: &Next) -> bool
     ensures { IsTrue result ↔ CallPays subject.now next.now (callee_at subject.now.cert next.now.address) }
 {
     match callee_at(subject.certificate, next.address) {
         Some(callee) => {
-            call_is_paid(alloc, subject, next, &callee)
-                && returns_are_paid(alloc, subject, next, &callee)
+            call_is_paid(subject, next, &callee) && returns_are_paid(subject, next, &callee)
         }
         None => true,
     }
 }
 
 /// Whether a row pays for one of its ways on.
-fn next_pays(alloc: Global, subject: &Subject, next: &Next) -> bool
+fn next_pays(subject: &Subject, next: &Next) -> bool
     ensures { IsTrue result ↔ NextPays subject.now next.now }
 {
     match next.kind {
         NextKind::Jump => pays_way(subject, &subject.jump_way(next)),
-        NextKind::Call => call_pays(alloc, subject, next),
+        NextKind::Call => call_pays(subject, next),
         NextKind::Exit => row_pays_out(subject, u32::from(next.cost)),
     }
 }
 
 /// Whether a row pays for each of these ways on.
-fn nexts_pay(alloc: Global, subject: &Subject, nexts: &[Next]) -> bool
+fn nexts_pay(subject: &Subject, nexts: &[Next]) -> bool
     ensures { IsTrue result ↔ All (NextPays subject.now) nexts.now }
 {
-    nexts.iter().all(|next| next_pays(alloc, subject, next))
+    nexts.iter().all(|next| next_pays(subject, next))
 }
 
 /// The T-states that go by before the entry of a procedure of a kind: those of the acceptance, 11, before the NMI routine's.
@@ -244,5 +222,5 @@ pub fn pays(alloc: Global, subject: &Subject, nexts: &[Next]) -> bool
     if !meets_entry(subject) {
         return false;
     }
-    nexts_pay(alloc, subject, nexts)
+    nexts_pay(subject, nexts)
 }

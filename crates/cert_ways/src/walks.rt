@@ -3,7 +3,7 @@
 ghost use Rattle.std.specs.List.{All};
 ghost use Rattle.std.specs.Prelude.{◌≡◌, ◌↔◌, Contains, IsSome, IsTrue, Ok, Some, length};
 ghost use Rattle.cert_cover.specs.Program.{callee_at, map_of_board};
-ghost use Rattle.cert_ways.specs.Parts.{AtSomeExit, CostsExit, ExitLands, InSomeExit, IsAmong, LiesBy, LiesByCall, OnCall, OnSomeExit, ReturnLands, greater};
+ghost use Rattle.cert_ways.specs.Parts.{AtSomeExit, CostsExit, IsAmong, LiesBy, LiesByCall, OnCall, OnSomeExit, ReturnLands, greater};
 ghost use Rattle.cert_ways.specs.Pays.{IsExitCost, IsGreatest, IsWalked, Lands, LeavesAt, LieBetween, LiesBetween};
 ghost use Rattle.cert_ways.specs.Ways.{jump_way, step_of};
 
@@ -26,80 +26,29 @@ fn greater(one: Option<u32>, other: Option<u32>) -> Option<u32>
     }
 }
 
-/// Whether a way on of a callee is an exit, and a call comes back from it to a row that is asked.
-fn exit_lands(
-    subject: &Subject,
-    next: &Next,
-    callee: &Callee,
-    exit: &Next,
-    target: &RowView,
-) -> bool
-    requires called { callee_at subject.now.cert next.now.address ≡ Some callee.now }
-    requires listed { Contains subject.now.cert.rows target.now }
-    ensures { IsTrue result ↔ ExitLands subject.now next.now callee.now target.now exit.now }
-{
-    match exit.kind {
-        NextKind::Exit => subject
-            .return_way(next, callee, &exit.state)
-            .lands(subject.certificate, target),
-        NextKind::Jump | NextKind::Call => false,
-    }
-}
-
-/// Whether a call comes back to a row that is asked, from some exit among some ways on of its callee.
-fn some_exit_lands(
-    subject: &Subject,
-    next: &Next,
-    callee: &Callee,
-    exits: &[Next],
-    target: &RowView,
-) -> bool
-    requires called { callee_at subject.now.cert next.now.address ≡ Some callee.now }
-    requires listed { Contains subject.now.cert.rows target.now }
-    ensures { IsTrue result ↔ InSomeExit exits.now (ReturnLands subject.now next.now callee.now target.now) }
-{
-    for exit in exits {
-        if exit_lands(subject, next, callee, exit, target) {
-            return true;
-        }
-    }
-    false
-}
-
 /// Whether a call comes back to a row that is asked, from some exit of a row of its callee.
-fn row_lands(
-    alloc: Global,
-    subject: &Subject,
-    next: &Next,
-    callee: &Callee,
-    id: RowId,
-    target: &RowView,
-) -> bool
+fn row_lands(subject: &Subject, next: &Next, callee: &Callee, id: RowId, target: &RowView) -> bool
     requires called { callee_at subject.now.cert next.now.address ≡ Some callee.now }
     requires listed { Contains subject.now.cert.rows target.now }
     ensures { IsTrue result ↔ AtSomeExit subject.now id (ReturnLands subject.now next.now callee.now target.now) }
 {
-    match subject.exits_at(alloc, id) {
-        Some(exits) => some_exit_lands(subject, next, callee, exits.as_slice(), target),
+    match subject.exit_at(id) {
+        Some(exit) => subject
+            .return_way(next, callee, &exit)
+            .lands(subject.certificate, target),
         None => false,
     }
 }
 
 /// Whether a call comes back to a row that is asked, from some exit of its callee.
-fn some_return_lands(
-    alloc: Global,
-    subject: &Subject,
-    next: &Next,
-    callee: &Callee,
-    target: &RowView,
-) -> bool
+fn some_return_lands(subject: &Subject, next: &Next, callee: &Callee, target: &RowView) -> bool
     requires called { callee_at subject.now.cert next.now.address ≡ Some callee.now }
     requires listed { Contains subject.now.cert.rows target.now }
     ensures { IsTrue result ↔ OnSomeExit subject.now callee.now.number (ReturnLands subject.now next.now callee.now target.now) }
 {
     let rows = subject.certificate.rows_of(callee.number);
     for id in rows.start..rows.end {
-        if row_lands(alloc, subject, next, callee, id, target) {
+        if row_lands(subject, next, callee, id, target) {
             return true;
         }
     }
@@ -107,12 +56,12 @@ fn some_return_lands(
 }
 
 /// The T-states that lie between a row and another by a call, or None where it doesn't lead there.
-fn cost_by_call(alloc: Global, subject: &Subject, next: &Next, target: &RowView) -> Option<u32>
+fn cost_by_call(subject: &Subject, next: &Next, target: &RowView) -> Option<u32>
     requires { Contains subject.now.cert.rows target.now }
     ensures { IsGreatest (LiesByCall subject.now next.now target.now (callee_at subject.now.cert next.now.address)) result }
 {
     let callee = callee_at(subject.certificate, next.address)?;
-    if some_return_lands(alloc, subject, next, &callee, target) {
+    if some_return_lands(subject, next, &callee, target) {
         Some(subject.call_cost(next, &callee))
     } else {
         None
@@ -131,7 +80,7 @@ fn jump_lands(subject: &Subject, next: &Next, target: &RowView) -> bool
 }
 
 /// The T-states that lie between a row and another by a way on, or None where it doesn't lead there.
-fn cost_by(alloc: Global, subject: &Subject, next: &Next, target: &RowView) -> Option<u32>
+fn cost_by(subject: &Subject, next: &Next, target: &RowView) -> Option<u32>
     requires { Contains subject.now.cert.rows target.now }
     ensures { IsGreatest (LiesBy subject.now target.now next.now) result }
 {
@@ -143,19 +92,19 @@ fn cost_by(alloc: Global, subject: &Subject, next: &Next, target: &RowView) -> O
                 None
             }
         }
-        NextKind::Call => cost_by_call(alloc, subject, next, target),
+        NextKind::Call => cost_by_call(subject, next, target),
         NextKind::Exit => None,
     }
 }
 
 /// The most T-states that lie between a row and another by some of these ways on, or None where none leads there.
-fn greatest_cost(alloc: Global, subject: &Subject, nexts: &[Next], target: &RowView) -> Option<u32>
+fn greatest_cost(subject: &Subject, nexts: &[Next], target: &RowView) -> Option<u32>
     requires { Contains subject.now.cert.rows target.now }
     ensures { IsGreatest (IsAmong nexts.now (LiesBy subject.now target.now)) result }
 {
     let mut greatest = None;
     for next in nexts {
-        greatest = greater(greatest, cost_by(alloc, subject, next, target));
+        greatest = greater(greatest, cost_by(subject, next, target));
     }
     greatest
 }
@@ -202,7 +151,7 @@ pub fn cost_between(
     ensures { IsGreatest (LiesBetween subject.now target.now) result }
 {
     if is_walked(subject, nexts) {
-        greatest_cost(alloc, subject, nexts, target)
+        greatest_cost(subject, nexts, target)
     } else {
         None
     }

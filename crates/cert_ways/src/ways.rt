@@ -138,6 +138,6 @@ impl<'a> Way<'a> {
         if row.proc != self.proc || row.address != self.address {
             return false;
         }
-        self.asks(self.is_lone(certificate), row)
+        self.asks(false, row) || self.is_lone(certificate)
     }
 }

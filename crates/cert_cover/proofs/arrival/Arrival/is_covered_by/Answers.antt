@@ -6,5 +6,5 @@ use Rattle.cert_cover.proofs.arrival.Arrival.is_covered_by.Goals as goal
 pub returns-then-is_empty : goal.returns-then-is_empty
 returns-then-is_empty c =
     let none = no_elements c.as_slice.result.now (sym c.if-is_empty.true ∙ c.is_empty.ensures) in
-    covers_without_facts c.args.self.now c.args.state.now c.args.row.now c.covers_state.result (c.suits.ensures.0 c.if-not-suits.false)
+    covers_without_facts c.args.self.now c.args.state.now c.args.row.now c.covers_state.result
     (sym (ap (λ (r : Row). r.facts) c.row.view_is) ∙ sym c.as_slice.ensures.value ∙ none) c.covers_state.ensures
