@@ -1,16 +1,15 @@
 // All that a programmer says of a ROM.
 
-ghost use Rattle.std.specs.Prelude.{◌≡◌, pos, IsUtf8, IfOk, IfSome, Err, None, Some, Ok, codes};
+ghost use Rattle.std.specs.Prelude.{◌≡◌, IsUtf8, IfOk, IfSome, Err, None, Some, Ok, codes};
 ghost use Rattle.annotations.specs.Said.{Says, SaysBoard, SaysBudget, nmi_said};
-ghost use Rattle.toml.specs.Data.{Members, get_member, integer};
+ghost use Rattle.toml.specs.Data.{Members, get_member};
 ghost use Rattle.toml.specs.Parse.{parse_document};
 ghost use Rattle.toml.specs.View.{table_view};
 
 use crate::fault::{AnnotationFault, Wrong};
 use crate::lists::{cells, facts, inlines, loops, splits};
 use crate::notes::{FactNote, LoopNote, SplitNote};
-use crate::tables::{formed, member, unknown_key, value_at};
-use crate::values::word;
+use crate::tables::{formed, number, unknown_key, value_at};
 use abs_state::KeptCell;
 use address_map::Region;
 use cert_lines::BoardMap;
@@ -39,7 +38,7 @@ impl Model for Annotations {
 
     ghost Value = { Said };
 
-    ghost view = { λ a. record { region = a.region; budget = a.budget; board = a.board } };
+    ghost view = { λ a. record { region = a.region; budget = a.budget; board = a.board; cells = a.cells.items } };
 }
 
 impl Annotations {
@@ -51,7 +50,7 @@ impl Annotations {
     /// form, or that annotations do not have: first those that they have, in the order of the table, then others in the order of their
     /// bytes. `NoMemory` where memory was refused.
     pub fn read(alloc: Global, text: &[u8]) -> Result<Annotations, AnnotationFault>
-        // What is said of the whole is what the document says.
+        // What is said of the whole, and the cells, are what the document says.
         ensures found { IfOk result (λ said. (members : Members) × (parse_document text.now ≡ Some members) × Says members said) }
         // A text that is refused as such is none.
         ensures text { result ≡ Err AnnotationFault.Text → IsUtf8 text.now → parse_document text.now ≡ None }
@@ -110,7 +109,9 @@ impl Annotations {
     }
 
     /// The kept cells, by rising address.
-    pub fn cells(&self) -> &[KeptCell] {
+    pub fn cells(&self) -> &[KeptCell]
+        ensures { result.now ≡ self.now.cells }
+    {
         self.cells.as_slice()
     }
 }
@@ -161,13 +162,6 @@ fn bad_key(alloc: Global, key: &str) -> AnnotationFault
         Ok(name) => AnnotationFault::Key(name),
         Err(_) => AnnotationFault::NoMemory,
     }
-}
-
-/// The number of a key, 0 to 65,535.
-fn number(table: &Table, key: &str) -> Result<u16, Wrong>
-    ensures { IfOk result (λ number. get_member key.now (table_view table.now) ≡ Some (integer (pos number))) }
-{
-    formed(word(member(table, key)?))
 }
 
 /// Whether there is an NMI routine; there is none where nothing is said of it.

@@ -1,9 +1,13 @@
 // The lists of annotations: what is said of addresses, in the order of these.
 
+ghost use Rattle.std.specs.Prelude.{◌≡◌, ◌++◌, [], ◌∷◌, true, IfOk, OnOk};
+ghost use Rattle.annotations.specs.Said.{SayEach, SaysCell, SaysCells};
+ghost use Rattle.toml.specs.View.{items_view, table_view, view};
+
 use crate::fault::Wrong;
 use crate::notes::{FactNote, LoopNote, SplitNote};
-use crate::tables::{formed, items, member, table_with};
-use crate::values::{byte_range, fact, part, register, variable, word};
+use crate::tables::{formed, items, member, number, table_with};
+use crate::values::{byte_range, fact, part, register, variable};
 use abs_state::KeptCell;
 use cert_lines::BoardMap;
 use intervals::ByteRange;
@@ -15,7 +19,7 @@ pub(crate) fn inlines(alloc: Global, table: &Table) -> Result<Vec<u16>, Wrong> {
     let mut addresses = Vec::new(alloc);
     for item in items(table, "inline")? {
         let inner = table_with(item, &["at"])?;
-        keep(&mut addresses, address(inner, "at")?)?;
+        keep(&mut addresses, number(inner, "at")?)?;
     }
     addresses.sort_unstable();
     addresses.dedup();
@@ -29,7 +33,7 @@ pub(crate) fn splits(alloc: Global, table: &Table) -> Result<Vec<SplitNote>, Wro
         keep(&mut splits, split(alloc, item)?)?;
     }
     splits.sort_unstable_by_key(|split| split.at);
-    each_once(splits.windows(2).all(|both| both[0].at < both[1].at))?;
+    each_once(splits.is_sorted_by(|split, next| split.at < next.at))?;
     Ok(splits)
 }
 
@@ -37,10 +41,10 @@ pub(crate) fn splits(alloc: Global, table: &Table) -> Result<Vec<SplitNote>, Wro
 fn split(alloc: Global, item: &Value) -> Result<SplitNote, Wrong> {
     let inner = table_with(item, &["at", "register", "parts", "until"])?;
     Ok(SplitNote {
-        at: address(inner, "at")?,
+        at: number(inner, "at")?,
         register: formed(register(member(inner, "register")?))?,
         parts: parts(alloc, member(inner, "parts")?)?,
-        until: address(inner, "until")?,
+        until: number(inner, "until")?,
     })
 }
 
@@ -62,7 +66,7 @@ pub(crate) fn facts(alloc: Global, table: &Table) -> Result<Vec<FactNote>, Wrong
     for item in items(table, "fact")? {
         let inner = table_with(item, &["at", "sum", "is"])?;
         let note = FactNote {
-            at: address(inner, "at")?,
+            at: number(inner, "at")?,
             fact: formed(fact(member(inner, "sum")?, member(inner, "is")?))?,
         };
         keep(&mut facts, note)?;
@@ -79,31 +83,43 @@ pub(crate) fn loops(alloc: Global, table: &Table) -> Result<Vec<LoopNote>, Wrong
     for item in items(table, "loop")? {
         let inner = table_with(item, &["at", "counter"])?;
         let note = LoopNote {
-            at: address(inner, "at")?,
+            at: number(inner, "at")?,
             counter: formed(variable(member(inner, "counter")?))?,
         };
         keep(&mut loops, note)?;
     }
     loops.sort_unstable_by_key(|note| note.at);
-    each_once(loops.windows(2).all(|both| both[0].at < both[1].at))?;
+    each_once(loops.is_sorted_by(|note, next| note.at < next.at))?;
     Ok(loops)
 }
 
 /// The kept cells, each in the first 400h addresses of the board's work RAM, no two at one address.
-pub(crate) fn cells(alloc: Global, table: &Table, board: BoardMap) -> Result<Vec<KeptCell>, Wrong> {
-    let mut cells = Vec::new(alloc);
-    for item in items(table, "cell")? {
-        keep(&mut cells, cell(item, board.work_start())?)?;
-    }
+pub(crate) fn cells(alloc: Global, table: &Table, board: BoardMap) -> Result<Vec<KeptCell>, Wrong>
+    ensures { IfOk result (λ cells. SaysCells (table_view table.now) cells.items) }
+{
+    let mut cells = cells_written(alloc, items(table, "cell")?, board.work_start())?;
     cells.sort_unstable_by_key(|cell| cell.at);
-    each_once(cells.windows(2).all(|both| both[0].at < both[1].at))?;
+    each_once(cells.is_sorted_by(|cell, next| cell.at < next.at))?;
+    Ok(cells)
+}
+
+/// The kept cells of these tables, in their order.
+fn cells_written(alloc: Global, items: &[Value], start: u16) -> Result<Vec<KeptCell>, Wrong>
+    ensures { IfOk result (λ cells. SayEach (items_view items.now) cells.items) }
+{
+    let mut cells = Vec::new(alloc);
+    for item in items {
+        keep(&mut cells, cell(item, start)?)?;
+    }
     Ok(cells)
 }
 
 /// A kept cell of the work RAM that begins at this address.
-fn cell(item: &Value, start: u16) -> Result<KeptCell, Wrong> {
+fn cell(item: &Value, start: u16) -> Result<KeptCell, Wrong>
+    ensures { IfOk result (λ cell. SaysCell (view item.now) cell) }
+{
     let inner = table_with(item, &["at", "lo", "hi"])?;
-    let at = address(inner, "at")?;
+    let at = number(inner, "at")?;
     if at < start || at - start >= 0x400 {
         return Err(Wrong::Form);
     }
@@ -113,18 +129,17 @@ fn cell(item: &Value, start: u16) -> Result<KeptCell, Wrong> {
     })
 }
 
-/// The address of a key.
-fn address(table: &Table, key: &str) -> Result<u16, Wrong> {
-    formed(word(member(table, key)?))
-}
-
 /// A list of which no two elements are at one address.
-fn each_once(is_so: bool) -> Result<(), Wrong> {
+fn each_once(is_so: bool) -> Result<(), Wrong>
+    ensures { OnOk result (is_so ≡ true) }
+{
     if is_so { Ok(()) } else { Err(Wrong::Form) }
 }
 
 /// A list with one more element.
-fn keep<T: Drop>(list: &mut Vec<T>, item: T) -> Result<(), Wrong> {
+fn keep<T: Drop>(list: &mut Vec<T>, item: T) -> Result<(), Wrong>
+    ensures { OnOk result (list.new.items ≡ list.old.items ++ item ∷ []) }
+{
     match list.push(item) {
         Ok(()) => Ok(()),
         Err(_) => Err(Wrong::NoMemory),

@@ -1,10 +1,12 @@
 // The tables of a TOML text, and the keys that they may have.
 
-ghost use Rattle.std.specs.Prelude.{◌≡◌, Some, IfOk, option_map};
-ghost use Rattle.toml.specs.Data.{get_member};
-ghost use Rattle.toml.specs.View.{table_view, view};
+ghost use Rattle.std.specs.Prelude.{◌≡◌, pos, Some, IfOk, option_map};
+ghost use Rattle.annotations.specs.Said.{array_said};
+ghost use Rattle.toml.specs.Data.{get_member, integer, table};
+ghost use Rattle.toml.specs.View.{items_view, table_view, view};
 
 use crate::fault::Wrong;
+use crate::values::word;
 use toml::{Table, Value};
 
 /// The keys of annotations, in the order in which they are judged.
@@ -23,7 +25,9 @@ fn is_known(key: &String) -> bool {
 }
 
 /// The table of a value that has just these keys.
-pub(crate) fn table_with<'a>(value: &'a Value, keys: &[&str]) -> Result<&'a Table, Wrong> {
+pub(crate) fn table_with<'a>(value: &'a Value, keys: &[&str]) -> Result<&'a Table, Wrong>
+    ensures { IfOk result (λ found. view value.now ≡ table (table_view found.now)) }
+{
     let Some(table) = value.as_table() else {
         return Err(Wrong::Form);
     };
@@ -47,8 +51,17 @@ pub(crate) fn member<'a>(table: &'a Table, key: &str) -> Result<&'a Value, Wrong
     formed(value_at(table, key))
 }
 
+/// The number of a key, 0 to 65,535.
+pub(crate) fn number(table: &Table, key: &str) -> Result<u16, Wrong>
+    ensures { IfOk result (λ number. get_member key.now (table_view table.now) ≡ Some (integer (pos number))) }
+{
+    formed(word(member(table, key)?))
+}
+
 /// The elements of the array of a key, none where there is no such key.
-pub(crate) fn items<'a>(table: &'a Table, key: &str) -> Result<&'a [Value], Wrong> {
+pub(crate) fn items<'a>(table: &'a Table, key: &str) -> Result<&'a [Value], Wrong>
+    ensures { IfOk result (λ items. array_said (get_member key.now (table_view table.now)) ≡ Some (items_view items.now)) }
+{
     match value_at(table, key) {
         Some(value) => match value.as_array() {
             Some(items) => Ok(items.as_slice()),

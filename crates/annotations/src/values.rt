@@ -21,7 +21,9 @@ pub(crate) fn word(value: &Value) -> Option<u16>
 }
 
 /// A number from 0 to 255.
-pub(crate) fn byte(value: &Value) -> Option<u8> {
+pub(crate) fn byte(value: &Value) -> Option<u8>
+    ensures { IfSome result (λ number. view value.now ≡ integer (pos number)) }
+{
     match value.as_integer() {
         Some(number) => u8::try_from(number).ok(),
         None => None,
@@ -64,7 +66,9 @@ fn both(value: &Value) -> Option<(&Value, &Value)> {
 }
 
 /// The bytes from one to another, which is not below it.
-pub(crate) fn byte_range(low: &Value, high: &Value) -> Option<ByteRange> {
+pub(crate) fn byte_range(low: &Value, high: &Value) -> Option<ByteRange>
+    ensures { IfSome result (λ range. (view low.now ≡ integer (pos range.low)) × (view high.now ≡ integer (pos range.high))) }
+{
     ByteRange::new(byte(low)?, byte(high)?)
 }
 

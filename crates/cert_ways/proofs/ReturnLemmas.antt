@@ -17,8 +17,8 @@ use Rattle.abs_state.specs.declared.state.AbsState.{AbsState}
 use Rattle.abs_step.specs.Successors.{answer_of, is_empty, is_return, next_of, nexts_of, way_on}
 use Rattle.abs_step.specs.declared.next.Next.{Next}
 use Rattle.abs_step.specs.declared.next.NextKind.TheVariants.{Jump, Exit}
-use Rattle.board_step.proofs.DecodedLemmas.{decoded_once}
-use Rattle.board_step.specs.Decoded.{StandsAt}
+use Rattle.rom_fetch.proofs.DecodedLemmas.{decoded_once}
+use Rattle.rom_fetch.specs.Decoded.{StandsAt}
 use Rattle.cert_cover.specs.Program.{ground_for, is_inline, is_main}
 use Rattle.cert_lines.specs.declared.proc.Proc.{Proc}
 use Rattle.cert_lines.specs.declared.row.Row.{Row}

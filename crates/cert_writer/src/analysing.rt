@@ -1,7 +1,8 @@
 // From a ROM and annotations to a certificate.
 
-ghost use Rattle.std.specs.Prelude.{◌≡◌, IfOk, OnOk, length};
+ghost use Rattle.std.specs.Prelude.{◌≡◌, ◌↔◌, IfOk, IsSome, length};
 ghost use Rattle.cert_rules.specs.Acceptance.{Accepts};
+ghost use Rattle.cert_writer.specs.Routine.{HasRoutine};
 
 use crate::calls::{calls_of, procs_in_order, under_all};
 use crate::fault::WriterFault;
@@ -32,7 +33,10 @@ const INLINES: usize = 1_024;
 /// itself; `Recursion`; `LoopUnbounded`; `Limit` for a depth, a time or a potential; `Refused` with what `examine` answers. `NoMemory` where memory was refused.
 pub fn analyse(alloc: Global, bytes: &[u8], said: &Annotations) -> Result<Certificate, WriterFault>
     ensures accepted { IfOk result (λ c. Accepts bytes.now c) }
-    ensures said { IfOk result (λ c. (c.region ≡ said.now.region) × (c.budget ≡ said.now.budget) × (c.board ≡ said.now.board)) }
+    // The region, the budget, the board and the cells are those that are said.
+    ensures said { IfOk result (λ c. (c.region ≡ said.now.region) × (c.budget ≡ said.now.budget) × (c.board ≡ said.now.board) × (c.cells ≡ said.now.cells)) }
+    // There is an NMI routine exactly where one is said, which has a budget then.
+    ensures routine { IfOk result (λ c. IsSome said.now.budget ↔ HasRoutine c.procs) }
 {
     let Some(rom) = Rom::of(bytes) else {
         return Err(of_whole(Reason::Rom));
@@ -47,6 +51,7 @@ pub fn analyse(alloc: Global, bytes: &[u8], said: &Annotations) -> Result<Certif
     };
     let flow = Flow::run(alloc, &task)?;
     let certificate = certified(alloc, &rom, &task, said, &flow)?;
+    certificate.is_in_form();
     match examine(alloc, bytes, &certificate) {
         Ok(()) => Ok(certificate),
         Err(refused) => Err(WriterFault::Refused(refused)),
@@ -135,6 +140,7 @@ fn certificate_of(
     rows: Vec<Row>,
 ) -> Result<Certificate, WriterFault>
     ensures len { IfOk result (λ c. c.rom_len ≡ length rom.now) }
+    ensures cells { IfOk result (λ c. c.cells ≡ cells.now) }
     ensures said { IfOk result (λ c. (c.region ≡ said.now.region) × (c.budget ≡ said.now.budget) × (c.board ≡ said.now.board)) }
 {
     let parts = Parts {
@@ -163,7 +169,7 @@ fn certified(
     said: &Annotations,
     flow: &Flow,
 ) -> Result<Certificate, WriterFault>
-    ensures said { IfOk result (λ c. (c.region ≡ said.now.region) × (c.budget ≡ said.now.budget) × (c.board ≡ said.now.board)) }
+    ensures said { IfOk result (λ c. (c.region ≡ said.now.region) × (c.budget ≡ said.now.budget) × (c.board ≡ said.now.board) × (c.cells ≡ said.now.cells)) }
 {
     let layout = Layout::of(alloc, flow, said.budget().is_some())?;
     let splits = splits_of(alloc, task, flow, &layout)?;

@@ -11,12 +11,12 @@ use Rattle.commands.specs.Reading.{OfFiles}
 use Rattle.verdicts.specs.Verdict.{Refused, accepted_text, refused_text}
 use Rattle.verdicts.specs.WriterRefusals.{recursion_text, unbounded_text}
 
--- what a certificate says of what annotations say of the whole
+-- what a certificate says of what annotations say of the whole and of the cells
 abbrev pub said_by : Contents → Said
-said_by c = record { region = c.region; budget = c.budget; board = c.board }
+said_by c = record { region = c.region; budget = c.budget; board = c.board; cells = c.cells }
 
--- a certificate that was made for a ROM: it is accepted, every run of the board on that ROM is safe, and the stack's region, the budget
--- and the board are those of the annotations
+-- a certificate that was made for a ROM: it is accepted, every run of the board on that ROM is safe, and the stack's region, the budget,
+-- the board and the kept cells are those of the annotations
 pub record IsMade (rom annot : List ℕ) (certificate : Contents) : Type 0 where
   pub accepted : IsAccepted rom (text_of certificate) certificate
   pub said : SaysOfWhole annot (said_by certificate)

@@ -1,5 +1,5 @@
 use Rattle.std.proofs.Common.{Ok, Err, subst}
-use Rattle.board_step.specs.Decoded.{StandsAt}
+use Rattle.rom_fetch.specs.Decoded.{StandsAt}
 use Rattle.cert_lines.specs.declared.row.Row.{Row}
 use Rattle.cert_ways.proofs.ReturnLemmas.{left_at, none_at}
 use Rattle.cert_ways.proofs.exits.exit_of.Goals as goal

@@ -1,0 +1,2 @@
+-- What the answers of annotations cite.
+pub mod CellLemmas

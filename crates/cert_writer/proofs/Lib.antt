@@ -1,0 +1,2 @@
+-- What the answers of the writer cite.
+mod RoutineLemmas
