@@ -117,7 +117,7 @@ no_board_line One c old is = ap (board_lines One) (sym old.board)
 no_board_line Two c any is = cc
 
 -- the texts of the elements up to this one are those before it, and its own
-one_more : {X : Type 0} (text : X → List ℕ) (xs : List X) (i : ℕ) (x : X) → slice_get xs i ≡ Some x →
+pub one_more : {X : Type 0} (text : X → List ℕ) (xs : List X) (i : ℕ) (x : X) → slice_get xs i ≡ Some x →
     flat_map text (take i xs) ++ text x ≡ flat_map text (take (i + 1) xs)
 one_more text xs i x at =
     ap (λ y. flat_map text (take i xs) ++ text y) (sym (get_or_from_slice_get xs i x x at))

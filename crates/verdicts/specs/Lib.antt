@@ -1,3 +1,4 @@
 -- The definitions: the lines of a verdict.
+pub mod Gathered
 pub mod Verdict
 pub mod WriterRefusals

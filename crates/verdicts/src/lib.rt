@@ -1,6 +1,7 @@
 // The lines of a verdict: the table of an accepted certificate, and why another is refused (docs/PROGRAM.md).
 #![tactic(auto)]
 
+mod gathering;
 mod refusals;
 mod table;
 mod writer_refusals;

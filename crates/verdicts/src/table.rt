@@ -5,14 +5,16 @@ ghost use Rattle.std.specs.List.{flat_map};
 ghost use Rattle.std.specs.Prelude.{◌≡◌, ◌≤◌, ◌+◌, ◌++◌, length};
 ghost use Rattle.texts.specs.Device.{Puts};
 ghost use Rattle.texts.specs.Made.{MADE_LEN};
+ghost use Rattle.verdicts.specs.Gathered.{Gathers};
 ghost use Rattle.verdicts.specs.Verdict.{accepted_text, kind_word, nmi_text, nmi_time, proc_text, right_in, stack_text, time_word};
 
+use crate::gathering::gather;
 use cert_rules::{main_depth, nmi_depth, nmi_of};
 use certificate::{Certificate, Proc, ProcKind};
 use itoa::Buffer;
 use texts::{DeviceFault, MadeLine, Sink, put};
 
-/// Writes the table of an accepted certificate (docs/PROGRAM.md), a line at a time.
+/// Writes the table of an accepted certificate (docs/PROGRAM.md), at once where it has at most 4,096 bytes.
 ///
 /// # Errors
 ///
@@ -20,27 +22,26 @@ use texts::{DeviceFault, MadeLine, Sink, put};
 pub fn write_table<W: Sink>(certificate: &Certificate, out: &mut W) -> Result<(), DeviceFault>
     ensures { Puts (W.state out.old) (accepted_text certificate.now) result (W.state out.new) }
 {
-    put(out, b"accepted\n")?;
-    write_procs(certificate.procs(), out)?;
-    write_end(certificate, out)
+    let mut gathered = MadeLine::new();
+    gathered.add(b"accepted\n");
+    gather_procs(certificate.procs(), &mut gathered, out)?;
+    gather(&stack_line(certificate), &mut gathered, out)?;
+    gather(&nmi_line(certificate), &mut gathered, out)?;
+    put(out, gathered.bytes())
 }
 
-/// Writes a line for each procedure.
-fn write_procs<W: Sink>(procs: &[Proc], out: &mut W) -> Result<(), DeviceFault>
-    ensures { Puts (W.state out.old) (flat_map proc_text procs.now) result (W.state out.new) }
+/// Gathers a line for each procedure.
+fn gather_procs<W: Sink>(
+    procs: &[Proc],
+    gathered: &mut MadeLine,
+    out: &mut W,
+) -> Result<(), DeviceFault>
+    ensures { Gathers (W.state out.old) gathered.old (flat_map proc_text procs.now) result (W.state out.new) gathered.new }
 {
     for proc in procs {
-        put(out, proc_line(proc).bytes())?;
+        gather(&proc_line(proc), gathered, out)?;
     }
     Ok(())
-}
-
-/// Writes the lines of the whole.
-fn write_end<W: Sink>(certificate: &Certificate, out: &mut W) -> Result<(), DeviceFault>
-    ensures { Puts (W.state out.old) (stack_text certificate.now ++ nmi_text certificate.now) result (W.state out.new) }
-{
-    put(out, stack_line(certificate).bytes())?;
-    put(out, nmi_line(certificate).bytes())
 }
 
 /// The line of a procedure.
