@@ -1,6 +1,9 @@
 -- Lines that are gathered one behind another.
-use Rattle.std.proofs.Common.{◌≡◌, ℕ, List, [], ◌++◌, Result, refl, sym, ap, subst, ◌∙◌, append_assoc, append-nil}
-use Rattle.certificate.proofs.WritingLemmas.{fails_before, fails_behind, puts_behind, takes_none}
+use Rattle.std.proofs.Common.{◌≡◌, ◌+◌, ℕ, List, [], ◌++◌, take, drop, slice_get, Some, Result, refl, sym, ap, subst, ◌∙◌, append_assoc, append-nil}
+use Rattle.std.specs.List.{flat_map}
+use Rattle.std.proofs.lemmas.List.{take-append-drop}
+use Rattle.std.proofs.lemmas.List.Concat.{flat_map-append}
+use Rattle.certificate.proofs.WritingLemmas.{fails_before, fails_behind, one_more, puts_behind, takes_none}
 use Rattle.texts.specs.Device.{DeviceState, FailsAmid, Puts}
 use Rattle.texts.proofs.DeviceLemmas.{takes_both}
 use Rattle.verdicts.specs.Gathered.{Gathered}
@@ -45,3 +48,22 @@ pub put_at_last : {T E : Type 0} (a b c : DeviceState) (text left : List ℕ) (r
     Puts b left r c → Puts a text r c
 put_at_last a b c text left r gathered put =
     subst (λ all. Puts a all r c) (sym gathered.all) (puts_behind a b c gathered.gone left r gathered.taken put)
+
+-- the text of one more element was gathered
+pub gathered_more : {X : Type 0} (text : X → List ℕ) (xs : List X) (i : ℕ) (x : X) (bytes : List ℕ) (a b c : DeviceState) (before between after : List ℕ) →
+    slice_get xs i ≡ Some x → bytes ≡ text x → Gathered a (before ++ flat_map text (take i xs)) b between →
+    Gathered b (between ++ bytes) c after → Gathered a (before ++ flat_map text (take (i + 1) xs)) c after
+gathered_more text xs i x bytes a b c before between after at is first second =
+    subst (λ all. Gathered a (before ++ all) c after) (ap (λ one. flat_map text (take i xs) ++ one) is ∙ one_more text xs i x at)
+    (gathered_then a b c before (flat_map text (take i xs)) between bytes after first second)
+
+-- the sink failed amid the text of one more element, and so amid those of all
+pub fails_at_more : {X : Type 0} (text : X → List ℕ) (xs : List X) (i : ℕ) (x : X) (bytes : List ℕ) (a b c : DeviceState) (before between : List ℕ) →
+    slice_get xs i ≡ Some x → bytes ≡ text x → Gathered a (before ++ flat_map text (take i xs)) b between →
+    FailsAmid b (between ++ bytes) c → FailsAmid a (before ++ flat_map text xs) c
+fails_at_more text xs i x bytes a b c before between at is first failed =
+    let here = subst (λ all. FailsAmid a (before ++ all) c) (ap (λ one. flat_map text (take i xs) ++ one) is ∙ one_more text xs i x at)
+    (gathered_then_fails a b c before (flat_map text (take i xs)) between bytes first failed) in
+    subst (λ all. FailsAmid a (before ++ all) c)
+    (sym (flat_map-append text (take (i + 1) xs) (drop (i + 1) xs)) ∙ ap (flat_map text) (take-append-drop (i + 1) xs))
+    (fails_first a c before (flat_map text (take (i + 1) xs)) (flat_map text (drop (i + 1) xs)) here)
