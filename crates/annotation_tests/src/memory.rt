@@ -1,5 +1,5 @@
-// Memory that is refused once, at each of the growths in turn (`rt try --test --fail-alloc N`): the call answers `NoMemory`, and
-// the next one as if nothing had been.
+// Memory that is refused once, at each of the growths in turn (`tools/memory.sh annotation_tests`): the call answers `NoMemory`, and
+// the next one as if nothing had been. A refusal is told by a line.
 
 use annotations::{AnnotationFault, Annotations};
 use std::test::Fail;
@@ -21,6 +21,7 @@ fn read_again(rt: HostRuntime) -> Result<(), Fail> {
                 assert!(rt; said.loops().len() == 1 && said.cells().len() == 1);
             }
             Err(fault) => {
+                println!(rt; "refused in read")?;
                 assert!(rt; fault == AnnotationFault::NoMemory);
                 refused = refused.wrapping_add(1);
             }
@@ -36,7 +37,10 @@ fn refused_again(rt: HostRuntime) -> Result<(), Fail> {
     for _ in 0..3 {
         match Annotations::read(rt.alloc(), b"low = 1\ntop = 2\nother = []\n") {
             Ok(_) => return Err(Fail::new("not as many as there should be")),
-            Err(AnnotationFault::NoMemory) => refused = refused.wrapping_add(1),
+            Err(AnnotationFault::NoMemory) => {
+                println!(rt; "refused in read of a bad key")?;
+                refused = refused.wrapping_add(1);
+            }
             Err(AnnotationFault::Key(name)) => assert!(rt; name.as_str() == "other"),
             Err(AnnotationFault::Text) => return Err(Fail::new("not as many as there should be")),
         }

@@ -1,10 +1,11 @@
-// Memory that is refused once, at each of the growths in turn (`rt try --test --fail-alloc N`): the command has status 4 and writes
-// nothing, and the next one goes as if nothing had been.
+// Memory that is refused once, at each of the growths in turn (`tools/memory.sh command_tests`): the command has status 4 and writes
+// nothing, and the next one goes as if nothing had been. A refusal is told by a line.
 
 use command_samples::{
     JUMP, JUMP_CERTIFICATE, Outcome, SAVE, SAVE_CERTIFICATE, SAVE_TABLE, THREE, run_whole,
     verify_whole,
 };
+use std::test::Fail;
 
 /// Whether a command ended for want of memory and wrote nothing; with status 3 it was the sink of this test that wanted memory.
 fn wants_memory(after: &Outcome) -> bool {
@@ -12,28 +13,32 @@ fn wants_memory(after: &Outcome) -> bool {
 }
 
 #[test]
-fn verify_again(rt: HostRuntime) {
+fn verify_again(rt: HostRuntime) -> Result<(), Fail> {
     let mut refused = 0u8;
     for _ in 0..3 {
         let after = verify_whole(rt.alloc(), SAVE, SAVE_CERTIFICATE);
         if !after.is(0, SAVE_TABLE) {
+            println!(rt; "refused in verify")?;
             assert!(rt; wants_memory(&after));
             refused = refused.wrapping_add(1);
         }
     }
     assert!(rt; refused <= 1);
+    Ok(())
 }
 
 #[test]
-fn run_again(rt: HostRuntime) {
+fn run_again(rt: HostRuntime) -> Result<(), Fail> {
     let input = "reset 0 00\n3 00 00 00 00 00 00 0\n";
     let mut refused = 0u8;
     for _ in 0..3 {
         let after = run_whole(rt.alloc(), JUMP, JUMP_CERTIFICATE, input, 3);
         if !after.is(0, THREE) {
+            println!(rt; "refused in run")?;
             assert!(rt; wants_memory(&after));
             refused = refused.wrapping_add(1);
         }
     }
     assert!(rt; refused <= 1);
+    Ok(())
 }

@@ -3,6 +3,7 @@ ghost use Rattle.std.specs.Prelude.{◌<◌, Contains};
 
 use call_graph::{Edge, GraphFault, Held, ProcId, depths, order};
 use std::alloc::Global;
+use std::test::Fail;
 
 /// Calls, each of a caller and a callee.
 macro_rules! calls {
@@ -190,10 +191,10 @@ fn no_depths_on_a_circle(rt: HostRuntime) {
     assert!(rt; is_circle_of_one(rt.alloc()));
 }
 
-/// With one allocation refused (`rt try --test --fail-alloc N`) one call answers `NoMemory`, and the next one as if
-/// nothing had been.
+/// With one growth refused (`tools/memory.sh map_tests`) one call answers `NoMemory`, and the next one as if nothing had been. A refusal is
+/// told by a line.
 #[test]
-fn refused_memory(rt: HostRuntime) {
+fn refused_memory(rt: HostRuntime) -> Result<(), Fail> {
     let alloc = rt.alloc();
     let mut refused = 0u8;
     for _ in 0..3 {
@@ -205,9 +206,11 @@ fn refused_memory(rt: HostRuntime) {
         for came in all.iter() {
             assert!(rt; *came != Came::Wrong);
             if *came == Came::Refused {
+                println!(rt; "refused in order or depths")?;
                 refused = refused.wrapping_add(1);
             }
         }
     }
     assert!(rt; refused <= 1);
+    Ok(())
 }

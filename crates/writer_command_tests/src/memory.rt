@@ -1,5 +1,5 @@
-// Memory that is refused once, at each of the growths in turn (`rt try --test --fail-alloc N`): the command has status 4 and writes
-// and keeps nothing, and the next one goes as if nothing had been.
+// Memory that is refused once, at each of the growths in turn (`tools/memory.sh writer_command_tests`): the command has status 4 and writes
+// and keeps nothing, and the next one goes as if nothing had been. A refusal is told by a line.
 
 use crate::checks::{Outcome, check_whole, migrated};
 use crate::samples::{COUNTED, COUNTED_TABLE, COUNTING, ENABLING, JUMP_CERTIFICATE, with_routine};
@@ -18,6 +18,7 @@ fn check_again(rt: HostRuntime) -> Result<(), Fail> {
     for _ in 0..3 {
         let after = check_whole(alloc, rom.as_slice(), COUNTED);
         if !after.is(0, COUNTED_TABLE) {
+            println!(rt; "refused in check")?;
             assert!(rt; wants_memory(&after));
             refused = refused.wrapping_add(1);
         }
@@ -27,14 +28,18 @@ fn check_again(rt: HostRuntime) -> Result<(), Fail> {
 }
 
 #[test]
-fn migrate_again(rt: HostRuntime) {
+fn migrate_again(rt: HostRuntime) -> Result<(), Fail> {
     let cert = JUMP_CERTIFICATE.as_bytes();
     let mut refused = 0u8;
     for _ in 0..3 {
         match migrated(rt.alloc(), cert, 0) {
             Some(text) => assert!(rt; text.as_slice().starts_with(b"galcert 2\n")),
-            None => refused = refused.wrapping_add(1),
+            None => {
+                println!(rt; "refused in migrate")?;
+                refused = refused.wrapping_add(1);
+            }
         }
     }
     assert!(rt; refused <= 1);
+    Ok(())
 }

@@ -115,3 +115,16 @@ fn annotations_are_judged_before_the_rom(rt: HostRuntime) {
         assert!(rt; check_whole(rt.alloc(), b"", annot).prints(text), "{text}");
     }
 }
+
+#[test]
+fn more_lines_than_a_certificate_has(rt: HostRuntime) -> Result<(), Fail> {
+    let alloc = rt.alloc();
+    let mut annot = format!(in alloc; "{}inline = [{{ at = 0 }}", said!(""))?;
+    for at in 1u16..1_025 {
+        let item = format!(in alloc; ", {{ at = {at} }}")?;
+        annot.push_str(item.as_str())?;
+    }
+    annot.push_str("]\n")?;
+    assert!(rt; check_whole(alloc, JUMP, annot.as_str()).prints("too large\n"));
+    Ok(())
+}

@@ -1,4 +1,5 @@
-// Memory that is refused once, at each of the growths in turn (`rt try --test --fail-alloc N`): the call answers `NoMemory`, and the next one as if nothing had been.
+// Memory that is refused once, at each of the growths in turn (`tools/memory.sh writer_tests`): the call answers `NoMemory`, and the next one as if
+// nothing had been. A refusal is told by a line.
 
 use crate::roms::{ENABLING, WITH_NMI};
 use annotations::{AnnotationFault, Annotations};
@@ -28,11 +29,13 @@ fn written_again(rt: HostRuntime) -> Result<(), Fail> {
                     assert!(rt; certificate.depth(1) == Some(6));
                 }
                 Err(fault) => {
+                    println!(rt; "refused in analyse")?;
                     assert!(rt; matches!(fault, WriterFault::NoMemory));
                     refused = refused.wrapping_add(1);
                 }
             },
             Err(fault) => {
+                println!(rt; "refused before analyse")?;
                 assert!(rt; fault == AnnotationFault::NoMemory);
                 refused = refused.wrapping_add(1);
             }

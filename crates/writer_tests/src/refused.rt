@@ -2,6 +2,8 @@
 
 use crate::roms::{ENABLING, PLAIN, WITH_NMI, rom_with_routine, told, written};
 use cert_writer::WriterFault;
+use std::alloc::{AllocError, Global};
+use std::string::String;
 use std::test::Fail;
 
 #[test]
@@ -68,5 +70,33 @@ fn by_calls_and_loops(rt: HostRuntime) -> Result<(), Fail> {
         Err(WriterFault::LoopUnbounded(address)) => assert!(rt; address == 0x0069),
         _ => return Err(Fail::new("bounded")),
     }
+    Ok(())
+}
+
+/// Annotations with so many inline calls, from 0000 on.
+fn with_inlines(alloc: Global, count: u16) -> Result<String, AllocError> {
+    let mut text = format!(in alloc; "{PLAIN}inline = [")?;
+    for at in 0..count {
+        let item = format!(in alloc; "{{ at = {at} }},")?;
+        text.push_str(item.as_str())?;
+    }
+    text.push_str("]\n")?;
+    Ok(text)
+}
+
+#[test]
+fn by_a_limit(rt: HostRuntime) -> Result<(), Fail> {
+    let alloc = rt.alloc();
+    // SLL B is in no instruction table.
+    let undocumented = [0xCB, 0x30];
+    let most = with_inlines(alloc, 1_024)?;
+    assert!(rt; told(alloc, &undocumented, most.as_str())? == Some((0, 4)));
+    // It is told before a row's reason, and behind reasons 1 and 2.
+    let over = with_inlines(alloc, 1_025)?;
+    match written(alloc, &undocumented, over.as_str())? {
+        Err(WriterFault::Limit) => {}
+        _ => return Err(Fail::new("within the limits")),
+    }
+    assert!(rt; told(alloc, &[], over.as_str())? == Some((0, 1)));
     Ok(())
 }
