@@ -21,7 +21,7 @@ HEAD = "galcert 1\nrom 6\nstack 4380 4400\nbudget -\nproc main 0000 0 0 -\n"
 
 def row(number):
     """A row with ranges, an origin, a slot and a potential, as loops have them."""
-    low, high = number % 251, 255 - number % 5
+    low, high = 1 + number % 250, 255 - number % 5
     return (f"row 0 {number:04X} s {low:02X}00-{high:02X}FF:{low:02X}-{high:02X}:00-FF *@BC * * * * *@AF' * * * "
             f"zB -5+2*B {low:02X}34-{high:02X}78:{low:02X}-{high:02X}:00-FF {number}+13*B\n")
 
