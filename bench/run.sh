@@ -2,7 +2,7 @@
 # Times the checked step, the known step and `galcert run` beside Debian's libz80ex (apt-get install libz80ex-dev) on five ROMs
 # (bench/roms.py), by processor time, in turns: bench/run.sh [EVENTS] [PROGRAM], 20,000,000 events and ./galcert where none are named.
 # First all must leave the same registers, but for bits 5 and 3 of F, and the same RAM. Prints nanoseconds an event, from the least of
-# five rounds less the least of five without an event, and the parts of libz80ex's time.
+# five rounds less the least of five with one event, and the parts of libz80ex's time.
 set -euo pipefail
 here=$(cd "$(dirname "$0")" && pwd)
 events=${1:-20000000}
@@ -44,13 +44,13 @@ for rom in six mixed fill nops random; do
     for _ in 1 2 3 4 5; do
         for way in libz80ex checked known run; do
             seconds $way $rom "$events" >> $way.$rom
-            seconds $way $rom 0 >> $way.$rom.none
+            seconds $way $rom 1 >> $way.$rom.none
         done
     done
     for way in libz80ex checked known run; do
         echo "$(least $way.$rom) $(least $way.$rom.none)"
     done | awk -v rom=$rom -v events="$events" '
-        { each[NR] = ($1 - $2) * 1e9 / events }
+        { each[NR] = ($1 - $2) * 1e9 / (events - 1) }
         END {
             printf "%-7s libz80ex %.1f ns", rom, each[1]
             printf "; step_checked %.1f ns, %.2f of it", each[2], each[2] / each[1]
