@@ -361,31 +361,28 @@ falls:      inc hl
             djnz meteor
             ret
 
-; Moves each actor, and shows it as a sprite. HL stays in the page 41 and DE in the page 40, as only their low bytes count.
-fly:        ld hl,actors
-            ld de,sprites
+; Moves each actor, and shows it as a sprite.
+fly:        ld ix,actors
+            ld hl,sprites
             ld b,8
-actor:      push hl
-            pop ix
-            call steer
+actor:      call steer
             ld a,(ix+2)
-            ld (de),a           ; height
-            inc e
+            ld (hl),a           ; height
+            inc hl
             ld a,(ix+5)
-            ld (de),a           ; form
-            inc e
+            ld (hl),a           ; form
+            inc hl
             ld a,b
             and 7
-            ld (de),a           ; colour
-            inc e
+            ld (hl),a           ; colour
+            inc hl
             ld a,(ix+1)
-            ld (de),a           ; place from the left
-            inc e
-            ld a,l
-            add a,8
-            ld l,a
+            ld (hl),a           ; place from the left
+            inc hl
+            ld de,8
+            add ix,de
             djnz actor
-            ret
+flown:      ret
 
 ; Moves the actor at IX by a step of its path. A leg of a path is how many steps it has, by how much each goes across and down, and the
 ; form; 0 and an address go on elsewhere, and 0 and the address 0 end it.
