@@ -17,9 +17,7 @@ pressed:    equ 4086h           ; what was pressed of it, until main code has se
 buttons:    equ 4087h           ; the same of IN1
 started:    equ 4088h
 credit:     equ 4089h           ; coins, in BCD
-lives:      equ 408Ah
-wave:       equ 408Bh           ; in BCD
-score:      equ 408Ch           ; three bytes of BCD, the lowest first
+player:     equ 408Ah           ; whose turn it is, 0 or 1
 rating:     equ 408Fh           ; which of the best the player is, 0 to 4
 own:        equ 4090h           ; the low byte of where the player's name stands
 initial:    equ 4091h           ; which letter of it is chosen now, 0 to 2
@@ -29,17 +27,21 @@ hit:        equ 4096h           ; 1 once the ship is hit
 shot:       equ 4097h           ; 1 while it flies; its place from the left, its height
 march:      equ 409Ah           ; by how much the convoy is shifted to the right
 heading:    equ 409Bh           ; 1 or -1
-left:       equ 409Ch           ; enemies that are left, those that dive too
-pace:       equ 409Dh           ; frames from one dive to the next
 face:       equ 409Eh           ; which of two pages the attract state shows, in bit 0
 convoy:     equ 4100h           ; 4 ranks of 8 enemies: 1 where one is
+score:      equ 4120h           ; three bytes of BCD, the lowest first
+lives:      equ 4123h
+wave:       equ 4124h           ; in BCD
+left:       equ 4125h           ; enemies that are left, those that dive too
+pace:       equ 4126h           ; frames from one dive to the next
+other:      equ 41C0h           ; the same 39 bytes of the player who waits, as they stand from `convoy` on
 divers:     equ 4140h           ; 4 of 8 bytes: 1 while it dives, place from the left, height, where it belongs, phase
 bombs:      equ 4160h           ; 4 of 4 bytes: 1 while it falls, place from the left, height
 bests:      equ 4180h           ; the best five: three bytes of BCD, the highest first, and three letters
 video:      equ 5000h
 objects:    equ 5800h
 in0:        equ 6000h           ; coins in bits 0 and 1, left in 2, right in 3, fire in 4
-in1:        equ 6800h           ; start in bit 0
+in1:        equ 6800h           ; start for one in bit 0, for two in 1
 loudness:   equ 6806h
 enable:     equ 7001h
 sky:        equ 7004h           ; the board's own stars
@@ -263,26 +265,40 @@ at_coin:    ld a,(fresh)
             ld a,11
             call print
             defb 8,14,15
-            defm "ONE PLAYER ONLY"
+            defm "ONE COIN EACH !"
             ld a,12
             call print
             defb 4,17,24
             defm "A SHIP MORE FOR 10 WAVES"
 waits:      ld a,(started)
-            and 1
-            jr z,beckon
+            ld c,a
             xor a
             ld (started),a
-            ld (score),a
-            ld (score + 1),a
-            ld (score + 2),a
-            ld (wave),a
             ld a,(credit)
+            bit 1,c
+            jr z,alone
+            cp 2
+            jr c,alone
             sub 1
             daa
             ld (credit),a
-            ld a,3
-            ld (lives),a
+            call novice
+            ld hl,convoy        ; two players: the other one begins likewise
+            ld de,other
+            ld bc,0027h
+second:     ldir
+            jr joins
+alone:      bit 0,c
+            jr z,beckon
+            xor a               ; one player: there is no other one who has ships
+            ld (other + 23h),a
+joins:      ld a,(credit)
+            sub 1
+            daa
+            ld (credit),a
+            call novice
+            xor a
+            ld (player),a
             ld a,2
             jp enter
 beckon:     ld a,(frames)
@@ -380,12 +396,18 @@ bursts:     ld a,(seconds)
             jp nz,turn
             ld a,(lives)
             or a
-            ld a,3
-            jp nz,enter
             ld a,5
+            jp z,enter
+            call change
+; The one whose turn it is goes on: with the convoy as it was left, or with a new one.
+goes_on:    ld a,(left)
+            or a
+            ld a,2
+            jp z,enter
+            ld a,3
             jp enter
 
-; The game is over.
+; The game is over for this player.
 at_over:    ld a,(fresh)
             or a
             jr z,rests
@@ -405,7 +427,10 @@ rests:      ld a,(seconds)
             cp 5
             ld a,6
             jp c,enter
-leave:      ld a,(credit)
+leave:      call change
+            or a
+            jr nz,goes_on
+            ld a,(credit)
             or a
             jp z,enter
             ld a,1
@@ -543,20 +568,46 @@ forget:     ld (hl),a
             call print
             defb 1,31,6
             defm "CREDIT"
-; Prints the score and the best one.
-scores:     ld bc,0201h
-            ld a,(score + 2)
-            call pair
-            ld a,(score + 1)
-            call pair
-            ld a,(score)
-            call pair
+            ld a,22
+            call print
+            defb 25,0,3
+            defm "2UP"
+            ld a,23
+            call print
+            defb 11,31,6
+            defm "PLAYER"
+            ld bc,121Fh
+            ld a,(player)
+            inc a
+            call digit
+; Prints both scores and the best one.
+scores:     ld de,score + 2
+            ld a,(player)
+            call own_side
+            ld de,other + 22h
+            ld a,(player)
+            xor 1
+            call own_side
             ld bc,0D01h
             ld a,(bests)
             call pair
             ld a,(bests + 1)
             call pair
             ld a,(bests + 2)
+            jp pair
+
+; Prints the score at DE, of its three bytes the last, on the side of the player A.
+own_side:   ld bc,0201h
+            or a
+            jr z,six
+            ld b,18h
+six:        ld a,(de)
+            call pair
+            dec de
+            ld a,(de)
+            call pair
+            dec de
+            ld a,(de)
             jp pair
 
 ; Prints the coins, and a tile for each ship in reserve, of at most 8.
@@ -582,6 +633,40 @@ reserve:    ld a,e
 berth:      call put
             dec d
             jr nz,reserve
+            ret
+
+; ---- two players
+
+; Gives a player no points, three ships, and no convoy yet.
+novice:     ld hl,convoy
+            ld b,27h
+            xor a
+bare:       ld (hl),a
+            inc hl
+            djnz bare
+            ld a,3
+            ld (lives),a
+            ret
+
+; Gives the turn to the other player, if that one has ships. A is 0 if not.
+change:     ld a,(other + 23h)
+            or a
+            ret z
+            ld hl,convoy
+            ld de,other
+            ld b,27h
+barter:     ld c,(hl)
+            ld a,(de)
+            ld (hl),a
+            ld a,c
+            ld (de),a
+            inc hl
+            inc de
+            djnz barter
+            ld a,(player)
+            xor 1
+            ld (player),a
+            ld a,1
             ret
 
 ; ---- points
