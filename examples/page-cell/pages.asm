@@ -23,8 +23,8 @@ news_at:    equ 8018h           ; the next line of the news
 ball:       equ 801Ah           ; its column and row, and by how much they change
 spot:       equ 801Eh           ; the next place of a poster
 which:      equ 801Fh           ; which poster it is, in bit 0
-faults:     equ 8380h           ; how many bytes of work, video and object RAM were found bad, up to 255
 drops:      equ 8180h           ; the rows of eight drops, behind the first list
+faults:     equ 8380h           ; how many bytes of work, video and object RAM were found bad, up to 255
 video:      equ 9000h
 rows:       equ 9800h           ; of 32 rows, shift and colour
 objects:    equ 9840h           ; 8 sprites and 8 shots, of 4 bytes each

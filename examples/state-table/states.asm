@@ -34,10 +34,10 @@ lives:      equ 4123h
 wave:       equ 4124h           ; in BCD
 left:       equ 4125h           ; enemies that are left, those that dive too
 pace:       equ 4126h           ; frames from one dive to the next
-other:      equ 41C0h           ; the same 39 bytes of the player who waits, as they stand from `convoy` on
 divers:     equ 4140h           ; 4 of 8 bytes: 1 while it dives, place from the left, height, where it belongs, phase
 bombs:      equ 4160h           ; 4 of 4 bytes: 1 while it falls, place from the left, height
 bests:      equ 4180h           ; the best five: three bytes of BCD, the highest first, and three letters
+other:      equ 41C0h           ; the same 39 bytes of the player who waits, as they stand from `convoy` on
 video:      equ 5000h
 objects:    equ 5800h
 in0:        equ 6000h           ; coins in bits 0 and 1, left in 2, right in 3, fire in 4
