@@ -32,6 +32,23 @@ fn by_a_reason(rt: HostRuntime) -> Result<(), Fail> {
     Ok(())
 }
 
+/// Two ways that come to 000A with stacks of two lengths: the way that comes later is told.
+#[test]
+fn by_stacks_of_two_lengths(rt: HostRuntime) -> Result<(), Fail> {
+    let alloc = rt.alloc();
+    // LD SP,4400; LD A,(6000); OR A; JR Z,000A; PUSH BC; 000A: JR -2.
+    let rom = [
+        0x31, 0x00, 0x44, 0x3A, 0x00, 0x60, 0xB7, 0x28, 0x01, 0xC5, 0x18, 0xFE,
+    ];
+    assert!(rt; told(alloc, &rom, PLAIN)? == Some((0x0009, 12)));
+    // JR Z,000C and JR 000A there: what was pushed comes first.
+    let rom = [
+        0x31, 0x00, 0x44, 0x3A, 0x00, 0x60, 0xB7, 0x28, 0x03, 0xC5, 0x18, 0xFE, 0x18, 0xFC,
+    ];
+    assert!(rt; told(alloc, &rom, PLAIN)? == Some((0x000C, 12)));
+    Ok(())
+}
+
 #[test]
 fn by_a_cell(rt: HostRuntime) -> Result<(), Fail> {
     let alloc = rt.alloc();
