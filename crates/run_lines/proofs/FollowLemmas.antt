@@ -1,5 +1,5 @@
 -- One event more.
-use Rattle.std.proofs.Common.{Result, Ok, ◌≡◌, ◌≢◌, ◌<◌, ◌+◌, ◌-◌, inl, inr, ℕ, suc, Bool, true, false, List, drop, [], ◌∷◌, ◌++◌, length, length-append, slice_get, Option, Some, None, refl, sym, ap, subst, ◌∙◌, arith}
+use Rattle.std.proofs.Common.{Result, Ok, ◌≡◌, ◌≢◌, ◌<◌, ◌+◌, ◌-◌, inl, inr, ℕ, suc, Bool, true, false, List, drop, [], ◌∷◌, ◌++◌, length, length-append, slice_get, Option, Some, None, refl, sym, ap, subst, ◌∙◌, arith, is_some}
 use Rattle.std.proofs.lemmas.Bool.{cases_eq, cases_lt}
 use Rattle.board_step.specs.Context.{context_of}
 use Rattle.board_step.specs.Hardware.{Hardware}
@@ -11,6 +11,7 @@ use Rattle.t_states.specs.Costs.{cost_of}
 use Rattle.std.proofs.lemmas.Bool.{false≢true}
 use Rattle.z80_decode.specs.declared.fault.DecodeFault.{DecodeFault}
 use Rattle.z80_decode.specs.declared.instr.Instr.{Instr}
+use Rattle.z80_decode.specs.declared.instr.Instr.TheVariants.{Return, ReturnIf, ReturnFromInterrupt, ReturnFromNonMaskable}
 use Rattle.board_step.specs.Run.{AcceptsAt, EndsAt, ReturnsTo, Run, is_return, spent, time_before}
 use Rattle.board_step.specs.State.{State}
 use Rattle.board_step.specs.Step.{Step, instr_draft, t_of}
@@ -28,6 +29,7 @@ use Rattle.std.proofs.Math.Seq.{get_or-append_seam}
 use Rattle.std.proofs.lemmas.List.{get_or_append_left}
 use Rattle.run_lines.specs.declared.teller.Moment.{Moment}
 use Rattle.run_lines.specs.declared.teller.Note.{Note}
+use Rattle.run_lines.specs.declared.teller.Note.TheVariants as notes
 use Rattle.run_lines.specs.declared.teller.Teller.{Teller}
 
 clash : (k : Kind) → k ≡ kinds.Accept → k ≡ kinds.Instr → ⊥
@@ -53,6 +55,32 @@ says_some hardware s new env event known returned kind is step told =
 
 pub says_none : (hardware : Hardware) (s : State) (env : Env) → (kind_of s ≡ kinds.Instr → ⊥) → SaysReturned hardware s env false
 says_none hardware s env none = record { is = λ kind instr stands. absurd (none kind); none = λ on. absurd (false≢true on) }
+
+-- what stands at the program counter says whether the event returns
+pub says_known : (hardware : Hardware) (s : State) (env : Env) (known : Known) → kind_of s ≡ kinds.Instr → IsKnownAt hardware.rom s.regs.pc known →
+    SaysReturned hardware s env (is_return known.instr (instr_draft (context_of hardware s env) known.instr).taken)
+says_known hardware s env known kind is =
+    let c = context_of hardware s env in
+    record {
+      is = λ k instr stands.
+          ap (λ (i : Instr). is_return i (instr_draft c i).taken) (same_instr known.instr instr (decoded_once (drop s.regs.pc hardware.rom) (Ok known.instr) (Ok instr) is.stands stands));
+      none = λ on. kind;
+    }
+
+-- an instruction that may not return does not
+pub returns_never : (instr : Instr) (taken : Bool) → is_return instr true ≡ false → is_return instr taken ≡ false
+returns_never Return taken e = e
+returns_never (ReturnIf condition) true e = e
+returns_never (ReturnIf condition) false e = refl
+returns_never ReturnFromInterrupt taken e = e
+returns_never ReturnFromNonMaskable taken e = e
+returns_never _ taken e = e
+
+-- nothing is told of an instruction where no routine runs, or where it does not return
+pub follows_quietly : (running : Option Moment) (kind : Kind) (before after : Moment) (returned : Bool) → kind ≢ kinds.Accept → (is_some running ≡ true → returned ≡ false) →
+    Follows running kind before after returned notes.Nothing running
+follows_quietly (Some began) kind before after returned other none = goes_on began other refl (λ on. absurd (false≢true (sym (none refl) ∙ on))) refl refl
+follows_quietly None kind before after returned other none = stays other refl refl refl
 
 -- ---- an event of a run
 
