@@ -1,7 +1,7 @@
 // What a row asks of a state that comes to it: its facts, where they are known; of a state that they leave nothing of origins and the flag fact, and no range; and with a
 // split each value of a register.
 
-use crate::cases::verdict_without_nmi;
+use crate::cases::{verdict, verdict_without_nmi};
 use std::alloc::Global;
 use std::test::Fail;
 
@@ -62,6 +62,42 @@ fn facts_are_known_from_before(rt: HostRuntime) -> Result<(), Fail> {
     assert!(rt; fact_behind(alloc, "-")? == NOT_COVERED);
     assert!(rt; fact_behind(alloc, "-6+1*B")? == NOT_COVERED);
     assert!(rt; fact_behind(alloc, "-7+1*C")? == NOT_COVERED);
+    Ok(())
+}
+
+/// The verdict on NOP at 0002 with 5 in B, with this mode and so many cells armed, of one, before a row at 0003 with these and a fact that B is 5.
+fn modes_and_cells(
+    alloc: Global,
+    before: &str,
+    behind: &str,
+) -> Result<Option<(u16, u8, &'static [u8])>, Fail> {
+    let text = format!(in alloc;
+        "galcert 2\nrom 5\nmap galaxian\nstack 4380 4400\nbudget -\nproc main 0000 0 0 -\ncell 4003 12 34\n\
+        row 0 0000 u 0 * * * * * * * * * * - - - -\n\
+        row 0 0002 {before} * 0500-05FF:05-05:00-FF * * * * * * * * - - - -\n\
+        row 0 0003 {behind} * * * * * * * * * * - -5+1*B - -\nend\n"
+    )?;
+    verdict(alloc, &[0x18, 0xFE, 0x00, 0x18, 0xFE], text.as_str())
+}
+
+#[test]
+fn a_row_with_facts_asks_for_its_mode_and_cells(rt: HostRuntime) -> Result<(), Fail> {
+    let alloc = rt.alloc();
+    let tried = [
+        ("s 1", "s 1", None),
+        ("s 1", "s 0", None),
+        ("s 0", "s 1", NOT_COVERED),
+        ("s 1", "u 1", None),
+        ("s 1", "n 1", None),
+        ("u 1", "s 1", NOT_COVERED),
+        ("n 1", "s 1", NOT_COVERED),
+    ];
+    for (before, behind, wanted) in tried {
+        assert!(rt;
+            modes_and_cells(alloc, before, behind)? == wanted,
+            "{behind} behind {before}"
+        );
+    }
     Ok(())
 }
 

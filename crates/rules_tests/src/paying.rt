@@ -66,6 +66,29 @@ fn the_time_of_a_callee(rt: HostRuntime) -> Result<(), Fail> {
     Ok(())
 }
 
+/// The verdict on NOP and RET as a procedure, where NOP has this potential; of its row a fact says that B is 6 and its range that it is 4 or 5, so no machine is there.
+/// It leads to a row where B is 6, and to these rows besides.
+fn from_nowhere(alloc: Global, potential: u32, rows: &str) -> Result<Option<Told>, Fail> {
+    let lines = format!(in alloc;
+        "proc main 0000 1 0 -\nproc sub 0002 0 2 50\nrow 0 0000 u * * * * * * * * * * - - - -\n\
+        row 1 0002 s * 0400-05FF:04-05:00-FF * * * * * * * * - -6+1*B - {potential}\n\
+        row 1 0003 s * 0600-06FF:06-06:00-FF * * * * * * * * - -6+1*B - 10\n{rows}"
+    )?;
+    verdict_without_nmi(alloc, &[0x18, 0xFE, 0x00, 0xC9], lines.as_str())
+}
+
+#[test]
+fn rows_that_cover_and_do_not_meet(rt: HostRuntime) -> Result<(), Fail> {
+    let alloc = rt.alloc();
+    // 4 of NOP and 10 of RET: the one row is asked, though it shares no value of B with what comes.
+    assert!(rt; from_nowhere(alloc, 14, "")? == None);
+    assert!(rt; from_nowhere(alloc, 13, "")? == Some((0x0002, 17, &b"Time"[..])));
+    // Of two rows neither is asked.
+    let other = "row 1 0003 s * 0700-07FF:07-07:00-FF * * * * * * * * - -6+1*B - 10\n";
+    assert!(rt; from_nowhere(alloc, 0, other)? == None);
+    Ok(())
+}
+
 /// The verdict on a routine that reads an input into B and counts it down, with a split there: its time, and the potentials up to the
 /// instruction before the split.
 fn counts_an_input(

@@ -94,6 +94,28 @@ fn of_writes(rt: HostRuntime) -> Result<(), Fail> {
 }
 
 #[test]
+fn of_the_second_byte_of_a_write(rt: HostRuntime) -> Result<(), Fail> {
+    let alloc = rt.alloc();
+    // LD (nn),HL with a word on the stack: the first byte goes to work RAM below the region, and so does the second one, or it goes into the region, or to where
+    // nothing listens. 47FF is a mirror of 43FF, so there main has nothing on the stack.
+    let tried: [([u8; 2], &str, Option<(u16, u8, &'static [u8])>); 4] = [
+        ([0x7E, 0x43], "*", None),
+        ([0x7F, 0x43], "*", Some((0x0002, 8, b"StackOverwrite"))),
+        ([0xFE, 0x47], "-", None),
+        ([0xFF, 0x47], "-", Some((0x0002, 7, b"WriteUnmapped"))),
+    ];
+    for ([low, high], shape, wanted) in tried {
+        let lines = format!(in alloc;
+            "{MAIN}row 0 0002 s * * * * * * * * * * - - {shape} -\n\
+            row 0 0005 s * * * * * * * * * * - - {shape} -\n"
+        )?;
+        let rom = [0x18, 0xFE, 0x22, low, high, 0x18, 0xFE];
+        assert!(rt; verdict_without_nmi(alloc, &rom, lines.as_str())? == wanted);
+    }
+    Ok(())
+}
+
+#[test]
 fn of_the_stack(rt: HostRuntime) -> Result<(), Fail> {
     let alloc = rt.alloc();
     // PUSH DE in mode u.
