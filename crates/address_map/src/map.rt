@@ -1,9 +1,11 @@
 // The address map of a board: zones, of which each address lies in exactly one.
-ghost use Rattle.std.specs.Prelude.{◌≡◌, IfOk, IfErr};
+ghost use Rattle.std.specs.Prelude.{◌≡◌, ◌≢◌, IfOk, IfErr, true, false};
 ghost use Rattle.address_map.specs.AddressMap.{map_of};
 ghost use Rattle.address_map.specs.MapLaw.{IsMap, IsFirstFault};
 ghost use Rattle.address_map.specs.Class.{class_of, cell_of};
-ghost use Rattle.address_map.specs.WorkRam.{work_start};
+ghost use Rattle.address_map.specs.WorkRam.{work_class, work_start};
+ghost use Rattle.address_map.specs.declared.cell.RamKind.TheVariants as rams;
+ghost use Rattle.address_map.specs.declared.map.WriteClass.TheVariants as writes;
 
 use crate::cell::{Cell, RamKind};
 use crate::fault::MapFault;
@@ -16,8 +18,10 @@ use std::marker::Model;
 /// them is the ROM and one is work RAM.
 #[derive(Drop)]
 pub struct Map {
-    zones: ArrayVec<Zone, 16>,
+    work_start: u16,
+    work_last: u16,
     rom_len: u16,
+    zones: ArrayVec<Zone, 16>,
     pages: [Zone; 256],
 }
 
@@ -25,12 +29,13 @@ impl Model for Map {
     ghost use Rattle.address_map.specs.AddressMap.{AddressMap, map_of};
     ghost use Rattle.address_map.specs.MapLaw.{IsMap};
     ghost use Rattle.address_map.specs.Pages.{IsTable};
+    ghost use Rattle.address_map.specs.WorkRam.{IsWork};
 
     ghost Value = { AddressMap };
 
     ghost view = { λ m. map_of m.zones.items m.rom_len };
 
-    ghost invariant = { λ m. IsMap (map_of m.zones.items m.rom_len) × IsTable m.zones.items m.pages };
+    ghost invariant = { λ m. IsMap (map_of m.zones.items m.rom_len) × IsTable m.zones.items m.pages × IsWork (map_of m.zones.items m.rom_len) m.work_start m.work_last };
 }
 
 /// One of the board's three inputs.
@@ -103,14 +108,18 @@ impl Map {
     }
 
     /// The map of zones that keep the law.
+    #[tactic(auto, unfolding(crate::specs::WorkRam::work_start, crate::specs::WorkRam::work_last))]
     pub(crate) fn made(zones: ArrayVec<Zone, 16>, rom_len: u16) -> Map
         requires { IsMap (map_of zones.items rom_len) }
         ensures { result ≡ map_of zones.items rom_len }
     {
+        let work = list::first_work(zones.as_slice());
         let pages = list::pages_of(zones.as_slice());
         Map {
-            zones,
+            work_start: work.first,
+            work_last: work.last,
             rom_len,
+            zones,
             pages,
         }
     }
@@ -137,11 +146,19 @@ impl Map {
     }
 
     /// The first address of work RAM, a multiple of 400h.
-    #[tactic(auto, unfolding(crate::specs::WorkRam::work_start))]
     pub fn work_start(&self) -> u16
         ensures { result ≡ work_start self.now }
     {
-        list::first_work(self.zones.as_slice()).first
+        self.work_start
+    }
+
+    /// Whether an address, 0 to 65,535, is one of work RAM, for reading and for writing. It costs less than `class`.
+    #[inline(always)]
+    pub fn is_work(&self, address: u16) -> bool
+        ensures work { result ≡ true → class_of self.now address ≡ work_class }
+        ensures other { result ≡ false → (class_of self.now address).write ≢ writes.Ram rams.Work }
+    {
+        self.work_start <= address && address <= self.work_last
     }
 
     /// What an address, 0 to 65,535, reads and writes.

@@ -15,7 +15,7 @@ mod trap;
 pub use board::{Board, Reset};
 pub use env::{Env, Inputs};
 pub use event::{Event, Kind};
-pub use known::{Costs, Known};
+pub use known::{Costs, Known, may_return};
 pub use profile::{Profile, Trap};
 pub use ranges::{
     events_take_time, object_ram_is_in_range, ram_is_in_range, states_stay_in_range,

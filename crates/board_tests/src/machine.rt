@@ -5,7 +5,7 @@ ghost use Rattle.frame_times.specs.Frame.{frame};
 
 use crate::rows::{BEFORE, BY_HAND, Row, TRAPS, TrapRow};
 use address_map::{Map, RamKind, Region, Rom, Starts};
-use board_step::{Board, Costs, Env, Event, Inputs, Kind, Known, Profile, Reset, Trap};
+use board_step::{Board, Costs, Env, Event, Inputs, Kind, Known, Profile, Reset, Trap, may_return};
 use rom_fetch::fetch;
 use t_states::cost;
 use z80_alu::{RegisterSet, Regs};
@@ -319,7 +319,12 @@ fn step_by_known(board: &mut Board, rom: &Rom, map: &Map, env: &Env) -> Option<E
                 taken: cost(&instr, true),
                 not_taken: cost(&instr, false),
             };
-            let known = Known { instr, len, costs };
+            let known = Known {
+                instr,
+                len: u16::from(len),
+                costs,
+                may_return: may_return(&instr),
+            };
             Some(board.step_known(rom, map, Some(&known), env))
         }
     }

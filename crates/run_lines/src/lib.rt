@@ -7,4 +7,4 @@ mod teller;
 
 pub use fields::{add_decimal_field, add_hex4_field};
 pub use lines::{begin_line, end_line, put_note};
-pub use teller::{Moment, Note, Teller, has_returned, may_return};
+pub use teller::{Moment, Note, Teller, has_returned};

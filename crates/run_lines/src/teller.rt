@@ -129,16 +129,7 @@ fn returned_after(known: &Known, t: u8) -> bool
     is_return(&known.instr, t == known.costs.taken)
 }
 
-/// Whether an instruction returns, where it is taken.
-#[inline(always)]
-pub fn may_return(known: &Known) -> bool
-    ensures { result ≡ is_return known.now.instr true }
-{
-    is_return(&known.instr, true)
-}
-
 /// Whether an instruction that is taken or not returns.
-#[inline(always)]
 fn is_return(instr: &Instr, taken: bool) -> bool
     ensures { result ≡ is_return instr.now taken }
 {

@@ -2,7 +2,7 @@ use Rattle.std.proofs.Common.{refl, arith}
 use Rattle.board_step.proofs.board.Board.reset.Goals as goal
 
 pub returns-clause-reset : goal.returns-clause-reset
-returns-clause-reset c = record {
+returns-clause-reset c = rw c.of.ensures (record {
   in_range = record {
     regs = record {
       main = c.regs_are_in_range.ensures.main;
@@ -28,4 +28,4 @@ returns-clause-reset c = record {
   line = refl;
   latched = refl;
   halted = refl;
-}
+})
