@@ -29,7 +29,7 @@ pub fn check_row(alloc: Global, subject: &Subject, coverer: &mut Coverer) -> Res
 {
     let writes = writes_of(alloc, subject);
     match subject.step(alloc) {
-        Ok(nexts) => check_going(alloc, subject, writes.as_slice(), nexts.as_slice(), coverer),
+        Ok(nexts) => check_going(subject, writes.as_slice(), nexts.as_slice(), coverer),
         Err(refusal) => Err(lowest_of_refused(subject, writes.as_slice(), refusal)),
     }
 }
@@ -72,7 +72,6 @@ fn lowest_of_refused(subject: &Subject, writes: &[DataWrite], refusal: Reason) -
 
 /// Looks for a reason against a row that the abstract step leads on from.
 fn check_going(
-    alloc: Global,
     subject: &Subject,
     writes: &[DataWrite],
     nexts: &[Next],
@@ -85,21 +84,16 @@ fn check_going(
     ensures same { coverer.new ≡ coverer.old }
 {
     check_places(subject, writes)?;
-    check_ways(alloc, subject, nexts, coverer)?;
+    check_ways(subject, nexts, coverer)?;
     check_saved(subject, nexts)?;
     check_enabling(subject, writes)?;
-    check_time(alloc, subject, nexts)?;
+    check_time(subject, nexts)?;
     check_instruction(subject)?;
     check_cells(subject, writes)
 }
 
 /// Reasons 11, 12 and 13: the depth, where the row leads to, and the ranks of callees.
-fn check_ways(
-    alloc: Global,
-    subject: &Subject,
-    nexts: &[Next],
-    coverer: &mut Coverer,
-) -> Result<(), Reason>
+fn check_ways(subject: &Subject, nexts: &[Next], coverer: &mut Coverer) -> Result<(), Reason>
     requires step { step_of subject.now ≡ Ok nexts.now }
     requires coverer { coverer.old ≡ subject.now.cert }
     requires below { PassesBelow subject.now 9 }
@@ -109,7 +103,7 @@ fn check_ways(
     if !is_deep(subject, nexts) {
         return Err(Reason::StackDepth);
     }
-    if !goes_on(alloc, subject, nexts, coverer) {
+    if !goes_on(subject, nexts, coverer) {
         return Err(Reason::NotCovered);
     }
     if !ranks_fall(subject, nexts) {
@@ -119,12 +113,12 @@ fn check_ways(
 }
 
 /// Reason 17: whether a row of a timed procedure pays.
-fn check_time(alloc: Global, subject: &Subject, nexts: &[Next]) -> Result<(), Reason>
+fn check_time(subject: &Subject, nexts: &[Next]) -> Result<(), Reason>
     requires step { step_of subject.now ≡ Ok nexts.now }
     requires below { PassesBelow subject.now 17 }
     ensures { Tells subject.now 19 result }
 {
-    if is_timed(&subject.proc) && !pays(alloc, subject, nexts) {
+    if is_timed(&subject.proc) && !pays(subject, nexts) {
         return Err(Reason::Time);
     }
     Ok(())

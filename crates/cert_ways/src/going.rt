@@ -15,7 +15,6 @@ use abs_state::AbsState;
 use abs_step::{Next, NextKind};
 use cert_cover::{Callee, Coverer, callee_at};
 use certificate::RowId;
-use std::alloc::Global;
 
 /// Whether a jump, or going on, leads to a state that is covered.
 fn jump_is_covered(subject: &Subject, next: &Next, coverer: &mut Coverer) -> bool
@@ -131,7 +130,7 @@ fn nexts_go_on(subject: &Subject, nexts: &[Next], coverer: &mut Coverer) -> bool
 /// procedure, through a call and back from each exit of the callee too, leads to a state that is covered, and each call enters a
 /// procedure that is called, in such a state. The coverer is one of the row's certificate. It takes no memory, and looks once at each
 /// row of a callee.
-pub fn goes_on(alloc: Global, subject: &Subject, nexts: &[Next], coverer: &mut Coverer) -> bool
+pub fn goes_on(subject: &Subject, nexts: &[Next], coverer: &mut Coverer) -> bool
     requires certificate { coverer.old ≡ subject.now.cert }
     requires step { step_of subject.now ≡ Ok nexts.now }
     ensures exact { IsTrue result ↔ GoesOn subject.now }

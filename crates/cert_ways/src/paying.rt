@@ -14,7 +14,6 @@ use abs_step::{Next, NextKind};
 use cert_cover::{Callee, callee_at};
 use certificate::{ProcKind, RowId, RowView};
 use loop_bounds::{Effect, Linear, decreases};
-use std::alloc::Global;
 
 /// A row's potential; one that has none counts as 0 for the others.
 fn potential_of(row: &RowView) -> Linear
@@ -212,7 +211,7 @@ fn meets_entry(subject: &Subject) -> bool
 /// Whether a row pays, once its ways on are known (docs/CHECKER.md, "Paying"): whether it has a potential, which pays for each way on
 /// to each row that is asked there, for each call of a procedure and for each exit, and meets its procedure's time at the entry. It is
 /// asked of rows of procedures with a time, and takes no memory.
-pub fn pays(alloc: Global, subject: &Subject, nexts: &[Next]) -> bool
+pub fn pays(subject: &Subject, nexts: &[Next]) -> bool
     requires { step_of subject.now ≡ Ok nexts.now }
     ensures { IsTrue result ↔ Pays subject.now }
 {

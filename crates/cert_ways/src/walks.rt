@@ -140,12 +140,7 @@ fn calls_are_timed(subject: &Subject, nexts: &[Next]) -> bool
 /// The T-states that lie between a row and another, once the row's ways on are known, where the other may come next after it on a walk:
 /// the most of those of its ways on that lead there, with the time of a callee where a way leads through a call (docs/CHECKER.md,
 /// "Paying"). None where no way leads there, and where the row is one of a procedure without a time, or calls one. It takes no memory.
-pub fn cost_between(
-    alloc: Global,
-    subject: &Subject,
-    nexts: &[Next],
-    target: &RowView,
-) -> Option<u32>
+pub fn cost_between(subject: &Subject, nexts: &[Next], target: &RowView) -> Option<u32>
     requires step { step_of subject.now ≡ Ok nexts.now }
     requires listed { Contains subject.now.cert.rows target.now }
     ensures { IsGreatest (LiesBetween subject.now target.now) result }
@@ -163,7 +158,7 @@ fn cost_from(alloc: Global, subject: &Subject, target: &RowView) -> Option<u32>
     ensures { IsGreatest (LiesBetween subject.now target.now) result }
 {
     match subject.step(alloc) {
-        Ok(nexts) => cost_between(alloc, subject, nexts.as_slice(), target),
+        Ok(nexts) => cost_between(subject, nexts.as_slice(), target),
         Err(_) => None,
     }
 }

@@ -84,12 +84,11 @@ fn add_links(
     let Ok(nexts) = subject.step(alloc) else {
         return Ok(());
     };
-    add_links_by_each(alloc, &subject, from, nexts.as_slice(), links)
+    add_links_by_each(&subject, from, nexts.as_slice(), links)
 }
 
 /// Adds the links from the row of this number, the subject, by its ways on.
 fn add_links_by_each(
-    alloc: Global,
     subject: &Subject,
     from: RowId,
     nexts: &[Next],
@@ -101,14 +100,13 @@ fn add_links_by_each(
     ensures { OnOk result (Added subject.now.rom subject.now.cert from (IsArrivalOfSome subject.now nexts.now) links.old.items links.new.items) }
 {
     for next in nexts {
-        add_links_by(alloc, subject, from, nexts, next, links)?;
+        add_links_by(subject, from, nexts, next, links)?;
     }
     Ok(())
 }
 
 /// Adds the links from the row of this number, the subject, by one of its ways on.
 fn add_links_by(
-    alloc: Global,
     subject: &Subject,
     from: RowId,
     nexts: &[Next],
@@ -123,7 +121,7 @@ fn add_links_by(
     match arrival_of(subject, next) {
         Some(address) => {
             let rows = subject.certificate.rows_at(subject.row.proc, address);
-            add_links_to(alloc, subject, from, nexts, rows, links)
+            add_links_to(subject, from, nexts, rows, links)
         }
         None => Ok(()),
     }
@@ -142,7 +140,6 @@ fn arrival_of(subject: &Subject, next: &Next) -> Option<u16>
 
 /// Adds the links from the row of this number, the subject, to those of these rows that may come next.
 fn add_links_to(
-    alloc: Global,
     subject: &Subject,
     from: RowId,
     nexts: &[Next],
@@ -158,7 +155,7 @@ fn add_links_to(
     // In form: there are 65,535 rows at most.
     subject.certificate.is_in_form();
     for to in rows.start..rows.end {
-        if let Some(cost) = cost_to(alloc, subject, nexts, to) {
+        if let Some(cost) = cost_to(subject, nexts, to) {
             links.push(Link {
                 from: from as u16,
                 to: to as u16,
@@ -170,12 +167,12 @@ fn add_links_to(
 }
 
 /// The T-states that lie between the subject, of these ways on, and the row of a number.
-fn cost_to(alloc: Global, subject: &Subject, nexts: &[Next], to: RowId) -> Option<u32>
+fn cost_to(subject: &Subject, nexts: &[Next], to: RowId) -> Option<u32>
     requires step { step_of subject.now ≡ Ok nexts.now }
     ensures { (from : ℕ) → IsNumbered subject.now.rom subject.now.cert from subject.now → IsGreatest (LieBetween subject.now.rom subject.now.cert from to) result }
 {
     let target = subject.certificate.row(to)?;
-    cost_between(alloc, subject, nexts, &target)
+    cost_between(subject, nexts, &target)
 }
 
 /// The links without their costs.
