@@ -51,7 +51,7 @@ pub(crate) fn difference(a: u8, b: u8, carry: bool, noise: u8) -> (u8, Flags)
 
 /// `a + b + carry` and its flags: ADD without a carry, ADC with C (UM0080, "8-Bit Arithmetic
 /// Group"). Bits 5 and 3 of the flags are those of `noise`.
-#[inline]
+#[inline(always)]
 pub fn add8(a: u8, b: u8, carry: bool, noise: u8) -> (u8, u8)
     ensures value { result.0 ≡ sum8 a b carry }
     ensures flags { result.1 ≡ flags_byte (sum8_flags a b carry noise) }
@@ -62,7 +62,7 @@ pub fn add8(a: u8, b: u8, carry: bool, noise: u8) -> (u8, u8)
 
 /// `a - b - carry` and its flags: SUB without a carry, SBC with C, CP for the flags alone, and NEG
 /// as `0 - a` (UM0080, "8-Bit Arithmetic Group"). Bits 5 and 3 of the flags are those of `noise`.
-#[inline]
+#[inline(always)]
 pub fn sub8(a: u8, b: u8, carry: bool, noise: u8) -> (u8, u8)
     ensures value { result.0 ≡ difference8 a b carry }
     ensures flags { result.1 ≡ flags_byte (difference8_flags a b carry noise) }
