@@ -7,7 +7,7 @@ use crate::flags::Flags;
 
 // Bit k of `a ^ b ^ value` is the carry into bit k. The sum overflows where both operands have the sign
 // that the value does not have.
-#[inline]
+#[inline(always)]
 fn sum(a: u8, b: u8, carry: bool, noise: u8) -> (u8, Flags)
     ensures value { result.0 ≡ sum8 a b carry }
     ensures flags { result.1 ≡ sum8_flags a b carry noise }
@@ -29,7 +29,7 @@ fn sum(a: u8, b: u8, carry: bool, noise: u8) -> (u8, Flags)
 
 // Bit k of `a ^ b ^ value` is the borrow from bit k. The difference overflows where the operands' signs
 // differ, and the value has not the sign of the first.
-#[inline]
+#[inline(always)]
 pub(crate) fn difference(a: u8, b: u8, carry: bool, noise: u8) -> (u8, Flags)
     ensures value { result.0 ≡ difference8 a b carry }
     ensures flags { result.1 ≡ difference8_flags a b carry noise }

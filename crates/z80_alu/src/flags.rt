@@ -44,7 +44,7 @@ impl Flags {
     }
 
     /// The byte F that holds these flags.
-    #[inline]
+    #[inline(always)]
     #[tactic(auto, unfolding(crate::specs::Flags::flags_byte))]
     pub fn byte(self) -> u8
         ensures { result ≡ flags_byte self }
