@@ -1,17 +1,12 @@
 // What a row asks of a state that comes to it: its facts, where they are known; of a state that they leave nothing of origins and the flag fact, and no range; and with a
 // split each value of a register.
 
-use crate::cases::{verdict, verdict_without_nmi};
+use crate::cases::{Told, verdict, verdict_without_nmi};
 use std::alloc::Global;
 use std::test::Fail;
 
 /// The verdict on a NOP at 0002, where B is 4 or 5 and 6 too, before a row at 0003 with this pair in the place of HL, this flag fact and this shape.
-fn nothing_left(
-    alloc: Global,
-    pair: &str,
-    flag: &str,
-    slot: &str,
-) -> Result<Option<(u16, u8, &'static [u8])>, Fail> {
+fn nothing_left(alloc: Global, pair: &str, flag: &str, slot: &str) -> Result<Option<Told>, Fail> {
     let lines = format!(in alloc;
         "proc main 0000 0 2 -\nrow 0 0000 u * * * * * * * * * * - - - -\n\
         row 0 0002 s * 0400-05FF:04-05:00-FF * 1234-1235:12-12:34-35@DE * * * * * * zC -6+1*B *@IX -\n\
@@ -20,7 +15,7 @@ fn nothing_left(
     verdict_without_nmi(alloc, &[0x18, 0xFE, 0x00, 0x18, 0xFE], lines.as_str())
 }
 
-const NOT_COVERED: Option<(u16, u8, &'static [u8])> = Some((0x0002, 12, b"NotCovered"));
+const NOT_COVERED: Option<Told> = Some((0x0002, 12, b"NotCovered"));
 
 #[test]
 fn ranges_are_not_asked(rt: HostRuntime) -> Result<(), Fail> {
@@ -44,7 +39,7 @@ fn origins_and_flags_are_asked(rt: HostRuntime) -> Result<(), Fail> {
 }
 
 /// The verdict on DEC B at 0002, where this fact is known, before a row at 0003 with a fact that B is 6.
-fn fact_behind(alloc: Global, fact: &str) -> Result<Option<(u16, u8, &'static [u8])>, Fail> {
+fn fact_behind(alloc: Global, fact: &str) -> Result<Option<Told>, Fail> {
     let lines = format!(in alloc;
         "proc main 0000 0 0 -\nrow 0 0000 u * * * * * * * * * * - - - -\n\
         row 0 0002 s * 0100-FFFF:01-FF:00-FF * * * * * * * * - {fact} - -\n\
@@ -66,11 +61,7 @@ fn facts_are_known_from_before(rt: HostRuntime) -> Result<(), Fail> {
 }
 
 /// The verdict on NOP at 0002 with 5 in B, with this mode and so many cells armed, of one, before a row at 0003 with these and a fact that B is 5.
-fn modes_and_cells(
-    alloc: Global,
-    before: &str,
-    behind: &str,
-) -> Result<Option<(u16, u8, &'static [u8])>, Fail> {
+fn modes_and_cells(alloc: Global, before: &str, behind: &str) -> Result<Option<Told>, Fail> {
     let text = format!(in alloc;
         "galcert 2\nrom 5\nmap galaxian\nstack 4380 4400\nbudget -\nproc main 0000 0 0 -\ncell 4003 12 34\n\
         row 0 0000 u 0 * * * * * * * * * * - - - -\n\
@@ -102,11 +93,7 @@ fn a_row_with_facts_asks_for_its_mode_and_cells(rt: HostRuntime) -> Result<(), F
 }
 
 /// The verdict on NOP at 0002 with any B, before these rows at 0003, with this line of a split or none.
-fn split_behind(
-    alloc: Global,
-    split: &str,
-    rows: &str,
-) -> Result<Option<(u16, u8, &'static [u8])>, Fail> {
+fn split_behind(alloc: Global, split: &str, rows: &str) -> Result<Option<Told>, Fail> {
     let lines = format!(in alloc;
         "proc main 0000 0 0 -\n{split}row 0 0000 u * * * * * * * * * * - - - -\n\
         row 0 0002 s * * * * * * * * * * - - - -\n{rows}"
@@ -134,11 +121,7 @@ fn each_value_of_a_split(rt: HostRuntime) -> Result<(), Fail> {
 }
 
 /// The verdict on CALL 0006 at 0002 with 5 in A, before a row at 0005 with 5 in A, where the callee is this instruction and RET, and this is told of AF at RET.
-fn behind_a_call(
-    alloc: Global,
-    code: u8,
-    left: &str,
-) -> Result<Option<(u16, u8, &'static [u8])>, Fail> {
+fn behind_a_call(alloc: Global, code: u8, left: &str) -> Result<Option<Told>, Fail> {
     let lines = format!(in alloc;
         "proc main 0000 2 0 -\nproc sub 0002 1 4 -\nproc sub 0006 0 2 -\nrow 0 0000 u * * * * * * * * * * - - - -\n\
         row 1 0002 s 0500-05FF:05-05:00-FF * * * * * * * * * - - - -\n\

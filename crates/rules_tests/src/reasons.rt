@@ -1,6 +1,6 @@
 // Each of the 22 reasons, told by its number and its name, with what is accepted where the one thing is mended.
 
-use crate::cases::{rom_with_routine, verdict, verdict_with_nmi, verdict_without_nmi};
+use crate::cases::{Told, rom_with_routine, verdict, verdict_with_nmi, verdict_without_nmi};
 use std::test::Fail;
 
 /// Main is a loop at 0000; the row at 0002 is tried.
@@ -14,15 +14,17 @@ fn first_to_third(rt: HostRuntime) -> Result<(), Fail> {
     assert!(rt; verdict(alloc, &[0x18, 0xFE], text)? == None);
     assert!(rt; verdict(alloc, &[0x18, 0xFE, 0x00], text)? == Some((0x0000, 1, &b"Rom"[..])));
     // From 3FFF: below work RAM. Up to 4401: more than its 400h bytes above 4000.
-    let text = "galcert 1\nrom 2\nstack 3FFF 4400\nbudget -\nproc main 0000 0 0 -\n\
-        row 0 0000 u * * * * * * * * * * - - - -\nend\n";
-    assert!(rt; verdict(alloc, &[0x18, 0xFE], text)? == Some((0x0000, 2, &b"Region"[..])));
-    let text = "galcert 1\nrom 2\nstack 4000 4401\nbudget -\nproc main 0000 0 0 -\n\
-        row 0 0000 u * * * * * * * * * * - - - -\nend\n";
-    assert!(rt; verdict(alloc, &[0x18, 0xFE], text)? == Some((0x0000, 2, &b"Region"[..])));
-    let text = "galcert 1\nrom 2\nstack 4000 4400\nbudget -\nproc main 0000 0 0 -\n\
-        row 0 0000 u * * * * * * * * * * - - - -\nend\n";
-    assert!(rt; verdict(alloc, &[0x18, 0xFE], text)? == None);
+    for (stack, wanted) in [
+        ("3FFF 4400", Some((0x0000, 2, &b"Region"[..]))),
+        ("4000 4401", Some((0x0000, 2, &b"Region"[..]))),
+        ("4000 4400", None),
+    ] {
+        let text = format!(in alloc;
+            "galcert 1\nrom 2\nstack {stack}\nbudget -\nproc main 0000 0 0 -\n\
+            row 0 0000 u * * * * * * * * * * - - - -\nend\n"
+        )?;
+        assert!(rt; verdict(alloc, &[0x18, 0xFE], text.as_str())? == wanted);
+    }
     // A row that asks for B to be below FF, and the NMI routine's that asks for a flag fact.
     let lines =
         "proc main 0000 0 0 -\nrow 0 0000 u * 0000-FEFF:00-FE:00-FF * * * * * * * * - - - -\n";
@@ -65,15 +67,12 @@ fn of_writes(rt: HostRuntime) -> Result<(), Fail> {
     let alloc = rt.alloc();
     // LD (HL),2 with HL from 0001 to 0002, 47FF to 4800, 4480 to 4481 (a mirror of the region) and 4081 to 4082.
     let rom = [0x18, 0xFE, 0x36, 0x02, 0x18, 0xFE];
-    let tried: [(&str, Option<(u16, u8, &'static [u8])>); 4] = [
-        ("0001-0002:00-00:01-02", Some((0x0002, 6, &b"WriteRom"[..]))),
-        (
-            "47FF-4800:47-48:00-FF",
-            Some((0x0002, 7, &b"WriteUnmapped"[..])),
-        ),
+    let tried: [(&str, Option<Told>); 4] = [
+        ("0001-0002:00-00:01-02", Some((0x0002, 6, b"WriteRom"))),
+        ("47FF-4800:47-48:00-FF", Some((0x0002, 7, b"WriteUnmapped"))),
         (
             "4780-4781:47-47:80-81",
-            Some((0x0002, 8, &b"StackOverwrite"[..])),
+            Some((0x0002, 8, b"StackOverwrite")),
         ),
         ("4481-4482:44-44:81-82", None),
     ];
@@ -98,7 +97,7 @@ fn of_the_second_byte_of_a_write(rt: HostRuntime) -> Result<(), Fail> {
     let alloc = rt.alloc();
     // LD (nn),HL with a word on the stack: the first byte goes to work RAM below the region, and so does the second one, or it goes into the region, or to where
     // nothing listens. 47FF is a mirror of 43FF, so there main has nothing on the stack.
-    let tried: [([u8; 2], &str, Option<(u16, u8, &'static [u8])>); 4] = [
+    let tried: [([u8; 2], &str, Option<Told>); 4] = [
         ([0x7E, 0x43], "*", None),
         ([0x7F, 0x43], "*", Some((0x0002, 8, b"StackOverwrite"))),
         ([0xFE, 0x47], "-", None),
@@ -164,6 +163,10 @@ fn of_calls(rt: HostRuntime) -> Result<(), Fail> {
     assert!(rt; told == Some((0x0002, 13, &b"Rank"[..])));
     let lines = format!(in alloc; "proc main 0000 3 2 -\nproc sub 0005 2 2 -\n{rows}")?;
     assert!(rt; verdict_without_nmi(alloc, &rom, lines.as_str())? == None);
+    // Main's depth of one byte, with no room for the two of its callee.
+    let lines = format!(in alloc; "proc main 0000 3 1 -\nproc sub 0005 2 2 -\n{rows}")?;
+    let told = verdict_without_nmi(alloc, &rom, lines.as_str())?;
+    assert!(rt; told == Some((0x0002, 11, &b"StackDepth"[..])));
     Ok(())
 }
 
@@ -207,12 +210,9 @@ fn of_the_routine(rt: HostRuntime) -> Result<(), Fail> {
     let lines =
         "proc main 0000 1 0 -\nproc nmi 0066 0 2 25\nrow 0 0000 u * * * * * * * * * * - - - -\n\
         row 1 0066 n *@AF *@BC *@DE *@HL *@IX *@IY *@AF' *@BC' *@DE' *@HL' - - - 14\n";
-    assert!(rt;
-        verdict_with_nmi(alloc, rom.as_slice(), 24, lines)? == Some((0x0066, 18, &b"Budget"[..]))
-    );
-    assert!(rt;
-        verdict_with_nmi(alloc, rom.as_slice(), 50666, lines)? == Some((0x0066, 18, &b"Budget"[..]))
-    );
+    let over = Some((0x0066, 18, &b"Budget"[..]));
+    assert!(rt; verdict_with_nmi(alloc, rom.as_slice(), 24, lines)? == over);
+    assert!(rt; verdict_with_nmi(alloc, rom.as_slice(), 50666, lines)? == over);
     assert!(rt; verdict_with_nmi(alloc, rom.as_slice(), 50665, lines)? == None);
     assert!(rt; verdict_with_nmi(alloc, rom.as_slice(), 25, lines)? == None);
     Ok(())
@@ -222,7 +222,7 @@ fn of_the_routine(rt: HostRuntime) -> Result<(), Fail> {
 fn of_time(rt: HostRuntime) -> Result<(), Fail> {
     let alloc = rt.alloc();
     // NOP, 4 T-states, and RET, 10.
-    let tried: [(u32, u32, Option<(u16, u8, &'static [u8])>); 4] = [
+    let tried: [(u32, u32, Option<Told>); 4] = [
         (14, 14, None),
         (14, 13, Some((0x0002, 17, &b"Time"[..]))),
         (13, 14, Some((0x0002, 17, &b"Time"[..]))),
@@ -234,9 +234,8 @@ fn of_time(rt: HostRuntime) -> Result<(), Fail> {
             row 0 0000 u * * * * * * * * * * - - - -\nrow 1 0002 s * * * * * * * * * * - - - {potential}\n\
             row 1 0003 s * * * * * * * * * * - - - 10\n"
         )?;
-        assert!(rt;
-            verdict_without_nmi(alloc, &[0x18, 0xFE, 0x00, 0xC9], lines.as_str())? == wanted
-        );
+        let told = verdict_without_nmi(alloc, &[0x18, 0xFE, 0x00, 0xC9], lines.as_str())?;
+        assert!(rt; told == wanted);
     }
     // HALT that pays.
     let lines =
@@ -270,11 +269,8 @@ fn of_cells(rt: HostRuntime) -> Result<(), Fail> {
     )?;
     assert!(rt; verdict(alloc, &rom, unarmed.as_str())? == Some((0x0002, 12, &b"NotCovered"[..])));
     // An enabling write with the cell unarmed. No row of mode n covers what comes of it; but at the target states are told apart by B, and no B is possible.
-    let rom = rom_with_routine(
-        alloc,
-        &[0x18, 0xFE, 0x32, 0x01, 0x70, 0x18, 0xFE],
-        &[0xED, 0x45],
-    )?;
+    let main = [0x18, 0xFE, 0x32, 0x01, 0x70, 0x18, 0xFE];
+    let rom = rom_with_routine(alloc, &main, &[0xED, 0x45])?;
     let text =
         "galcert 2\nrom 104\nmap galaxian\nstack 4380 4400\nbudget 25\nproc main 0000 1 2 -\nproc nmi 0066 0 2 25\n\
         split 0 0005 B\ncell 4003 12 34\nrow 0 0000 u 0 * * * * * * * * * * - - - -\n\

@@ -13,7 +13,10 @@ fn wants_memory(after: &Outcome) -> bool {
 #[test]
 fn check_again(rt: HostRuntime) -> Result<(), Fail> {
     let alloc = rt.alloc();
-    let rom = with_routine(alloc, ENABLING, COUNTING)?;
+    let Ok(rom) = with_routine(alloc, ENABLING, COUNTING) else {
+        println!(rt; "refused before check")?;
+        return Ok(());
+    };
     let mut refused = 0u8;
     for _ in 0..3 {
         let after = check_whole(alloc, rom.as_slice(), COUNTED);
