@@ -1,7 +1,6 @@
 // ROMs and annotations for the tests.
 
-use std::alloc::Global;
-use std::test::Fail;
+use std::alloc::{AllocError, Global};
 
 /// Annotations: a stack of 128 bytes, with `nmi` an NMI routine that may take all the T-states there are, and more lines.
 macro_rules! said {
@@ -50,7 +49,7 @@ pub const COUNTED_TABLE: &str = "accepted\nmain 0000 depth     0 time      -\n\
     nmi  0066 depth     4 time    148\nstack 4 of 128\nnmi 148 of 50665\n";
 
 /// A ROM of main code from 0000 and an NMI routine from 0066, with zeros between.
-pub fn with_routine(alloc: Global, main: &[u8], routine: &[u8]) -> Result<Vec<u8>, Fail> {
+pub fn with_routine(alloc: Global, main: &[u8], routine: &[u8]) -> Result<Vec<u8>, AllocError> {
     let mut rom = Vec::new(alloc);
     rom.extend_from_slice(main)?;
     rom.resize(0x66, 0)?;
