@@ -8,7 +8,6 @@ mod env;
 mod event;
 mod known;
 mod profile;
-mod ranges;
 mod step;
 mod trap;
 
@@ -17,10 +16,6 @@ pub use env::{Env, Inputs};
 pub use event::{Event, Kind};
 pub use known::{Costs, Known, may_return};
 pub use profile::{Profile, Trap};
-pub use ranges::{
-    events_take_time, object_ram_is_in_range, ram_is_in_range, states_stay_in_range,
-    steps_are_single,
-};
 pub use z80_draft::{StackAccess, Write, displace, regs_are_in_range, set_is_in_range};
 pub use z80_moves::{
     ByteRegister, Move, Moves, Test, WordRegister, moves_for, moves_of_acceptance,

@@ -39,10 +39,11 @@ pub enum Note {
 pub struct Teller {
     /// The number of events so far.
     pub events: u64,
-    /// Their T-states.
-    pub time: u64,
     /// The moment before the acceptance of the NMI routine that runs, if one does.
+    // Between the two numbers, so that they are added to one by one, and not as one vector.
     pub running: Option<Moment>,
+    /// The T-states of the events so far.
+    pub time: u64,
 }
 
 impl Teller {

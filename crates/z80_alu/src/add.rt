@@ -72,7 +72,7 @@ pub fn sub8(a: u8, b: u8, carry: bool, noise: u8) -> (u8, u8)
 }
 
 /// `a + 1` and its flags, INC: as ADD, but C is that of `f` (UM0080, "INC r").
-#[inline]
+#[inline(always)]
 #[tactic(auto, unfolding(crate::specs::Add::increment8_flags))]
 pub fn inc8(a: u8, f: u8, noise: u8) -> (u8, u8)
     ensures value { result.0 ≡ sum8 a 1 false }
@@ -84,7 +84,7 @@ pub fn inc8(a: u8, f: u8, noise: u8) -> (u8, u8)
 }
 
 /// `a - 1` and its flags, DEC: as SUB, but C is that of `f` (UM0080, "DEC m").
-#[inline]
+#[inline(always)]
 #[tactic(auto, unfolding(crate::specs::Add::decrement8_flags))]
 pub fn dec8(a: u8, f: u8, noise: u8) -> (u8, u8)
     ensures value { result.0 ≡ difference8 a 1 false }

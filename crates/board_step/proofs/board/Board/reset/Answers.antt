@@ -14,9 +14,9 @@ returns-clause-reset c = rw c.of.ensures (record {
       i = omega arith;
       r = omega arith;
     };
-    work = c.ram_is_in_range.ensures;
-    video = c.ram_is_in_range-2.ensures;
-    object = c.object_ram_is_in_range.ensures;
+    work = record { size = cc; each = c.bytes_are_in_range.ensures };
+    video = record { size = cc; each = c.bytes_are_in_range-2.ensures };
+    object = record { size = cc; each = c.bytes_are_in_range-3.ensures };
     phase = c.requires;
   };
   pc = refl;

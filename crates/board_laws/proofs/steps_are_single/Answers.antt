@@ -1,5 +1,5 @@
 use Rattle.board_step.proofs.SingleLemmas.{one_event, one_state, one_trap}
-use Rattle.board_step.proofs.ranges.steps_are_single.Goals as goal
+use Rattle.board_laws.proofs.steps_are_single.Goals as goal
 
 pub returns-clause-event : goal.returns-clause-event
 returns-clause-event c = one_event

@@ -1,5 +1,5 @@
 use Rattle.board_step.proofs.StateRangeLemmas.{reached_is_in_range, step_keeps}
-use Rattle.board_step.proofs.ranges.states_stay_in_range.Goals as goal
+use Rattle.board_laws.proofs.states_stay_in_range.Goals as goal
 
 pub returns-clause-step : goal.returns-clause-step
 returns-clause-step c = step_keeps

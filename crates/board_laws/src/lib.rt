@@ -1,8 +1,9 @@
-// Laws of the machine: its numbers stay in range, an event takes 4 to 23 T-states, and from a state in an environment
-// there is one step and one trap.
+// Laws of the machine (docs/BOARD.md, "Runs"): its numbers stay in range, an event takes 4 to 23 T-states, and
+// from a state in an environment there is one step and one trap. Each law is the contract of a function with an empty body.
+#![tactic(auto)]
 
-ghost use Rattle.std.specs.Prelude.{ℕ, List, ◌≡◌, ◌≤◌, Option};
-ghost use Rattle.board_step.specs.State.{AreBytes, State, IsState, IsRam};
+ghost use Rattle.std.specs.Prelude.{◌≡◌, ◌≤◌, Option};
+ghost use Rattle.board_step.specs.State.{AreBytes, State, IsState};
 ghost use Rattle.board_step.specs.Env.{IsEnv};
 ghost use Rattle.board_step.specs.Hardware.{Hardware};
 ghost use Rattle.board_step.specs.Profile.{Profile};
@@ -12,24 +13,6 @@ ghost use Rattle.board_step.specs.Trap.{Traps};
 ghost use Rattle.board_step.specs.declared.env.Env.{Env};
 ghost use Rattle.board_step.specs.declared.event.Event.{Event};
 ghost use Rattle.board_step.specs.declared.profile.Trap.{Trap};
-
-fn bytes_are_in_range(bytes: &[u8])
-    ensures { AreBytes bytes.now }
-{}
-
-/// A law: work or video RAM is 1,024 bytes.
-pub fn ram_is_in_range(ram: &[u8; 0x400])
-    ensures { IsRam ram.now 1024 }
-{
-    bytes_are_in_range(ram);
-}
-
-/// A law: object RAM is 256 bytes.
-pub fn object_ram_is_in_range(ram: &[u8; 0x100])
-    ensures { IsRam ram.now 256 }
-{
-    bytes_are_in_range(ram);
-}
 
 /// A law: where the ROM holds bytes, a step leads from a state in range to one in range, and every state that a run
 /// from a reset reaches is in range.
