@@ -1,5 +1,6 @@
 -- Lemmas of the proofs.
 mod EdgeLemmas
+mod JumpLemmas
 mod LinkLemmas
 mod RoundLemmas
 mod TableLemmas

@@ -3,6 +3,7 @@
 
 mod ahead;
 mod fault;
+mod jumps;
 mod links;
 mod walks;
 

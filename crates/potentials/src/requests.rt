@@ -4,10 +4,12 @@ ghost use Rattle.std.specs.Prelude.{◌≡◌, Some};
 ghost use Rattle.cert_cover.specs.Program.{callee_at};
 
 use crate::fault::PotentialFault;
+use crate::meeting::meets_state;
+use abs_state::AbsState;
 use abs_step::{Next, NextKind};
-use cert_cover::{Callee, callee_at};
-use cert_ways::{Subject, Way};
-use certificate::{Certificate, RowId};
+use cert_cover::{Callee, callee_at, split_at};
+use cert_ways::Subject;
+use certificate::RowId;
 use loop_bounds::Effect;
 use std::alloc::Global;
 
@@ -62,7 +64,13 @@ impl Requests {
         next: &Next,
     ) -> Result<(), PotentialFault> {
         match next.kind {
-            NextKind::Jump => self.add_way(subject.certificate, &subject.jump_way(next), 0),
+            NextKind::Jump => self.add_rows(
+                subject,
+                next.address,
+                &next.state,
+                &next.effect,
+                u32::from(next.cost),
+            ),
             NextKind::Exit => {
                 self.leaving = greater(self.leaving, u32::from(next.cost));
                 Ok(())
@@ -74,23 +82,28 @@ impl Requests {
         }
     }
 
-    /// Adds those of a way to an address, with so many T-states besides.
-    fn add_way(
+    /// Adds those of a way to an address, on which the subject arrives in this state. A state is large, so it is lent.
+    fn add_rows(
         &mut self,
-        certificate: &Certificate,
-        way: &Way,
-        besides: u32,
+        subject: &Subject,
+        address: u16,
+        state: &AbsState,
+        effect: &Effect,
+        cost: u32,
     ) -> Result<(), PotentialFault> {
-        let rows = way.rows(certificate);
+        let certificate = subject.certificate;
+        let proc = subject.row.proc;
+        let rows = certificate.rows_at(proc, address);
         // Of several rows none is lone.
-        let lone = rows.end.saturating_sub(rows.start) <= 1 && way.is_lone(certificate);
+        let lone = rows.end.saturating_sub(rows.start) <= 1
+            && split_at(certificate, proc, address).is_none();
         for id in rows.start..rows.end {
             if let Some(row) = certificate.row(id) {
-                if way.asks(lone, &row) {
+                if lone || meets_state(&row, state) {
                     self.of_rows.push(Request {
                         to: id,
-                        cost: way.cost.saturating_add(besides),
-                        effect: way.effect,
+                        cost,
+                        effect: *effect,
                     })?;
                 }
             }
@@ -118,7 +131,8 @@ impl Requests {
                     if exit.kind == NextKind::Exit {
                         comes_back = true;
                         let way = subject.return_way(next, callee, &exit.state);
-                        self.add_way(subject.certificate, &way, time)?;
+                        let cost = way.cost.saturating_add(time);
+                        self.add_rows(subject, way.address, &way.state, &way.effect, cost)?;
                     }
                 }
             }

@@ -1,0 +1,15 @@
+use Rattle.std.proofs.Common.{None, Some, sym, ◌∙◌, arith}
+use Rattle.std.proofs.lemmas.Bool.{false≢true}
+use Rattle.abs_step.specs.declared.next.NextKind.TheVariants.{Jump}
+use Rattle.cert_ways.proofs.WalkLemmas.{by_kind}
+use Rattle.path_time.proofs.jumps.cost_by.Goals as goal
+
+pub returns-then-jump_lands : goal.returns-then-jump_lands
+returns-then-jump_lands c =
+    λ no. by_kind c.args.subject.now c.args.next.now c.args.target.now Jump (Some c.from.result) c.in-Jump.is
+    ((c.jump_lands.ensures.0 c.if-jump_lands.true, c.from.ensures), (λ n lies. let same = lies.1 in omega (arith, same, c.from.ensures)))
+
+pub returns-else-jump_lands : goal.returns-else-jump_lands
+returns-else-jump_lands c =
+    λ no. by_kind c.args.subject.now c.args.next.now c.args.target.now Jump None c.in-Jump.is
+    (λ n lies. false≢true (sym c.if-jump_lands.false ∙ c.jump_lands.ensures.1 lies.0))

@@ -1,0 +1,19 @@
+use Rattle.std.proofs.Common.{◌+◌, Option, ℕ, subst, sym, take}
+use Rattle.cert_ways.specs.Parts.{LiesBy, IsAmong}
+use Rattle.cert_ways.specs.Pays.{IsGreatest}
+use Rattle.cert_ways.proofs.WalkLemmas.{greatest_all, greatest_more}
+use Rattle.path_time.specs.Jumps.{IsNoCall}
+use Rattle.path_time.proofs.jumps.greatest_cost.Goals as goal
+
+pub loop-next-preserved : goal.loop-next-preserved
+loop-next-preserved c =
+    let nexts = c.args.nexts.now in
+    let k = c.loop-next.next-index in
+    let item = c.next-item.result in
+    let tells = LiesBy c.args.subject.now c.args.target.now in
+    let no : IsNoCall item = subst IsNoCall (sym c.next-item.is) (c.requires.jumps k item c.loop-next-test.true) in
+    subst (λ (o : Option ℕ). IsGreatest (IsAmong (take (k + 1) nexts) tells) o) (sym c.greater-greatest.ensures)
+    (greatest_more tells nexts k item c.loop-next.greatest c.cost_by.result c.next-item.is c.loop-next-test.true c.loop-next.invariant (c.cost_by.ensures no))
+
+pub returns : goal.returns
+returns c = greatest_all (LiesBy c.args.subject.now c.args.target.now) c.args.nexts.now c.loop-next.next-index c.loop-next.greatest c.loop-next-test.false c.loop-next.invariant
