@@ -1,9 +1,68 @@
-// Texts that are no certificate's, and the line that is told.
+// Texts that are no certificate's, read whole and in pieces, and the line that is told.
 
-use crate::samples::{EVERY_FORM, JUMP};
-use certificate::{CertFault, read};
+use crate::samples::{EVERY_FORM as FORMS, JUMP, WHOLE};
+use certificate::{CertFault, ReadFault, read, read_from};
+use memory_devices::Bytes;
 use std::alloc::{AllocError, Global};
 use std::test::Fail;
+
+/// A text, the number of a line of it, what stands in place of that line, and the line that is told.
+const REPLACED: &[(&str, usize, &str, u64)] = &[
+    (JUMP, 1, "galcert 3", 1),
+    (JUMP, 1, "galcert 1 ", 1),
+    (JUMP, 2, "rom 06", 2),
+    (JUMP, 2, "rom 65536", 2),
+    (JUMP, 2, "rom +6", 2),
+    (JUMP, 2, "rom ", 2),
+    (JUMP, 2, "rom 6\r", 2),
+    (JUMP, 3, "stack 438a 4400", 3),
+    (JUMP, 3, "stack 4380  4400", 3),
+    (JUMP, 3, " stack 4380 4400", 3),
+    (JUMP, 3, "stack 380 4400", 3),
+    (JUMP, 3, "map galaxian", 3),
+    (JUMP, 5, "proc main 0001 0 0 -", 5),
+    (JUMP, 5, "proc main 0000 0 0 5", 5),
+    (JUMP, 5, "proc sub 0000 0 0 -", 5),
+    (JUMP, 4, "budget 5", 6),
+    (JUMP, 6, "row 0 0000 x * * * * * * * * * * - - - -", 6),
+    (JUMP, 6, "row 0 0000 u * * * * * * * * * - - - -", 6),
+    (JUMP, 6, "row 0 0000 u * * * * * * * * * * * - - - -", 6),
+    (JUMP, 6, "row 1 0000 u * * * * * * * * * * - - - -", 6),
+    (JUMP, 6, "row 0 0000 u 0 * * * * * * * * * * - - - -", 6),
+    (
+        JUMP,
+        6,
+        "row 0 0000 u 0000-FFFF:00-FF:00-FF * * * * * * * * * - - - -",
+        6,
+    ),
+    (JUMP, 6, "row 0 0000 s * * * * * * * * * * - - - 20+0*A", 6),
+    (JUMP, 6, "row 0 0000 s * * * * * * * * * * - - - -0", 6),
+    (JUMP, 6, "row 0 0000 s * * * * * * * * * * - - - 1+1*s0", 6),
+    (
+        JUMP,
+        7,
+        "row 0 0003 s * * * * * * * * * * - - - -\nrow 0 0002 s * * * * * * * * * * - - - -",
+        8,
+    ),
+    (JUMP, 8, "end ", 8),
+    (JUMP, 8, "", 8),
+    (FORMS, 3, "map Raised", 3),
+    (FORMS, 3, "stack 8380 83FE", 3),
+    (FORMS, 5, "budget -", 7),
+    (FORMS, 7, "proc nmi 0066 1 24 -", 7),
+    (FORMS, 7, "proc nmi 0067 1 24 6500", 7),
+    (FORMS, 9, "proc sub 0020 0 2 7", 9),
+    (FORMS, 10, "split 0 0003 F", 10),
+    (FORMS, 10, "split 4 0003 B", 10),
+    (FORMS, 11, "split 0 0003 C", 11),
+    (FORMS, 14, "inline 0007", 14),
+    (FORMS, 15, "cell 7FFF 12 34", 15),
+    (FORMS, 15, "cell 8000 35 34", 15),
+    (FORMS, 16, "cell 8400 00 09", 16),
+    (FORMS, 16, "cell 8000 00 09", 16),
+    (FORMS, 17, "row 0 0000 u 3 * * * * * * * * * * - - - -", 17),
+    (FORMS, 20, "row 1 0066 n 1 * * * * * * * * * * - - - -", 20),
+];
 
 /// A text with one of its lines, counted from 1, replaced.
 fn with_line(alloc: Global, text: &str, number: usize, line: &str) -> Result<String, AllocError> {
@@ -15,87 +74,27 @@ fn with_line(alloc: Global, text: &str, number: usize, line: &str) -> Result<Str
     Ok(changed)
 }
 
-/// The line that is told of a text with one of its lines replaced.
-fn told_of(
-    alloc: Global,
-    text: &str,
-    number: usize,
-    line: &str,
-) -> Result<Option<CertFault>, AllocError> {
-    let changed = with_line(alloc, text, number, line)?;
-    Ok(read(alloc, changed.as_bytes()).err())
-}
-
-#[test]
-fn of_version_1(rt: HostRuntime) -> Result<(), Fail> {
-    let lines: &[(u64, usize, &str)] = &[
-        (1, 1, "galcert 3"),
-        (1, 1, "galcert 1 "),
-        (2, 2, "rom 06"),
-        (2, 2, "rom 65536"),
-        (2, 2, "rom +6"),
-        (2, 2, "rom "),
-        (2, 2, "rom 6\r"),
-        (3, 3, "stack 438a 4400"),
-        (3, 3, "stack 4380  4400"),
-        (3, 3, " stack 4380 4400"),
-        (3, 3, "stack 380 4400"),
-        (3, 3, "map galaxian"),
-        (5, 5, "proc main 0001 0 0 -"),
-        (5, 5, "proc main 0000 0 0 5"),
-        (5, 5, "proc sub 0000 0 0 -"),
-        (6, 4, "budget 5"),
-        (6, 6, "row 0 0000 x * * * * * * * * * * - - - -"),
-        (6, 6, "row 0 0000 u * * * * * * * * * - - - -"),
-        (6, 6, "row 0 0000 u * * * * * * * * * * * - - - -"),
-        (6, 6, "row 1 0000 u * * * * * * * * * * - - - -"),
-        (6, 6, "row 0 0000 u 0 * * * * * * * * * * - - - -"),
-        (
-            6,
-            6,
-            "row 0 0000 u 0000-FFFF:00-FF:00-FF * * * * * * * * * - - - -",
-        ),
-        (6, 6, "row 0 0000 s * * * * * * * * * * - - - 20+0*A"),
-        (6, 6, "row 0 0000 s * * * * * * * * * * - - - -0"),
-        (6, 6, "row 0 0000 s * * * * * * * * * * - - - 1+1*s0"),
-        (
-            8,
-            7,
-            "row 0 0003 s * * * * * * * * * * - - - -\nrow 0 0002 s * * * * * * * * * * - - - -",
-        ),
-        (8, 8, "end "),
-        (8, 8, ""),
-    ];
-    for &(told, number, line) in lines {
-        let fault = told_of(rt.alloc(), JUMP, number, line)?;
-        assert!(rt; fault == Some(CertFault::Line(told)), "at {line}");
+/// The line that is told of a text that is read in pieces of so many bytes, or whole.
+fn told_of(alloc: Global, text: &[u8], piece: usize) -> Option<u64> {
+    if piece == WHOLE {
+        match read(alloc, text) {
+            Err(CertFault::Line(line)) => Some(line),
+            _ => None,
+        }
+    } else {
+        match read_from(alloc, &mut Bytes::failing(text, piece, u64::MAX)) {
+            Err(ReadFault::Line(line)) => Some(line),
+            _ => None,
+        }
     }
-    Ok(())
 }
 
 #[test]
-fn of_version_2(rt: HostRuntime) -> Result<(), Fail> {
-    let lines: &[(u64, usize, &str)] = &[
-        (3, 3, "map Raised"),
-        (3, 3, "stack 8380 83FE"),
-        (7, 5, "budget -"),
-        (7, 7, "proc nmi 0066 1 24 -"),
-        (7, 7, "proc nmi 0067 1 24 6500"),
-        (9, 9, "proc sub 0020 0 2 7"),
-        (10, 10, "split 0 0003 F"),
-        (10, 10, "split 4 0003 B"),
-        (11, 11, "split 0 0003 C"),
-        (14, 14, "inline 0007"),
-        (15, 15, "cell 7FFF 12 34"),
-        (15, 15, "cell 8000 35 34"),
-        (16, 16, "cell 8400 00 09"),
-        (16, 16, "cell 8000 00 09"),
-        (17, 17, "row 0 0000 u 3 * * * * * * * * * * - - - -"),
-        (20, 20, "row 1 0066 n 1 * * * * * * * * * * - - - -"),
-    ];
-    for &(told, number, line) in lines {
-        let fault = told_of(rt.alloc(), EVERY_FORM, number, line)?;
-        assert!(rt; fault == Some(CertFault::Line(told)), "at {line}");
+fn with_a_line_replaced(rt: HostRuntime) -> Result<(), Fail> {
+    for &(text, number, line, told) in REPLACED {
+        let changed = with_line(rt.alloc(), text, number, line)?;
+        let found = told_of(rt.alloc(), changed.as_bytes(), WHOLE);
+        assert!(rt; found == Some(told), "at {line} of {text}");
     }
     Ok(())
 }
@@ -105,8 +104,10 @@ fn proper_beginnings(rt: HostRuntime) {
     let bytes = JUMP.as_bytes();
     let mut line = 1;
     for (len, byte) in bytes.iter().enumerate() {
-        let fault = read(rt.alloc(), &bytes[..len]).err();
-        assert!(rt; fault == Some(CertFault::Line(line)), "of {len} bytes");
+        let whole = told_of(rt.alloc(), &bytes[..len], WHOLE);
+        assert!(rt; whole == Some(line), "of {len} bytes");
+        let in_pieces = told_of(rt.alloc(), &bytes[..len], 3);
+        assert!(rt; in_pieces == Some(line), "of {len} bytes in pieces");
         if *byte == b'\n' {
             line = line.wrapping_add(1);
         }
@@ -114,18 +115,22 @@ fn proper_beginnings(rt: HostRuntime) {
     assert!(rt; 9 == line);
 }
 
+/// What stands behind the end of a certificate of eight lines, in pieces of how many bytes it is read, and the line that is told.
+const BEHIND: &[(&str, usize, u64)] = &[
+    ("x", WHOLE, 9),
+    ("\n", WHOLE, 9),
+    ("end\n", WHOLE, 9),
+    ("row 0 0003 s * * * * * * * * * * - - - -\n", WHOLE, 9),
+    (" ", 7, 9),
+    ("\n", 7, 9),
+];
+
 #[test]
 fn behind_the_end(rt: HostRuntime) -> Result<(), Fail> {
-    for more in [
-        "x",
-        "\n",
-        "end\n",
-        "row 0 0003 s * * * * * * * * * * - - - -\n",
-    ] {
-        let mut text = String::from_str(rt.alloc(), JUMP)?;
-        text.push_str(more)?;
-        let fault = read(rt.alloc(), text.as_bytes()).err();
-        assert!(rt; fault == Some(CertFault::Line(9)), "behind it {more}");
+    for &(more, piece, told) in BEHIND {
+        let text = format!(in rt.alloc(); "{JUMP}{more}")?;
+        let found = told_of(rt.alloc(), text.as_bytes(), piece);
+        assert!(rt; found == Some(told), "{more} behind it, in {piece}");
     }
     Ok(())
 }

@@ -1,66 +1,81 @@
-// Texts that are read, and written again.
+// Texts that are read, whole and in pieces, and written again.
 
-use crate::samples::{EVERY_FORM, JUMP, JUMP_OF_TWO, ROUTINE};
-use certificate::{Certificate, DeviceFault, migrate, read, write};
-use memory_devices::Taken;
+use crate::samples::{EVERY_FORM, JUMP, JUMP_OF_TWO, ROUTINE, WHOLE};
+use certificate::{Certificate, DeviceFault, migrate, read, read_from, write};
+use memory_devices::{Bytes, Taken};
 use std::alloc::Global;
 
-/// Whether a certificate is written as this text, by a sink that takes so many bytes at once.
-fn is_written_as(alloc: Global, certificate: &Certificate, text: &str, piece: usize) -> bool {
+/// A text, in pieces of how many bytes it is read, whether it is then migrated, how many bytes at once the sink takes, and the text that is written.
+const WRITTEN: &[(&str, usize, bool, usize, &str)] = &[
+    (JUMP, WHOLE, false, 4096, JUMP),
+    (JUMP, WHOLE, false, 1, JUMP),
+    (ROUTINE, WHOLE, false, 4096, ROUTINE),
+    (ROUTINE, WHOLE, false, 1, ROUTINE),
+    (JUMP_OF_TWO, WHOLE, false, 4096, JUMP_OF_TWO),
+    (JUMP_OF_TWO, WHOLE, false, 1, JUMP_OF_TWO),
+    (EVERY_FORM, WHOLE, false, 4096, EVERY_FORM),
+    (EVERY_FORM, WHOLE, false, 1, EVERY_FORM),
+    (JUMP, WHOLE, true, 4096, JUMP_OF_TWO),
+    (JUMP_OF_TWO, WHOLE, true, 4096, JUMP_OF_TWO),
+    (EVERY_FORM, WHOLE, true, 4096, EVERY_FORM),
+    (ROUTINE, 1, false, 4096, ROUTINE),
+    (ROUTINE, 2, false, 4096, ROUTINE),
+    (ROUTINE, 3, false, 4096, ROUTINE),
+    (ROUTINE, 4096, false, 4096, ROUTINE),
+    (EVERY_FORM, 1, false, 4096, EVERY_FORM),
+    (EVERY_FORM, 2, false, 4096, EVERY_FORM),
+    (EVERY_FORM, 3, false, 4096, EVERY_FORM),
+    (EVERY_FORM, 4096, false, 4096, EVERY_FORM),
+];
+
+/// A text's certificate, read whole or in pieces of so many bytes.
+fn read_in(alloc: Global, text: &[u8], piece: usize) -> Option<Certificate> {
+    if piece == WHOLE {
+        read(alloc, text).ok()
+    } else {
+        read_from(alloc, &mut Bytes::failing(text, piece, u64::MAX)).ok()
+    }
+}
+
+/// Whether a certificate is written as this text by a sink that takes so many bytes at once.
+fn is_written_as(alloc: Global, certificate: &Certificate, piece: usize, text: &str) -> bool {
     let mut out = Taken::failing(alloc, piece, u64::MAX);
     write(certificate, &mut out).is_ok() && out.bytes.as_slice() == text.as_bytes()
 }
 
-/// Whether a text is read, and what was read is written as the same text.
-fn goes_both_ways(alloc: Global, text: &str) -> bool {
-    match read(alloc, text.as_bytes()) {
-        Ok(certificate) => {
-            is_written_as(alloc, &certificate, text, 4096)
-                && is_written_as(alloc, &certificate, text, 1)
-        }
-        Err(_) => false,
+#[test]
+fn written(rt: HostRuntime) {
+    for &(text, read_piece, migrated, piece, other) in WRITTEN {
+        let is_written = match read_in(rt.alloc(), text.as_bytes(), read_piece) {
+            Some(own) => {
+                let own = if migrated { migrate(own) } else { own };
+                is_written_as(rt.alloc(), &own, piece, other)
+            }
+            None => false,
+        };
+        assert!(rt; is_written, "in {read_piece} and {piece}, to {other}");
     }
 }
 
-#[test]
-fn of_version_1(rt: HostRuntime) {
-    assert!(rt; goes_both_ways(rt.alloc(), JUMP));
-    assert!(rt; goes_both_ways(rt.alloc(), ROUTINE));
-}
+/// How many bytes a sink takes before it fails, of the text that is written.
+const TAKEN: &[(&str, u64, usize)] = &[(JUMP, 0, 0), (JUMP, 13, 13), (JUMP, 147, 147)];
 
-#[test]
-fn of_version_2(rt: HostRuntime) {
-    assert!(rt; goes_both_ways(rt.alloc(), JUMP_OF_TWO));
-    assert!(rt; goes_both_ways(rt.alloc(), EVERY_FORM));
-}
-
-/// Whether a text, migrated, is written as the other.
-fn migrates_to(alloc: Global, text: &str, other: &str) -> bool {
-    match read(alloc, text.as_bytes()) {
-        Ok(certificate) => is_written_as(alloc, &migrate(certificate), other, 4096),
-        Err(_) => false,
-    }
-}
-
-#[test]
-fn migrated(rt: HostRuntime) {
-    assert!(rt; migrates_to(rt.alloc(), JUMP, JUMP_OF_TWO));
-    assert!(rt; migrates_to(rt.alloc(), JUMP_OF_TWO, JUMP_OF_TWO));
-    assert!(rt; migrates_to(rt.alloc(), EVERY_FORM, EVERY_FORM));
-}
-
-/// What a sink has taken that fails behind so many bytes of a text.
-fn written_before(alloc: Global, text: &str, bytes: u64) -> Option<(usize, bool)> {
+/// How many bytes a sink has taken that fails behind so many, where they are the beginning of the text.
+fn taken_before(alloc: Global, text: &str, bytes: u64) -> Option<usize> {
     let certificate = read(alloc, text.as_bytes()).ok()?;
     let mut out = Taken::failing(alloc, 1, bytes);
     let failed = write(&certificate, &mut out) == Err(DeviceFault);
-    let begins = text.as_bytes().starts_with(out.bytes.as_slice());
-    Some((out.bytes.len(), failed && begins))
+    if failed && text.as_bytes().starts_with(out.bytes.as_slice()) {
+        Some(out.bytes.len())
+    } else {
+        None
+    }
 }
 
 #[test]
 fn a_sink_that_fails(rt: HostRuntime) {
-    assert!(rt; written_before(rt.alloc(), JUMP, 0) == Some((0, true)));
-    assert!(rt; written_before(rt.alloc(), JUMP, 13) == Some((13, true)));
-    assert!(rt; written_before(rt.alloc(), JUMP, 147) == Some((147, true)));
+    for &(text, bytes, taken) in TAKEN {
+        let found = taken_before(rt.alloc(), text, bytes);
+        assert!(rt; found == Some(taken), "behind {bytes} bytes");
+    }
 }

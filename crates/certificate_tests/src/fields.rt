@@ -1,14 +1,43 @@
 // Every field of every line, by its reader.
 
 use crate::samples::{EVERY_FORM, ROUTINE};
+use Word::{Of, Slot};
 use abs_state::{FlagFact, Mode};
-use certificate::{BoardMap, CertFault, Certificate, ProcKind, Version, read};
-use intervals::{Pair, RegPair};
-use loop_bounds::{Linear, Part, SlotNumber, Variable};
+use certificate::BoardMap::{self, Galaxian, Raised};
+use certificate::ProcKind::{self, Main, Nmi, Sub};
+use certificate::{CertFault, Certificate, Split, Version, read};
+use intervals::Pair;
+use intervals::RegPair::{self, Af, AlternateBc, AlternateDe, AlternateHl, Bc, De, Hl, Ix};
+use loop_bounds::{Linear, Part, Term, Variable};
+use std::alloc::Global;
+use std::ops::Range;
+use std::test::Fail;
 use z80_decode::Register8;
 
-/// The length of the ROM, the stack's region, the budget, and how many rows there are.
-fn numbers_of(certificate: &Certificate) -> (u16, u16, u16, Option<u16>, u32) {
+/// The certificate of every form.
+fn every_form(alloc: Global) -> Result<Certificate, CertFault> {
+    read(alloc, EVERY_FORM.as_bytes())
+}
+
+/// A text, its version, its board, and its numbers: the length of the ROM, the stack's region, the budget, and how many rows there are.
+const WHOLE: &[(&str, Version, BoardMap, Numbers)] = &[
+    (
+        ROUTINE,
+        Version::One,
+        Galaxian,
+        (109, 0x4380, 0x4400, Some(50_665), 9),
+    ),
+    (
+        EVERY_FORM,
+        Version::Two,
+        Raised,
+        (300, 0x8380, 0x83FE, Some(7_000), 5),
+    ),
+];
+
+type Numbers = (u16, u16, u16, Option<u16>, u32);
+
+fn numbers_of(certificate: &Certificate) -> Numbers {
     let region = certificate.region();
     (
         certificate.rom_len(),
@@ -20,28 +49,28 @@ fn numbers_of(certificate: &Certificate) -> (u16, u16, u16, Option<u16>, u32) {
 }
 
 #[test]
-fn of_the_whole(rt: HostRuntime) -> Result<(), CertFault> {
-    let one = read(rt.alloc(), ROUTINE.as_bytes())?;
-    let two = read(rt.alloc(), EVERY_FORM.as_bytes())?;
-    assert!(rt;
-        matches!(
-            (one.version(), one.board()),
-            (Version::One, BoardMap::Galaxian)
-        )
-    );
-    assert!(rt;
-        matches!(
-            (two.version(), two.board()),
-            (Version::Two, BoardMap::Raised)
-        )
-    );
-    assert!(rt; numbers_of(&one) == (109, 0x4380, 0x4400, Some(50_665), 9));
-    assert!(rt; numbers_of(&two) == (300, 0x8380, 0x83FE, Some(7_000), 5));
+fn of_the_whole(rt: HostRuntime) -> Result<(), Fail> {
+    for &(text, version, board, numbers) in WHOLE {
+        let c = read(rt.alloc(), text.as_bytes())?;
+        assert!(rt; c.version() == version, "version of {text}");
+        assert!(rt; c.board() == board, "board of {text}");
+        assert!(rt; numbers_of(&c) == numbers, "numbers of {text}");
+    }
     Ok(())
 }
 
-/// The entry, the rank, the depth and the time of a procedure.
-fn proc_numbers(certificate: &Certificate, id: u16) -> Option<(u16, u16, u16, Option<u32>)> {
+/// A procedure, its kind, and its entry, rank, depth and time.
+const PROCS: &[(u16, Option<ProcKind>, Option<ProcNumbers>)] = &[
+    (0, Some(Main), Some((0, 3, 16, None))),
+    (1, Some(Nmi), Some((0x66, 1, 24, Some(6_500)))),
+    (2, Some(Sub), Some((0x20, 2, 10, None))),
+    (3, Some(Sub), Some((0x100, 0, 2, Some(1_000_000_000)))),
+    (4, None, None),
+];
+
+type ProcNumbers = (u16, u16, u16, Option<u32>);
+
+fn proc_numbers(certificate: &Certificate, id: u16) -> Option<ProcNumbers> {
     Some((
         certificate.entry(id)?,
         certificate.rank(id)?,
@@ -51,37 +80,74 @@ fn proc_numbers(certificate: &Certificate, id: u16) -> Option<(u16, u16, u16, Op
 }
 
 #[test]
-fn of_procedures(rt: HostRuntime) -> Result<(), CertFault> {
-    let c = read(rt.alloc(), EVERY_FORM.as_bytes())?;
-    assert!(rt; proc_numbers(&c, 0) == Some((0, 3, 16, None)));
-    assert!(rt; proc_numbers(&c, 1) == Some((0x66, 1, 24, Some(6_500))));
-    assert!(rt; proc_numbers(&c, 2) == Some((0x20, 2, 10, None)));
-    assert!(rt; proc_numbers(&c, 3) == Some((0x100, 0, 2, Some(1_000_000_000))));
-    assert!(rt; proc_numbers(&c, 4) == None);
-    assert!(rt; c.kind(0) == Some(ProcKind::Main) && c.kind(1) == Some(ProcKind::Nmi));
-    assert!(rt; c.kind(3) == Some(ProcKind::Sub) && c.kind(4) == None);
+fn of_procedures(rt: HostRuntime) -> Result<(), Fail> {
+    let c = every_form(rt.alloc())?;
+    for &(id, kind, numbers) in PROCS {
+        assert!(rt; c.kind(id) == kind, "kind of {id}");
+        assert!(rt; proc_numbers(&c, id) == numbers, "procedure {id}");
+    }
     Ok(())
+}
+
+/// A place, and there the split, its procedure, address and register; the inline call; and the cell, its address, least and greatest byte.
+const LISTS: &[(
+    usize,
+    Option<(u16, u16, Register8)>,
+    Option<u16>,
+    Option<(u16, u8, u8)>,
+)] = &[
+    (
+        0,
+        Some((0, 0x03, Register8::B)),
+        Some(0x07),
+        Some((0x8000, 0x12, 0x34)),
+    ),
+    (
+        1,
+        Some((0, 0x10, Register8::L)),
+        Some(0xFE),
+        Some((0x83FF, 0x00, 0x09)),
+    ),
+    (2, Some((3, 0x03, Register8::A)), None, None),
+    (3, None, None, None),
+];
+
+fn is_split(found: Option<&Split>, wanted: Option<(u16, u16, Register8)>) -> bool {
+    match (found, wanted) {
+        (Some(split), Some((proc, address, register))) => {
+            split.proc == proc && split.address == address && split.register == register
+        }
+        (None, None) => true,
+        _ => false,
+    }
+}
+
+fn cell_at(certificate: &Certificate, place: usize) -> Option<(u16, u8, u8)> {
+    let cell = certificate.cells().get(place)?;
+    Some((cell.at, cell.range.low(), cell.range.high()))
 }
 
 #[test]
-fn of_lists(rt: HostRuntime) -> Result<(), CertFault> {
-    let c = read(rt.alloc(), EVERY_FORM.as_bytes())?;
-    assert!(rt; c.inlines() == [0x07, 0xFE].as_slice());
-    let (Some(first), Some(last)) = (c.splits().first(), c.splits().last()) else {
-        return Err(CertFault::Limit);
-    };
-    assert!(rt; (first.proc, first.address, first.register == Register8::B) == (0, 0x03, true));
-    assert!(rt; (last.proc, last.address, last.register == Register8::A) == (3, 0x03, true));
-    let (Some(low), Some(high)) = (c.cells().first(), c.cells().last()) else {
-        return Err(CertFault::Limit);
-    };
-    assert!(rt; (low.at, low.range.low(), low.range.high()) == (0x8000, 0x12, 0x34));
-    assert!(rt; (high.at, high.range.low(), high.range.high()) == (0x83FF, 0, 9));
-    assert!(rt; c.splits().len() == 3 && c.cells().len() == 2);
+fn of_lists(rt: HostRuntime) -> Result<(), Fail> {
+    let c = every_form(rt.alloc())?;
+    for &(place, split, inline, cell) in LISTS {
+        assert!(rt; is_split(c.splits().get(place), split), "split {place}");
+        let call = c.inlines().get(place).copied();
+        assert!(rt; call == inline, "inline call {place}");
+        assert!(rt; cell_at(&c, place) == cell, "cell {place}");
+    }
     Ok(())
 }
 
-/// The procedure, the address and the armed cells of a row.
+/// A row, its procedure, address and armed cells, its mode, and how many slots and facts it has, and whether a potential.
+const ROWS: &[(u32, (u16, u16, u16), Mode, (usize, usize, bool))] = &[
+    (0, (0, 0x0, 0), Mode::Unset, (0, 0, false)),
+    (1, (0, 0x3, 1), Mode::Set, (2, 0, false)),
+    (2, (0, 0x3, 2), Mode::Set, (2, 3, false)),
+    (3, (1, 0x66, 2), Mode::Nmi, (0, 0, true)),
+    (4, (3, 0x100, 2), Mode::Nmi, (1, 1, true)),
+];
+
 fn place_of(certificate: &Certificate, id: u32) -> Option<(u16, u16, u16)> {
     Some((
         certificate.proc_of(id)?,
@@ -90,22 +156,97 @@ fn place_of(certificate: &Certificate, id: u32) -> Option<(u16, u16, u16)> {
     ))
 }
 
+fn counts_of(certificate: &Certificate, id: u32) -> Option<(usize, usize, bool)> {
+    Some((
+        certificate.shape(id)?.len(),
+        certificate.facts(id)?.as_slice().len(),
+        certificate.potential(id)?.is_some(),
+    ))
+}
+
+/// Whether nothing is told of a row.
+fn is_no_row(certificate: &Certificate, id: u32) -> bool {
+    place_of(certificate, id).is_none()
+        && certificate.mode(id).is_none()
+        && certificate.flag(id).is_none()
+        && certificate.pairs(id).is_none()
+        && certificate.shape(id).is_none()
+        && certificate.facts(id).is_none()
+        && certificate.potential(id).is_none()
+}
+
 #[test]
-fn of_rows(rt: HostRuntime) -> Result<(), CertFault> {
-    let c = read(rt.alloc(), EVERY_FORM.as_bytes())?;
-    assert!(rt; place_of(&c, 0) == Some((0, 0, 0)) && place_of(&c, 1) == Some((0, 3, 1)));
-    assert!(rt; place_of(&c, 2) == Some((0, 3, 2)) && place_of(&c, 3) == Some((1, 0x66, 2)));
-    assert!(rt; place_of(&c, 4) == Some((3, 0x100, 2)) && place_of(&c, 5) == None);
-    assert!(rt; c.mode(0) == Some(Mode::Unset) && c.mode(2) == Some(Mode::Set));
-    assert!(rt; c.mode(3) == Some(Mode::Nmi) && c.mode(5) == None);
-    assert!(rt; matches!(c.flag(1), Some(Some(FlagFact::Zero(Register8::B)))));
-    assert!(rt; matches!(c.flag(2), Some(Some(FlagFact::Compared(0x5A)))));
-    assert!(rt; matches!(c.flag(4), Some(Some(FlagFact::Zero(Register8::L)))));
-    assert!(rt; matches!(c.flag(0), Some(None)) && c.flag(5).is_none());
+fn of_rows(rt: HostRuntime) -> Result<(), Fail> {
+    let c = every_form(rt.alloc())?;
+    for &(id, place, mode, counts) in ROWS {
+        assert!(rt; place_of(&c, id) == Some(place), "place of row {id}");
+        assert!(rt; c.mode(id) == Some(mode), "mode of row {id}");
+        assert!(rt; counts_of(&c, id) == Some(counts), "counts of {id}");
+    }
+    assert!(rt; is_no_row(&c, 5), "row 5");
     Ok(())
 }
 
-/// The bounds of the word, the high and the low byte of a pair.
+/// A row, and what its flags tell.
+const FLAGS: &[(u32, Option<FlagFact>)] = &[
+    (0, None),
+    (1, Some(FlagFact::Zero(Register8::B))),
+    (2, Some(FlagFact::Compared(0x5A))),
+    (4, Some(FlagFact::Zero(Register8::L))),
+];
+
+fn is_flag(found: Option<FlagFact>, wanted: Option<FlagFact>) -> bool {
+    match (found, wanted) {
+        (Some(FlagFact::Zero(register)), Some(FlagFact::Zero(of))) => register == of,
+        (Some(FlagFact::Compared(byte)), Some(FlagFact::Compared(with))) => byte == with,
+        (None, None) => true,
+        _ => false,
+    }
+}
+
+#[test]
+fn of_flags(rt: HostRuntime) -> Result<(), Fail> {
+    let c = every_form(rt.alloc())?;
+    for &(id, flag) in FLAGS {
+        let is_told = c.flag(id).is_some_and(|found| is_flag(found, flag));
+        assert!(rt; is_told, "the flag of row {id}");
+    }
+    Ok(())
+}
+
+/// A word: a pair of registers, or the slot of a number.
+#[derive(Clone, Copy)]
+enum Word {
+    Of(RegPair),
+    Slot(usize),
+}
+
+/// The bounds of any word, of its high and of its low byte.
+const ANY: [u16; 6] = [0, 0xFFFF, 0, 0xFF, 0, 0xFF];
+
+/// A row, a word, its bounds and those of its high and of its low byte, and its origin.
+const WORDS: &[(u32, Word, [u16; 6], Option<RegPair>)] = &[
+    (1, Of(Af), [0x12, 0xFFED, 0x01, 0xFE, 0x13, 0xEC], Some(Hl)),
+    (1, Of(Bc), ANY, Some(Af)),
+    (1, Of(De), [1, 2, 3, 4, 5, 6], None),
+    (1, Of(AlternateHl), ANY, Some(AlternateBc)),
+    (
+        1,
+        Slot(0),
+        [0x1234, 0x5678, 0x12, 0x56, 0x34, 0x78],
+        Some(Ix),
+    ),
+    (1, Slot(1), ANY, None),
+    (2, Slot(1), ANY, Some(AlternateDe)),
+];
+
+fn pair_at(certificate: &Certificate, id: u32, word: Word) -> Option<Pair> {
+    match word {
+        Of(pair) => Some(certificate.pairs(id)?.pair(pair)),
+        Slot(number) => Some(certificate.shape(id)?.slots().get(number)?.pair),
+    }
+}
+
 fn bounds_of(pair: &Pair) -> [u16; 6] {
     [
         pair.word.low(),
@@ -117,114 +258,132 @@ fn bounds_of(pair: &Pair) -> [u16; 6] {
     ]
 }
 
-#[test]
-fn of_pairs(rt: HostRuntime) -> Result<(), CertFault> {
-    let c = read(rt.alloc(), EVERY_FORM.as_bytes())?;
-    let Some(pairs) = c.pairs(1) else {
-        return Err(CertFault::Limit);
-    };
-    assert!(rt; bounds_of(&pairs.af) == [0x12, 0xFFED, 0x01, 0xFE, 0x13, 0xEC]);
-    assert!(rt; pairs.af.origin == Some(RegPair::Hl) && pairs.bc.origin == Some(RegPair::Af));
-    assert!(rt; pairs.bc.is_full() && pairs.de.origin.is_none());
-    assert!(rt; bounds_of(&pairs.de) == [1, 2, 3, 4, 5, 6]);
-    assert!(rt; pairs.alternate_hl.origin == Some(RegPair::AlternateBc));
-    assert!(rt; c.pairs(5).is_none());
-    Ok(())
-}
-
-/// What is known of a slot of a row.
-fn slot_of(certificate: &Certificate, id: u32, number: usize) -> Option<Pair> {
-    Some(certificate.shape(id)?.slots().get(number)?.pair)
-}
-
-/// How many slots a row has.
-fn slot_count(certificate: &Certificate, id: u32) -> Option<usize> {
-    Some(certificate.shape(id)?.len())
-}
-
-#[test]
-fn of_shapes(rt: HostRuntime) -> Result<(), CertFault> {
-    let c = read(rt.alloc(), EVERY_FORM.as_bytes())?;
-    assert!(rt; slot_count(&c, 0) == Some(0) && slot_count(&c, 1) == Some(2));
-    assert!(rt; slot_count(&c, 4) == Some(1) && slot_count(&c, 5).is_none());
-    let (Some(first), Some(second)) = (slot_of(&c, 1, 0), slot_of(&c, 1, 1)) else {
-        return Err(CertFault::Limit);
-    };
-    assert!(rt; bounds_of(&first) == [0x1234, 0x5678, 0x12, 0x56, 0x34, 0x78]);
-    assert!(rt; first.origin == Some(RegPair::Ix) && second.is_full() && second.origin.is_none());
-    let Some(other) = slot_of(&c, 2, 1) else {
-        return Err(CertFault::Limit);
-    };
-    assert!(rt; other.origin == Some(RegPair::AlternateDe));
-    Ok(())
-}
-
-/// The coefficient and the variable of a term of a linear.
-fn term_of(linear: &Linear, place: usize) -> Option<(i32, Variable)> {
-    let term = linear.terms().get(place)?;
-    Some((term.coefficient, term.variable))
-}
-
-/// Whether a linear has a term at a place with this coefficient and this variable.
-fn has_term(linear: &Linear, place: usize, coefficient: i32, variable: Variable) -> bool {
-    term_of(linear, place) == Some((coefficient, variable))
-}
-
-/// Whether a linear has a term at a place with this coefficient and this part of this slot.
-fn has_slot(linear: &Linear, place: usize, coefficient: i32, number: u8, part: Part) -> bool {
-    match SlotNumber::new(number) {
-        Some(slot) => has_term(linear, place, coefficient, Variable::Slot(slot, part)),
+fn is_known(found: Option<Pair>, bounds: [u16; 6], origin: Option<RegPair>) -> bool {
+    match found {
+        Some(pair) => {
+            bounds_of(&pair) == bounds && pair.is_full() == (bounds == ANY) && pair.origin == origin
+        }
         None => false,
     }
 }
 
-/// A fact of a row.
-fn fact_of(certificate: &Certificate, id: u32, place: usize) -> Option<Linear> {
-    certificate.facts(id)?.as_slice().get(place).copied()
-}
-
 #[test]
-fn of_facts(rt: HostRuntime) -> Result<(), CertFault> {
-    let c = read(rt.alloc(), EVERY_FORM.as_bytes())?;
-    let (Some(first), Some(second)) = (fact_of(&c, 2, 0), fact_of(&c, 2, 1)) else {
-        return Err(CertFault::Limit);
-    };
-    assert!(rt; first.constant() == -5 && first.terms().len() == 2);
-    assert!(rt; has_term(&first, 0, 2, Variable::B) && has_term(&first, 1, -3, Variable::Hl));
-    assert!(rt; second.constant() == 7 && second.terms().is_empty());
-    let (Some(third), Some(last)) = (fact_of(&c, 2, 2), fact_of(&c, 4, 0)) else {
-        return Err(CertFault::Limit);
-    };
-    assert!(rt;
-        has_slot(&third, 0, 1, 0, Part::High) && has_slot(&third, 1, -1_000_000, 1, Part::Low)
-    );
-    assert!(rt; last.constant() == 1 && has_term(&last, 0, -2, Variable::E));
-    assert!(rt; fact_of(&c, 2, 3).is_none() && fact_of(&c, 0, 0).is_none() && c.facts(5).is_none());
+fn of_words(rt: HostRuntime) -> Result<(), Fail> {
+    let c = every_form(rt.alloc())?;
+    for &(id, word, bounds, origin) in WORDS {
+        let found = pair_at(&c, id, word);
+        assert!(rt; is_known(found, bounds, origin), "{bounds:?} of {id}");
+    }
     Ok(())
 }
 
-#[test]
-fn of_potentials(rt: HostRuntime) -> Result<(), CertFault> {
-    let c = read(rt.alloc(), EVERY_FORM.as_bytes())?;
-    let (Some(Some(first)), Some(Some(second))) = (c.potential(3), c.potential(4)) else {
-        return Err(CertFault::Limit);
-    };
-    assert!(rt; first.constant() == -1_000_000_000 && has_term(&first, 0, 999_999, Variable::A));
-    assert!(rt; has_term(&first, 1, -1, Variable::Bc) && has_term(&first, 2, 4, Variable::Iy));
-    assert!(rt; second.constant() == 15 && has_slot(&second, 0, 13, 0, Part::Word));
-    assert!(rt; matches!(c.potential(0), Some(None)) && c.potential(5).is_none());
-    Ok(())
+/// The fact of a place, or the potential, of a row.
+#[derive(Clone, Copy)]
+enum Sum {
+    Fact(u32, usize),
+    Potential(u32),
+}
+
+/// What a term counts: a register, a pair, or a part of the slot of a number.
+#[derive(Clone, Copy)]
+enum Counted {
+    A,
+    B,
+    E,
+    Bc,
+    Hl,
+    Iy,
+    Slot(u8, Part),
+}
+
+/// A sum, its constant, and its terms.
+const SUMS: &[(Sum, i32, &[(i32, Counted)])] = &[
+    (Sum::Fact(2, 0), -5, &[(2, Counted::B), (-3, Counted::Hl)]),
+    (Sum::Fact(2, 1), 7, &[]),
+    (
+        Sum::Fact(2, 2),
+        0,
+        &[
+            (1, Counted::Slot(0, Part::High)),
+            (-1_000_000, Counted::Slot(1, Part::Low)),
+        ],
+    ),
+    (Sum::Fact(4, 0), 1, &[(-2, Counted::E)]),
+    (
+        Sum::Potential(3),
+        -1_000_000_000,
+        &[(999_999, Counted::A), (-1, Counted::Bc), (4, Counted::Iy)],
+    ),
+    (Sum::Potential(4), 15, &[(13, Counted::Slot(0, Part::Word))]),
+];
+
+fn linear_of(certificate: &Certificate, sum: Sum) -> Option<Linear> {
+    match sum {
+        Sum::Fact(id, place) => certificate.facts(id)?.as_slice().get(place).copied(),
+        Sum::Potential(id) => certificate.potential(id)?,
+    }
+}
+
+fn is_counted(variable: Variable, counted: Counted) -> bool {
+    match counted {
+        Counted::A => variable == Variable::A,
+        Counted::B => variable == Variable::B,
+        Counted::E => variable == Variable::E,
+        Counted::Bc => variable == Variable::Bc,
+        Counted::Hl => variable == Variable::Hl,
+        Counted::Iy => variable == Variable::Iy,
+        Counted::Slot(number, part) => match variable {
+            Variable::Slot(slot, of) => slot.number() == number && of == part,
+            _ => false,
+        },
+    }
+}
+
+fn are_terms(found: &[Term], wanted: &[(i32, Counted)]) -> bool {
+    found.len() == wanted.len()
+        && found.iter().zip(wanted).all(|(term, (coefficient, counted))| {
+            term.coefficient == *coefficient && is_counted(term.variable, *counted)
+        })
 }
 
 #[test]
-fn of_places(rt: HostRuntime) -> Result<(), CertFault> {
-    let c = read(rt.alloc(), EVERY_FORM.as_bytes())?;
-    let (here, none, routine) = (c.rows_at(0, 3), c.rows_at(0, 4), c.rows_of(1));
-    assert!(rt; (here.start, here.end) == (1, 3));
-    assert!(rt; none.start == none.end);
-    assert!(rt; (routine.start, routine.end) == (3, 4));
-    assert!(rt; c.rows_from(0, 3) == 1 && c.rows_from(0, 4) == 3 && c.rows_from(3, 0x101) == 5);
-    let last = c.rows_at(3, 0x100);
-    assert!(rt; (last.start, last.end) == (4, 5));
+fn of_sums(rt: HostRuntime) -> Result<(), Fail> {
+    let c = every_form(rt.alloc())?;
+    for (place, &(sum, constant, terms)) in SUMS.iter().enumerate() {
+        let is_found = match linear_of(&c, sum) {
+            Some(linear) => linear.constant() == constant && are_terms(linear.terms(), terms),
+            None => false,
+        };
+        assert!(rt; is_found, "sum {place}, {constant} and terms");
+    }
+    Ok(())
+}
+
+/// A procedure, an address, the row that is the first from there on, and the rows at the address, where there are any.
+const PLACES: &[(u16, u16, u32, Option<(u32, u32)>)] = &[
+    (0, 0x3, 1, Some((1, 3))),
+    (0, 0x4, 3, None),
+    (3, 0x100, 4, Some((4, 5))),
+    (3, 0x101, 5, None),
+];
+
+/// The first of a range of rows and the one behind the last, where there are any.
+fn ends_of(rows: Range<u32>) -> Option<(u32, u32)> {
+    if rows.start == rows.end {
+        None
+    } else {
+        Some((rows.start, rows.end))
+    }
+}
+
+#[test]
+fn of_places(rt: HostRuntime) -> Result<(), Fail> {
+    let c = every_form(rt.alloc())?;
+    for &(proc, address, first, rows) in PLACES {
+        let (from, at) = (c.rows_from(proc, address), c.rows_at(proc, address));
+        assert!(rt; from == first, "from {address} of {proc}");
+        assert!(rt; ends_of(at) == rows, "at {address} of {proc}");
+    }
+    assert!(rt; ends_of(c.rows_of(1)) == Some((3, 4)), "of procedure 1");
     Ok(())
 }

@@ -1,158 +1,155 @@
 // Counts at their limits, and above them.
 
-use certificate::{CertFault, read};
+use Many::{Lines, Same};
+use certificate::CertFault::{self, Limit, Line};
+use certificate::read;
 use std::alloc::{AllocError, Global};
 use std::test::Fail;
 
-/// What stands before the procedures.
-const HEAD: &str = "galcert 2\nrom 6\nmap galaxian\nstack 4380 4400\nbudget -\n";
+/// What stands before the other lines in version 1, and more.
+macro_rules! head {
+    ($more:literal) => {
+        concat!("galcert 1\nrom 6\nstack 4380 4400\nbudget -\nproc main 0000 0 0 -\n", $more)
+    };
+}
 
-const MAIN: &str = "proc main 0000 0 0 -\n";
+/// With a row at 0003 as far as its last four fields, and as far as its first slot; and with such a row where SP is not set.
+const ROW: &str = head!("row 0 0003 s * * * * * * * * * * ");
 
-/// Adds so many lines, each with its number in hexadecimal, from here on.
-fn add_lines(
-    text: &mut String,
-    alloc: Global,
-    before: &str,
-    from: u16,
-    count: u16,
-    behind: &str,
-) -> Result<(), AllocError> {
-    for step in 0..count {
-        let number = from.wrapping_add(step);
-        let line = format!(in alloc; "{before} {number:04X}{behind}\n")?;
-        text.push_str(line.as_str())?;
+const SLOTS: &str = head!("row 0 0003 s * * * * * * * * * * - - *");
+
+const UNSET: &str = head!("row 0 0003 u * * * * * * * * * * - - *");
+
+/// What stands before the other lines in version 2.
+const TWO: &str =
+    "galcert 2\nrom 6\nmap galaxian\nstack 4380 4400\nbudget -\nproc main 0000 0 0 -\n";
+
+/// A whole row at 0003, and one at 0002.
+const PLAIN: &str = "row 0 0003 s * * * * * * * * * * - - - -\n";
+
+const FALLING: &str = "row 0 0002 s * * * * * * * * * * - - - -\n";
+
+/// What stands many times.
+#[derive(Clone, Copy)]
+enum Many {
+    /// The same so many times.
+    Same(&'static str, u32),
+    /// Lines with numbers in hexadecimal: what stands before the number, the first one, how many there are, and what stands behind it.
+    Lines(&'static str, u16, u16, &'static str),
+}
+
+const NONE: Many = Same("", 0);
+
+/// The head, what stands many times, and the end of a text; then its fault, or None where it is a certificate's text.
+type Case = (&'static str, Many, &'static str, Option<CertFault>);
+
+const COUNTS: &[Case] = &[
+    // Procedures
+    (TWO, Lines("proc sub", 0, 1_023, " 0 2 -"), "end\n", None),
+    (TWO, Lines("proc sub", 0, 1_024, " 0 2 -"), "", Some(Limit)),
+    (
+        TWO,
+        Lines("proc sub", 0, 1_023, " 0 2 -"),
+        "proc sub 0000 0 2 -\n",
+        Some(Line(1_030)),
+    ),
+    // Splits
+    (TWO, Lines("split 0", 7, 1_024, " B"), "end\n", None),
+    (TWO, Lines("split 0", 7, 1_025, " B"), "", Some(Limit)),
+    // Inline calls
+    (TWO, Lines("inline", 7, 1_024, ""), "end\n", None),
+    (TWO, Lines("inline", 7, 1_025, ""), "", Some(Limit)),
+    // Cells
+    (TWO, Lines("cell", 0x4000, 256, " 00 01"), "end\n", None),
+    (TWO, Lines("cell", 0x4000, 257, " 00 01"), "", Some(Limit)),
+    (TWO, Lines("cell", 0x43FF, 1, " 00 01"), "end\n", None),
+    (
+        TWO,
+        Lines("cell", 0x4400, 1, " 00 01"),
+        "end\n",
+        Some(Line(7)),
+    ),
+    (
+        TWO,
+        Lines("cell", 0x3FFF, 1, " 00 01"),
+        "end\n",
+        Some(Line(7)),
+    ),
+    // Slots: one, and so many more
+    (SLOTS, Same(",*", 63), " -\nend\n", None),
+    (SLOTS, Same(",*", 64), " -\nend\n", Some(Limit)),
+    // In mode u no row has slots, however many
+    (UNSET, Same(",*", 64), " -\nend\n", Some(Line(6))),
+    // All else on the line has to be in form
+    (SLOTS, Same(",*", 64), " +1\nend\n", Some(Line(6))),
+    // Facts and terms
+    (ROW, NONE, "- 1+1*A,2,3,4 - -\nend\n", None),
+    (ROW, NONE, "- 1+1*A,2,3,4,5 - -\nend\n", Some(Limit)),
+    (ROW, NONE, "- - - 1+1*A+1*B+1*C\nend\n", None),
+    (ROW, NONE, "- - - 1+1*A+1*B+1*C+1*D\nend\n", Some(Limit)),
+    (ROW, NONE, "- - - 1+1*A+1*B+1*C+1*C\nend\n", Some(Line(6))),
+    // Sizes of numbers are no counts
+    (ROW, NONE, "- - - 1000000000+1000000*A\nend\n", None),
+    (ROW, NONE, "- - - 1000000001\nend\n", Some(Line(6))),
+    (ROW, NONE, "- - - 0+1000001*A\nend\n", Some(Line(6))),
+];
+
+/// Rows, which take long where a test is not compiled.
+const ROWS: &[Case] = &[
+    (head!(""), Same(PLAIN, 65_535), "end\n", None),
+    (head!(""), Same(PLAIN, 65_536), "", Some(Limit)),
+    (head!(""), Same(PLAIN, 65_535), FALLING, Some(Line(65_541))),
+];
+
+/// Adds what stands many times.
+fn add_many(text: &mut String, alloc: Global, many: Many) -> Result<(), AllocError> {
+    match many {
+        Same(piece, count) => {
+            for _ in 0..count {
+                text.push_str(piece)?;
+            }
+        }
+        Lines(before, first, count, behind) => {
+            for step in 0..count {
+                let number = first.wrapping_add(step);
+                let line = format!(in alloc; "{before} {number:04X}{behind}\n")?;
+                text.push_str(line.as_str())?;
+            }
+        }
     }
     Ok(())
 }
 
-/// How a certificate is answered with main, so many of these lines more, and this end.
-fn answered(
-    alloc: Global,
-    before: &str,
-    from: u16,
-    count: u16,
-    behind: &str,
-    end: &str,
-) -> Result<Result<(), CertFault>, AllocError> {
-    let mut text = String::from_str(alloc, HEAD)?;
-    text.push_str(MAIN)?;
-    add_lines(&mut text, alloc, before, from, count, behind)?;
+/// The text of a case.
+fn text_of(alloc: Global, case: &Case) -> Result<String, AllocError> {
+    let &(head, many, end, _) = case;
+    let mut text = String::from_str(alloc, head)?;
+    add_many(&mut text, alloc, many)?;
     text.push_str(end)?;
-    Ok(read(alloc, text.as_bytes()).map(|_| ()))
+    Ok(text)
 }
 
-#[test]
-fn procedures(rt: HostRuntime) -> Result<(), Fail> {
-    let alloc = rt.alloc();
-    assert!(rt; answered(alloc, "proc sub", 0, 1_023, " 0 2 -", "end\n")? == Ok(()));
-    assert!(rt; answered(alloc, "proc sub", 0, 1_024, " 0 2 -", "")? == Err(CertFault::Limit));
-    let falling = "proc sub 0000 0 2 -\n";
-    assert!(rt;
-        answered(alloc, "proc sub", 0, 1_023, " 0 2 -", falling)? == Err(CertFault::Line(1_030))
-    );
-    Ok(())
-}
-
-#[test]
-fn splits(rt: HostRuntime) -> Result<(), Fail> {
-    let alloc = rt.alloc();
-    assert!(rt; answered(alloc, "split 0", 7, 1_024, " B", "end\n")? == Ok(()));
-    assert!(rt; answered(alloc, "split 0", 7, 1_025, " B", "")? == Err(CertFault::Limit));
-    Ok(())
-}
-
-#[test]
-fn inline_calls(rt: HostRuntime) -> Result<(), Fail> {
-    let alloc = rt.alloc();
-    assert!(rt; answered(alloc, "inline", 7, 1_024, "", "end\n")? == Ok(()));
-    assert!(rt; answered(alloc, "inline", 7, 1_025, "", "")? == Err(CertFault::Limit));
-    Ok(())
-}
-
-#[test]
-fn cells(rt: HostRuntime) -> Result<(), Fail> {
-    let alloc = rt.alloc();
-    assert!(rt; answered(alloc, "cell", 0x4000, 256, " 00 01", "end\n")? == Ok(()));
-    assert!(rt; answered(alloc, "cell", 0x4000, 257, " 00 01", "")? == Err(CertFault::Limit));
-    assert!(rt; answered(alloc, "cell", 0x43FF, 1, " 00 01", "end\n")? == Ok(()));
-    assert!(rt; answered(alloc, "cell", 0x4400, 1, " 00 01", "end\n")? == Err(CertFault::Line(7)));
-    assert!(rt; answered(alloc, "cell", 0x3FFF, 1, " 00 01", "end\n")? == Err(CertFault::Line(7)));
-    Ok(())
-}
-
-/// How a certificate of version 1 is answered with so many rows at 0003, and this behind them.
-fn with_rows(alloc: Global, count: usize, last: &str) -> Result<Result<(), CertFault>, AllocError> {
-    let mut text = String::from_str(alloc, "galcert 1\nrom 6\nstack 4380 4400\nbudget -\n")?;
-    text.push_str(MAIN)?;
-    for _ in 0..count {
-        text.push_str("row 0 0003 s * * * * * * * * * * - - - -\n")?;
+/// The place of the first text that has another fault, where there is one.
+fn first_wrong(alloc: Global, cases: &[Case]) -> Result<Option<usize>, AllocError> {
+    for (place, case) in cases.iter().enumerate() {
+        let text = text_of(alloc, case)?;
+        if read(alloc, text.as_bytes()).err() != case.3 {
+            return Ok(Some(place));
+        }
     }
-    text.push_str(last)?;
-    Ok(read(alloc, text.as_bytes()).map(|_| ()))
+    Ok(None)
+}
+
+#[test]
+fn counts(rt: HostRuntime) -> Result<(), Fail> {
+    let wrong = first_wrong(rt.alloc(), COUNTS)?;
+    assert!(rt; wrong.is_none(), "case {wrong:?} of COUNTS, from 0");
+    Ok(())
 }
 
 #[test]
 fn rows(rt: HostRuntime) -> Result<(), Fail> {
-    let alloc = rt.alloc();
-    assert!(rt; with_rows(alloc, 65_535, "end\n")? == Ok(()));
-    assert!(rt; with_rows(alloc, 65_536, "")? == Err(CertFault::Limit));
-    let falling = "row 0 0002 s * * * * * * * * * * - - - -\n";
-    assert!(rt; with_rows(alloc, 65_535, falling)? == Err(CertFault::Line(65_541)));
-    Ok(())
-}
-
-/// How a certificate is answered with a row of this mode and these last fields.
-fn with_row(alloc: Global, mode: &str, last: &str) -> Result<Result<(), CertFault>, AllocError> {
-    let row = format!(in alloc; "row 0 0003 {mode} * * * * * * * * * * {last}\nend\n")?;
-    with_rows(alloc, 0, row.as_str())
-}
-
-/// So many pieces, with commas between them.
-fn list_of(alloc: Global, piece: &str, count: usize) -> Result<String, AllocError> {
-    let mut text = String::from_str(alloc, piece)?;
-    for _ in 1..count {
-        text.push_str(",")?;
-        text.push_str(piece)?;
-    }
-    Ok(text)
-}
-
-/// How a row of this mode is answered with so many slots, and this potential.
-fn with_slots(
-    alloc: Global,
-    mode: &str,
-    count: usize,
-    potential: &str,
-) -> Result<Result<(), CertFault>, AllocError> {
-    let slots = list_of(alloc, "*", count)?;
-    let last = format!(in alloc; "- - {slots} {potential}")?;
-    with_row(alloc, mode, last.as_str())
-}
-
-#[test]
-fn slots(rt: HostRuntime) -> Result<(), Fail> {
-    let alloc = rt.alloc();
-    assert!(rt; with_slots(alloc, "s", 64, "-")? == Ok(()));
-    assert!(rt; with_slots(alloc, "s", 65, "-")? == Err(CertFault::Limit));
-    // In mode u no row has slots, however many
-    assert!(rt; with_slots(alloc, "u", 65, "-")? == Err(CertFault::Line(6)));
-    // All else on the line has to be in form
-    assert!(rt; with_slots(alloc, "s", 65, "+1")? == Err(CertFault::Line(6)));
-    Ok(())
-}
-
-#[test]
-fn facts_and_terms(rt: HostRuntime) -> Result<(), Fail> {
-    let alloc = rt.alloc();
-    assert!(rt; with_row(alloc, "s", "- 1+1*A,2,3,4 - -")? == Ok(()));
-    assert!(rt; with_row(alloc, "s", "- 1+1*A,2,3,4,5 - -")? == Err(CertFault::Limit));
-    assert!(rt; with_row(alloc, "s", "- - - 1+1*A+1*B+1*C")? == Ok(()));
-    assert!(rt; with_row(alloc, "s", "- - - 1+1*A+1*B+1*C+1*D")? == Err(CertFault::Limit));
-    assert!(rt; with_row(alloc, "s", "- - - 1+1*A+1*B+1*C+1*C")? == Err(CertFault::Line(6)));
-    // Sizes of numbers are no counts
-    assert!(rt; with_row(alloc, "s", "- - - 1000000000+1000000*A")? == Ok(()));
-    assert!(rt; with_row(alloc, "s", "- - - 1000000001")? == Err(CertFault::Line(6)));
-    assert!(rt; with_row(alloc, "s", "- - - 0+1000001*A")? == Err(CertFault::Line(6)));
+    let wrong = first_wrong(rt.alloc(), ROWS)?;
+    assert!(rt; wrong.is_none(), "case {wrong:?} of ROWS, from 0");
     Ok(())
 }

@@ -1,78 +1,104 @@
-// Memory that is refused once, at each of the growths in turn (`tools/memory.sh certificate_tests`): the call answers `NoMemory`, and
-// the next one, with memory, as if nothing had been. A refusal is told by a line.
+// Memory that is refused once, at each growth in turn (`tools/memory.sh certificate_tests`): the call answers `NoMemory`, a line tells it, and the next call is right.
 
 use crate::parts::parts_of;
 use crate::samples::EVERY_FORM;
-use certificate::{CertFault, Certificate, Parts, ReadFault, read, read_from, write};
+use certificate::{CertFault, Certificate, ReadFault, read, read_from, write};
 use memory_devices::{Bytes, Taken};
 use std::alloc::Global;
 use std::test::Fail;
 
-/// Whether a certificate is written as the text of every form.
-fn is_every_form(alloc: Global, certificate: &Certificate) -> bool {
+/// A call that makes the certificate of every form.
+#[derive(Clone, Copy)]
+enum Call {
+    Read,
+    ReadFrom,
+    Of,
+}
+
+/// What is told of a fault: where memory was refused, or that it is another one.
+fn told(is_refused: bool, place: &'static str) -> &'static str {
+    if is_refused { place } else { "another fault" }
+}
+
+/// The certificate of its own parts, or what is told.
+fn made(alloc: Global, certificate: &Certificate) -> Result<Certificate, &'static str> {
+    match parts_of(alloc, certificate) {
+        Ok(parts) => Certificate::of(alloc, parts).map_err(|fault| told(
+            fault == CertFault::NoMemory,
+            "refused in Certificate::of",
+        )),
+        Err(_) => Err("refused before Certificate::of"),
+    }
+}
+
+/// What a call makes, or what is told where it makes nothing. A source gives a hundred bytes at once.
+fn made_by(alloc: Global, call: Call) -> Result<Certificate, &'static str> {
+    let text = EVERY_FORM.as_bytes();
+    match call {
+        Call::Read => read(alloc, text).map_err(|fault| told(
+            fault == CertFault::NoMemory,
+            "refused in read",
+        )),
+        Call::ReadFrom => read_from(alloc, &mut Bytes::failing(text, 100, u64::MAX)).map_err(
+            |fault| told(fault == ReadFault::NoMemory, "refused in read_from"),
+        ),
+        Call::Of => match read(alloc, text) {
+            Ok(certificate) => made(alloc, &certificate),
+            Err(_) => Err("refused before Certificate::of"),
+        },
+    }
+}
+
+/// Whether what was made is written as the text of every form.
+fn is_every_form(alloc: Global, made: Result<Certificate, &'static str>) -> bool {
     let mut out = Taken::new(alloc);
-    write(certificate, &mut out).is_ok() && out.bytes.as_slice() == EVERY_FORM.as_bytes()
+    match made {
+        Ok(certificate) => {
+            write(&certificate, &mut out).is_ok() && out.bytes.as_slice() == EVERY_FORM.as_bytes()
+        }
+        Err(_) => false,
+    }
+}
+
+/// What is told where a call makes the certificate.
+const MADE: &str = "made";
+
+/// What is told of a call; one that is refused is made again.
+fn told_of(alloc: Global, call: Call) -> &'static str {
+    match made_by(alloc, call) {
+        Ok(certificate) if certificate.row_count() == 5 => MADE,
+        Ok(_) => "made of other rows",
+        Err(told) if is_every_form(alloc, made_by(alloc, call)) => told,
+        Err(_) => "not made when called again",
+    }
 }
 
 #[test]
 fn read_again(rt: HostRuntime) -> Result<(), Fail> {
-    match read(rt.alloc(), EVERY_FORM.as_bytes()) {
-        Ok(certificate) => assert!(rt; certificate.row_count() == 5),
-        Err(fault) => {
-            println!(rt; "refused in read")?;
-            assert!(rt; fault == CertFault::NoMemory);
-            let again = read(rt.alloc(), EVERY_FORM.as_bytes())?;
-            assert!(rt; is_every_form(rt.alloc(), &again));
-        }
+    let told = told_of(rt.alloc(), Call::Read);
+    if told != MADE {
+        println!(rt; "{told}")?;
+        assert!(rt; told.starts_with("refused"), "{told}");
     }
     Ok(())
-}
-
-/// What is read of a source that gives a hundred bytes at once.
-fn read_in_pieces(alloc: Global) -> Result<Certificate, ReadFault> {
-    read_from(
-        alloc,
-        &mut Bytes::failing(EVERY_FORM.as_bytes(), 100, u64::MAX),
-    )
 }
 
 #[test]
 fn read_from_again(rt: HostRuntime) -> Result<(), Fail> {
-    match read_in_pieces(rt.alloc()) {
-        Ok(certificate) => assert!(rt; certificate.row_count() == 5),
-        Err(fault) => {
-            println!(rt; "refused in read_from")?;
-            assert!(rt; fault == ReadFault::NoMemory);
-            let again = read_in_pieces(rt.alloc())?;
-            assert!(rt; is_every_form(rt.alloc(), &again));
-        }
+    let told = told_of(rt.alloc(), Call::ReadFrom);
+    if told != MADE {
+        println!(rt; "{told}")?;
+        assert!(rt; told.starts_with("refused"), "{told}");
     }
     Ok(())
 }
 
-/// The parts of the certificate of every form, or none where there is no memory for them.
-fn parts(alloc: Global) -> Option<Parts> {
-    let certificate = read(alloc, EVERY_FORM.as_bytes()).ok()?;
-    parts_of(alloc, &certificate).ok()
-}
-
 #[test]
 fn made_again(rt: HostRuntime) -> Result<(), Fail> {
-    let Some(first) = parts(rt.alloc()) else {
-        println!(rt; "refused before Certificate::of")?;
-        return Ok(());
-    };
-    match Certificate::of(rt.alloc(), first) {
-        Ok(made) => assert!(rt; made.row_count() == 5),
-        Err(fault) => {
-            println!(rt; "refused in Certificate::of")?;
-            assert!(rt; fault == CertFault::NoMemory);
-            let Some(second) = parts(rt.alloc()) else {
-                return Err(Fail::new("no memory for the parts"));
-            };
-            let again = Certificate::of(rt.alloc(), second)?;
-            assert!(rt; is_every_form(rt.alloc(), &again));
-        }
+    let told = told_of(rt.alloc(), Call::Of);
+    if told != MADE {
+        println!(rt; "{told}")?;
+        assert!(rt; told.starts_with("refused"), "{told}");
     }
     Ok(())
 }

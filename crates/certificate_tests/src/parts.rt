@@ -3,13 +3,15 @@
 use crate::samples::{EVERY_FORM, JUMP, ROUTINE};
 use abs_state::KeptCell;
 use address_map::Region;
-use certificate::{
-    BoardMap, CertFault, Certificate, Parts, Proc, ProcKind, Row, Split, Version, read, write,
-};
+use certificate::BoardMap::{self, Galaxian, Raised};
+use certificate::CertFault::{self, Limit, Line};
+use certificate::Version::{self, One, Two};
+use certificate::{Certificate, Parts, Proc, ProcKind, Row, Split, read, write};
 use intervals::ByteRange;
 use memory_devices::Taken;
 use std::alloc::{AllocError, Global};
 use std::test::Fail;
+use z80_decode::Register8;
 
 /// A row once more.
 fn row_again(certificate: &Certificate, id: u32) -> Option<Row> {
@@ -30,62 +32,123 @@ pub fn parts_of(alloc: Global, certificate: &Certificate) -> Result<Parts, Alloc
             rows.push(row)?;
         }
     }
-    let (mut procs, mut splits) = (Vec::new(alloc), Vec::new(alloc));
-    procs.extend_from_slice(certificate.procs())?;
-    splits.extend_from_slice(certificate.splits())?;
-    let (mut inlines, mut cells) = (Vec::new(alloc), Vec::new(alloc));
-    inlines.extend_from_slice(certificate.inlines())?;
-    cells.extend_from_slice(certificate.cells())?;
     Ok(Parts {
         version: certificate.version(),
         rom_len: certificate.rom_len(),
         board: certificate.board(),
         region: certificate.region(),
         budget: certificate.budget(),
-        procs,
-        splits,
-        inlines,
-        cells,
+        procs: Vec::from_slice(alloc, certificate.procs())?,
+        splits: Vec::from_slice(alloc, certificate.splits())?,
+        inlines: Vec::from_slice(alloc, certificate.inlines())?,
+        cells: Vec::from_slice(alloc, certificate.cells())?,
         rows,
     })
 }
 
+/// Texts, each of which is written again of the parts of its certificate.
+const TEXTS: &[&str] = &[JUMP, ROUTINE, EVERY_FORM];
+
 /// Whether the certificate of the parts of a text is written as this text.
-fn is_made_again(alloc: Global, text: &str) -> Result<bool, AllocError> {
-    let Ok(certificate) = read(alloc, text.as_bytes()) else {
-        return Ok(false);
-    };
-    let parts = parts_of(alloc, &certificate)?;
+fn is_made_again(alloc: Global, text: &str) -> Result<bool, Fail> {
+    let certificate = read(alloc, text.as_bytes())?;
+    let made = Certificate::of(alloc, parts_of(alloc, &certificate)?)?;
     let mut out = Taken::new(alloc);
-    Ok(match Certificate::of(alloc, parts) {
-        Ok(made) => write(&made, &mut out).is_ok() && out.bytes.as_slice() == text.as_bytes(),
-        Err(_) => false,
-    })
+    Ok(write(&made, &mut out).is_ok() && out.bytes.as_slice() == text.as_bytes())
 }
 
 #[test]
 fn made_again(rt: HostRuntime) -> Result<(), Fail> {
-    assert!(rt; is_made_again(rt.alloc(), JUMP)?);
-    assert!(rt; is_made_again(rt.alloc(), ROUTINE)?);
-    assert!(rt; is_made_again(rt.alloc(), EVERY_FORM)?);
+    for text in TEXTS {
+        assert!(rt; is_made_again(rt.alloc(), text)?, "of {text}");
+    }
     Ok(())
 }
 
-/// A procedure of this kind and entry.
-fn proc(kind: ProcKind, entry: u16) -> Proc {
-    Proc {
-        kind,
-        entry,
-        rank: 0,
-        depth: 2,
-        time: None,
+/// Procedures of one kind: the first's entry, and how many there are, each at the address behind the one before it.
+type Run = (ProcKind, u16, u16);
+
+const MAIN: Run = (ProcKind::Main, 0, 1);
+
+/// As many procedures as there may be, and one more.
+const MOST: &[Run] = &[MAIN, (ProcKind::Sub, 1, 1_023)];
+
+const ABOVE: &[Run] = &[MAIN, (ProcKind::Sub, 1, 1_024)];
+
+type Numbers = &'static [u16];
+
+/// Parts without rows: the version, the board, the procedures, the procedures of splits, the inline calls, and where cells are; then the fault, if any.
+type Case = (
+    Version,
+    BoardMap,
+    &'static [Run],
+    Numbers,
+    Numbers,
+    Numbers,
+    Option<CertFault>,
+);
+
+const PARTS: &[Case] = &[
+    (One, Galaxian, &[MAIN], &[], &[], &[], None),
+    // An old version
+    (One, Raised, &[MAIN], &[], &[], &[], Some(Line(3))),
+    (Two, Raised, &[MAIN], &[], &[], &[], None),
+    (One, Galaxian, &[MAIN], &[], &[], &[0x4000], Some(Line(6))),
+    // Out of order
+    (One, Galaxian, &[MAIN, MAIN], &[], &[], &[], Some(Line(6))),
+    (One, Galaxian, &[], &[], &[], &[], Some(Line(5))),
+    (Two, Galaxian, &[MAIN], &[], &[9, 8], &[], Some(Line(8))),
+    (Two, Galaxian, &[MAIN], &[1], &[], &[], Some(Line(7))),
+    // The limit of procedures
+    (One, Galaxian, MOST, &[], &[], &[], None),
+    (One, Galaxian, ABOVE, &[], &[], &[], Some(Limit)),
+];
+
+/// Procedures of these runs.
+fn procs_of(alloc: Global, runs: &[Run]) -> Result<Vec<Proc>, AllocError> {
+    let mut procs = Vec::new(alloc);
+    for &(kind, first, count) in runs {
+        for step in 0..count {
+            procs.push(Proc {
+                kind,
+                entry: first.wrapping_add(step),
+                rank: 0,
+                depth: 2,
+                time: None,
+            })?;
+        }
     }
+    Ok(procs)
 }
 
-/// Parts with main alone, of this version and board.
-fn plain_parts(alloc: Global, version: Version, board: BoardMap) -> Result<Parts, AllocError> {
-    let mut procs = Vec::new(alloc);
-    procs.push(proc(ProcKind::Main, 0))?;
+/// Splits by B at 0003 in these procedures.
+fn splits_in(alloc: Global, procs: &[u16]) -> Result<Vec<Split>, AllocError> {
+    let mut splits = Vec::new(alloc);
+    for proc in procs {
+        splits.push(Split {
+            proc: *proc,
+            address: 3,
+            register: Register8::B,
+        })?;
+    }
+    Ok(splits)
+}
+
+/// Cells at these addresses, with any byte.
+fn cells_at(alloc: Global, addresses: &[u16]) -> Result<Vec<KeptCell>, AllocError> {
+    let mut cells = Vec::new(alloc);
+    for at in addresses {
+        cells.push(KeptCell {
+            at: *at,
+            range: ByteRange::full(),
+        })?;
+    }
+    Ok(cells)
+}
+
+/// The parts of a case.
+fn parts_with(alloc: Global, case: &Case) -> Result<Parts, AllocError> {
+    let &(version, board, runs, splits, inlines, cells, _) = case;
     Ok(Parts {
         version,
         rom_len: 6,
@@ -95,72 +158,22 @@ fn plain_parts(alloc: Global, version: Version, board: BoardMap) -> Result<Parts
             top: 0x4400,
         },
         budget: None,
-        procs,
-        splits: Vec::new(alloc),
-        inlines: Vec::new(alloc),
-        cells: Vec::new(alloc),
+        procs: procs_of(alloc, runs)?,
+        splits: splits_in(alloc, splits)?,
+        inlines: Vec::from_slice(alloc, inlines)?,
+        cells: cells_at(alloc, cells)?,
         rows: Vec::new(alloc),
     })
 }
 
-/// The fault of parts.
-fn fault_of(alloc: Global, parts: Parts) -> Option<CertFault> {
-    Certificate::of(alloc, parts).err()
-}
-
 #[test]
-fn of_an_old_version(rt: HostRuntime) -> Result<(), Fail> {
-    let alloc = rt.alloc();
-    let old = plain_parts(alloc, Version::One, BoardMap::Galaxian)?;
-    assert!(rt; fault_of(alloc, old).is_none());
-    let raised = plain_parts(alloc, Version::One, BoardMap::Raised)?;
-    assert!(rt; fault_of(alloc, raised) == Some(CertFault::Line(3)));
-    let new = plain_parts(alloc, Version::Two, BoardMap::Raised)?;
-    assert!(rt; fault_of(alloc, new).is_none());
-    let mut celled = plain_parts(alloc, Version::One, BoardMap::Galaxian)?;
-    celled.cells.push(KeptCell {
-        at: 0x4000,
-        range: ByteRange::full(),
-    })?;
-    assert!(rt; fault_of(alloc, celled) == Some(CertFault::Line(6)));
-    Ok(())
-}
-
-#[test]
-fn out_of_order(rt: HostRuntime) -> Result<(), Fail> {
-    let alloc = rt.alloc();
-    let mut two = plain_parts(alloc, Version::One, BoardMap::Galaxian)?;
-    two.procs.push(proc(ProcKind::Main, 0))?;
-    assert!(rt; fault_of(alloc, two) == Some(CertFault::Line(6)));
-    let mut none = plain_parts(alloc, Version::One, BoardMap::Galaxian)?;
-    none.procs.clear();
-    assert!(rt; fault_of(alloc, none) == Some(CertFault::Line(5)));
-    let mut falling = plain_parts(alloc, Version::Two, BoardMap::Galaxian)?;
-    falling.inlines.extend_from_slice(&[9, 8])?;
-    assert!(rt; fault_of(alloc, falling) == Some(CertFault::Line(8)));
-    let mut foreign = plain_parts(alloc, Version::Two, BoardMap::Galaxian)?;
-    foreign.splits.push(Split {
-        proc: 1,
-        address: 3,
-        register: z80_decode::Register8::B,
-    })?;
-    assert!(rt; fault_of(alloc, foreign) == Some(CertFault::Line(7)));
-    Ok(())
-}
-
-/// Parts with so many procedures.
-fn with_procs(alloc: Global, count: u16) -> Result<Parts, AllocError> {
-    let mut parts = plain_parts(alloc, Version::One, BoardMap::Galaxian)?;
-    for entry in 1..count {
-        parts.procs.push(proc(ProcKind::Sub, entry))?;
+fn in_and_out_of_form(rt: HostRuntime) -> Result<(), Fail> {
+    for (place, case) in PARTS.iter().enumerate() {
+        let parts = parts_with(rt.alloc(), case)?;
+        assert!(rt;
+            Certificate::of(rt.alloc(), parts).err() == case.6,
+            "case {place}, from 0"
+        );
     }
-    Ok(parts)
-}
-
-#[test]
-fn limit_of_parts(rt: HostRuntime) -> Result<(), Fail> {
-    let alloc = rt.alloc();
-    assert!(rt; fault_of(alloc, with_procs(alloc, 1_024)?).is_none());
-    assert!(rt; fault_of(alloc, with_procs(alloc, 1_025)?) == Some(CertFault::Limit));
     Ok(())
 }

@@ -62,3 +62,6 @@ pub const EVERY_FORM: &str = "galcert 2\n\
     row 1 0066 n 2 *@AF *@BC *@DE *@HL *@IX *@IY *@AF' *@BC' *@DE' *@HL' - - - -1000000000+999999*A-1*BC+4*IY\n\
     row 3 0100 n 2 * * * * * * * * * * zL 1-2*E * 15+13*s0\n\
     end\n";
+
+/// In place of a number of bytes, where a text is read whole and in no pieces.
+pub const WHOLE: usize = 0;

@@ -6,8 +6,6 @@ mod bounds_of_rows;
 #[cfg(test)]
 mod cases;
 #[cfg(test)]
-mod cycles;
-#[cfg(test)]
 mod memory;
 #[cfg(test)]
 mod ways;

@@ -1,142 +1,210 @@
-// Walks of a procedure at 0008, worked by hand: by several ways, through calls, from several entries, and none.
+// Walks of a procedure at 0008, worked by hand: by several ways, through calls, from several entries, none, and rows that go round.
 
-use crate::cases::{is_walk, told_of};
+use crate::cases::{Told, Wanted, is_told, told};
+use path_time::TimeFault;
+use std::alloc::Global;
 use std::test::Fail;
 
+/// What begins each ROM: main, which calls 0008.
+const MAIN: [u8; 8] = [0x31, 0x00, 0x44, 0xCD, 0x08, 0x00, 0x18, 0xFE];
+
+/// Rows of which nothing is known, each by its procedure, its address and its mode.
+macro_rules! rows {
+    ($($row:literal),*) => {
+        concat!($("row ", $row, " * * * * * * * * * * - - - -\n"),*)
+    };
+}
+
+/// The rows of main, which have the numbers 0, 1 and 2.
+const MAIN_ROWS: &str = rows!("0 0000 u", "0 0003 s", "0 0006 s");
+
 const TIMED: &str = "proc sub 0008 1 4 100\n";
-
-#[test]
-fn two_ways_to_one_row(rt: HostRuntime) -> Result<(), Fail> {
-    // JR NZ to the next address, by 12 or by 7; RET, 10
-    let rows = "row 1 0008 s * * * * * * * * * * - - - -\n\
-        row 1 000A s * * * * * * * * * * - - - -\n";
-    let walk = told_of(rt.alloc(), &[0x20, 0x00, 0xC9], TIMED, rows)?;
-    assert!(rt; is_walk(&walk, 22, &[3, 4]));
-    Ok(())
-}
-
-#[test]
-fn the_longer_of_two_ways(rt: HostRuntime) -> Result<(), Fail> {
-    // JR Z over two NOPs: 12 and 10, or 7, 4, 4 and 10
-    let rows = "row 1 0008 s * * * * * * * * * * - - - -\n\
-        row 1 000A s * * * * * * * * * * - - - -\n\
-        row 1 000B s * * * * * * * * * * - - - -\n\
-        row 1 000C s * * * * * * * * * * - - - -\n";
-    let walk = told_of(rt.alloc(), &[0x28, 0x02, 0x00, 0x00, 0xC9], TIMED, rows)?;
-    assert!(rt; is_walk(&walk, 25, &[3, 4, 5, 6]));
-    // JR Z over one NOP: 12 and 10, or 7, 4 and 10
-    let rows = "row 1 0008 s * * * * * * * * * * - - - -\n\
-        row 1 000A s * * * * * * * * * * - - - -\n\
-        row 1 000B s * * * * * * * * * * - - - -\n";
-    let walk = told_of(rt.alloc(), &[0x28, 0x01, 0x00, 0xC9], TIMED, rows)?;
-    assert!(rt; is_walk(&walk, 22, &[3, 5]));
-    Ok(())
-}
-
-#[test]
-fn an_exit_on_the_way(rt: HostRuntime) -> Result<(), Fail> {
-    // RET Z leaves by 11, or goes on by 5 to RET, 10
-    let rows = "row 1 0008 s * * * * * * * * * * - - - -\n\
-        row 1 0009 s * * * * * * * * * * - - - -\n";
-    let walk = told_of(rt.alloc(), &[0xC8, 0xC9], TIMED, rows)?;
-    assert!(rt; is_walk(&walk, 15, &[3, 4]));
-    // Behind it HALT and no row
-    let walk = told_of(rt.alloc(), &[0xC8, 0x76], TIMED, rows)?;
-    assert!(rt; is_walk(&walk, 11, &[3]));
-    Ok(())
-}
 
 /// CALL 000C and RET at 0008, RET at 000C.
 const CALL: [u8; 5] = [0xCD, 0x0C, 0x00, 0xC9, 0xC9];
 
-const CALL_ROWS: &str = "row 1 0008 s * * * * * * * * * * - - - -\n\
-    row 1 000B s * * * * * * * * * * - - - -\n\
-    row 2 000C s * * * * * * * * * * - - - -\n";
+const CALL_ROWS: &str = rows!("1 0008 s", "1 000B s", "2 000C s");
 
-#[test]
-fn through_a_call(rt: HostRuntime) -> Result<(), Fail> {
+/// DJNZ over a byte: by 13 to RET where B is not 1, and else by 8 to that byte.
+const ENTRIES: &str = "row 1 0008 s * 0100-01FF:01-01:00-FF * * * * * * * * - - - -\n\
+    row 1 0008 s * 0200-FFFF:02-FF:00-FF * * * * * * * * - - - -\n\
+    row 1 000A s * * * * * * * * * * - - - -\n\
+    row 1 000B s * * * * * * * * * * - - - -\n";
+
+/// Five calls of 0018 and RET.
+const CALLS: [u8; 17] = [
+    0xCD, 0x18, 0x00, 0xCD, 0x18, 0x00, 0xCD, 0x18, 0x00, 0xCD, 0x18, 0x00, 0xCD, 0x18, 0x00, 0xC9,
+    0xC9,
+];
+
+/// NOP at 0008; 0009 and 000B jump to each other, and 000D to itself.
+const ROUND: [u8; 7] = [0x00, 0x18, 0x00, 0x18, 0xFC, 0x18, 0xFE];
+
+/// What a case shows, the code from 0008 on, the lines of procedures and those of rows behind main's, which begin with number 3; then
+/// the longest walk of procedure 1, its T-states and rows, or why there is none.
+const WALKS: &[(&str, &[u8], &str, &str, Wanted)] = &[
+    // JR NZ to the next address, by 12 or by 7; RET, 10
+    (
+        "two ways to one row",
+        &[0x20, 0x00, 0xC9],
+        TIMED,
+        rows!("1 0008 s", "1 000A s"),
+        Ok((22, &[3, 4])),
+    ),
+    // JR Z over two NOPs: 12 and 10, or 7, 4, 4 and 10
+    (
+        "the longer of two ways",
+        &[0x28, 0x02, 0x00, 0x00, 0xC9],
+        TIMED,
+        rows!("1 0008 s", "1 000A s", "1 000B s", "1 000C s"),
+        Ok((25, &[3, 4, 5, 6])),
+    ),
+    // JR Z over one NOP: 12 and 10, or 7, 4 and 10
+    (
+        "the jump is longer",
+        &[0x28, 0x01, 0x00, 0xC9],
+        TIMED,
+        rows!("1 0008 s", "1 000A s", "1 000B s"),
+        Ok((22, &[3, 5])),
+    ),
+    // RET Z leaves by 11, or goes on by 5 to RET, 10
+    (
+        "an exit on the way",
+        &[0xC8, 0xC9],
+        TIMED,
+        rows!("1 0008 s", "1 0009 s"),
+        Ok((15, &[3, 4])),
+    ),
+    // Behind it HALT and no row
+    (
+        "HALT behind an exit",
+        &[0xC8, 0x76],
+        TIMED,
+        rows!("1 0008 s", "1 0009 s"),
+        Ok((11, &[3])),
+    ),
     // 17 and the callee's time, 33; RET, 10
-    let procs = "proc sub 0008 1 4 100\nproc sub 000C 0 2 33\n";
-    let walk = told_of(rt.alloc(), &CALL, procs, CALL_ROWS)?;
-    assert!(rt; is_walk(&walk, 60, &[3, 4]));
-    Ok(())
-}
-
-#[test]
-fn a_callee_without_a_time(rt: HostRuntime) -> Result<(), Fail> {
-    let procs = "proc sub 0008 1 4 100\nproc sub 000C 0 2 -\n";
-    let walk = told_of(rt.alloc(), &CALL, procs, CALL_ROWS)?;
-    assert!(rt; is_walk(&walk, 0, &[]));
-    Ok(())
-}
-
-#[test]
-fn a_callee_without_an_exit(rt: HostRuntime) -> Result<(), Fail> {
-    let procs = "proc sub 0008 1 4 100\nproc sub 000C 0 2 33\n";
-    let walk = told_of(
-        rt.alloc(),
-        &[0xCD, 0x0C, 0x00, 0xC9, 0x76],
-        procs,
+    (
+        "through a call",
+        &CALL,
+        "proc sub 0008 1 4 100\nproc sub 000C 0 2 33\n",
         CALL_ROWS,
-    )?;
-    assert!(rt; is_walk(&walk, 0, &[]));
-    Ok(())
-}
-
-#[test]
-fn the_longer_of_two_entries(rt: HostRuntime) -> Result<(), Fail> {
-    // DJNZ over a byte: by 13 to RET where B is not 1, and else by 8 to that byte
-    let rows = "row 1 0008 s * 0100-01FF:01-01:00-FF * * * * * * * * - - - -\n\
-        row 1 0008 s * 0200-FFFF:02-FF:00-FF * * * * * * * * - - - -\n\
-        row 1 000A s * * * * * * * * * * - - - -\n\
-        row 1 000B s * * * * * * * * * * - - - -\n";
+        Ok((60, &[3, 4])),
+    ),
+    (
+        "a callee without a time",
+        &CALL,
+        "proc sub 0008 1 4 100\nproc sub 000C 0 2 -\n",
+        CALL_ROWS,
+        Ok((0, &[])),
+    ),
+    (
+        "a callee without an exit",
+        &[0xCD, 0x0C, 0x00, 0xC9, 0x76],
+        "proc sub 0008 1 4 100\nproc sub 000C 0 2 33\n",
+        CALL_ROWS,
+        Ok((0, &[])),
+    ),
     // NOP, 4
-    let walk = told_of(rt.alloc(), &[0x10, 0x01, 0x00, 0xC9], TIMED, rows)?;
-    assert!(rt; is_walk(&walk, 23, &[4, 6]));
+    (
+        "the longer of two entries",
+        &[0x10, 0x01, 0x00, 0xC9],
+        TIMED,
+        ENTRIES,
+        Ok((23, &[4, 6])),
+    ),
     // INC BC, 6
-    let walk = told_of(rt.alloc(), &[0x10, 0x01, 0x03, 0xC9], TIMED, rows)?;
-    assert!(rt; is_walk(&walk, 24, &[3, 5, 6]));
-    Ok(())
-}
-
-#[test]
-fn no_walk(rt: HostRuntime) -> Result<(), Fail> {
-    // No row at the entry
-    let rows = "row 1 0009 s * * * * * * * * * * - - - -\n";
-    assert!(rt; is_walk(&told_of(rt.alloc(), &[0xC9, 0xC9], TIMED, rows)?, 0, &[]));
+    (
+        "the other entry is longer",
+        &[0x10, 0x01, 0x03, 0xC9],
+        TIMED,
+        ENTRIES,
+        Ok((24, &[3, 5, 6])),
+    ),
+    (
+        "no row at the entry",
+        &[0xC9, 0xC9],
+        TIMED,
+        rows!("1 0009 s"),
+        Ok((0, &[])),
+    ),
     // A return where SP is not set is refused
-    let rows = "row 1 0008 u * * * * * * * * * * - - - -\n";
-    assert!(rt; is_walk(&told_of(rt.alloc(), &[0xC9, 0xC9], TIMED, rows)?, 0, &[]));
-    // No row at all
-    assert!(rt; is_walk(&told_of(rt.alloc(), &[0xC9], TIMED, "")?, 0, &[]));
-    Ok(())
+    (
+        "a return without SP",
+        &[0xC9, 0xC9],
+        TIMED,
+        rows!("1 0008 u"),
+        Ok((0, &[])),
+    ),
+    ("no row at all", &[0xC9], TIMED, "", Ok((0, &[]))),
+    (
+        "a sum beyond 32 bits",
+        &CALLS,
+        "proc sub 0008 1 4 100\nproc sub 0018 0 2 1000000000\n",
+        rows!(
+            "1 0008 s", "1 000B s", "1 000E s", "1 0011 s", "1 0014 s", "1 0017 s", "2 0018 s"
+        ),
+        Ok((4_294_967_295, &[3, 4, 5, 6, 7, 8])),
+    ),
+    // From 000B on
+    (
+        "one call less",
+        &CALLS,
+        "proc sub 000B 1 4 100\nproc sub 0018 0 2 1000000000\n",
+        rows!(
+            "1 000B s", "1 000E s", "1 0011 s", "1 0014 s", "1 0017 s", "2 0018 s"
+        ),
+        Ok((4_000_000_078, &[3, 4, 5, 6, 7])),
+    ),
+    // RET, and behind it a jump to itself
+    (
+        "round where the entry does not lead",
+        &[0xC9, 0x18, 0xFE],
+        TIMED,
+        rows!("1 0008 s", "1 0009 s"),
+        Err(TimeFault::Cycle(0x0009)),
+    ),
+    (
+        "round at the lowest address",
+        &ROUND,
+        TIMED,
+        rows!("1 0008 s", "1 0009 s", "1 000B s", "1 000D s"),
+        Err(TimeFault::Cycle(0x0009)),
+    ),
+    // Without the row at 000B only the last goes round
+    (
+        "round at the last address",
+        &ROUND,
+        TIMED,
+        rows!("1 0008 s", "1 0009 s", "1 000D s"),
+        Err(TimeFault::Cycle(0x000D)),
+    ),
+    // CALL 000D and a jump back to it; RET at 000D
+    (
+        "round through a call",
+        &[0xCD, 0x0D, 0x00, 0x18, 0xFB, 0xC9],
+        "proc sub 0008 1 4 100\nproc sub 000D 0 2 33\n",
+        rows!("1 0008 s", "1 000B s", "2 000D s"),
+        Err(TimeFault::Cycle(0x0008)),
+    ),
+];
+
+/// The longest walk of procedure 1, at 0008, which begins with this code; with the lines of procedures and of rows behind main's.
+fn told_of(alloc: Global, code: &[u8], procs: &str, rows: &str) -> Result<Told, Fail> {
+    let mut rom = Vec::from_slice(alloc, &MAIN)?;
+    rom.extend_from_slice(code)?;
+    let text = format!(in alloc;
+        "galcert 1\nrom {}\nstack 4380 4400\nbudget -\nproc main 0000 2 4 -\n{procs}{MAIN_ROWS}{rows}end\n",
+        rom.len()
+    )?;
+    told(alloc, rom.as_slice(), text.as_str(), 1)
 }
 
 #[test]
-fn sums_beyond_32_bits(rt: HostRuntime) -> Result<(), Fail> {
-    let code = [
-        0xCD, 0x18, 0x00, 0xCD, 0x18, 0x00, 0xCD, 0x18, 0x00, 0xCD, 0x18, 0x00, 0xCD, 0x18, 0x00,
-        0xC9, 0xC9,
-    ];
-    let procs = "proc sub 0008 1 4 100\nproc sub 0018 0 2 1000000000\n";
-    let rows = "row 1 0008 s * * * * * * * * * * - - - -\n\
-        row 1 000B s * * * * * * * * * * - - - -\n\
-        row 1 000E s * * * * * * * * * * - - - -\n\
-        row 1 0011 s * * * * * * * * * * - - - -\n\
-        row 1 0014 s * * * * * * * * * * - - - -\n\
-        row 1 0017 s * * * * * * * * * * - - - -\n\
-        row 2 0018 s * * * * * * * * * * - - - -\n";
-    let walk = told_of(rt.alloc(), &code, procs, rows)?;
-    assert!(rt; is_walk(&walk, 4_294_967_295, &[3, 4, 5, 6, 7, 8]));
-    // One call less: from 000B on
-    let procs = "proc sub 000B 1 4 100\nproc sub 0018 0 2 1000000000\n";
-    let rows = "row 1 000B s * * * * * * * * * * - - - -\n\
-        row 1 000E s * * * * * * * * * * - - - -\n\
-        row 1 0011 s * * * * * * * * * * - - - -\n\
-        row 1 0014 s * * * * * * * * * * - - - -\n\
-        row 1 0017 s * * * * * * * * * * - - - -\n\
-        row 2 0018 s * * * * * * * * * * - - - -\n";
-    let walk = told_of(rt.alloc(), &code, procs, rows)?;
-    assert!(rt; is_walk(&walk, 4_000_000_078, &[3, 4, 5, 6, 7]));
+fn walks(rt: HostRuntime) -> Result<(), Fail> {
+    for (name, code, procs, rows, wanted) in WALKS {
+        let found = told_of(rt.alloc(), code, procs, rows)?;
+        assert!(rt; is_told(&found, wanted), "{name}");
+    }
     Ok(())
 }

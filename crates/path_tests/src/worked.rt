@@ -1,8 +1,7 @@
 // The worked rows: a procedure that is called, a loop, main, and an NMI routine.
 
-use crate::cases::{is_fault, is_walk, told};
+use crate::cases::{Bytes, Wanted, is_told, rom_of, told};
 use path_time::TimeFault;
-use std::alloc::{AllocError, Global};
 use std::test::Fail;
 
 /// PUSH BC, LD B,3, POP BC and RET at 0008.
@@ -69,47 +68,42 @@ pub const ROUTINE: [u8; 12] = [
     0xF5, 0xAF, 0x32, 0x01, 0x70, 0x3C, 0x32, 0x01, 0x70, 0xF1, 0xED, 0x45,
 ];
 
-/// Main code that enables NMIs, and a routine at 0066.
-pub fn rom_with_routine(alloc: Global, routine: &[u8]) -> Result<Vec<u8>, AllocError> {
-    let main = [0x31, 0x00, 0x44, 0x3E, 0x01, 0x32, 0x01, 0x70, 0x18, 0xFE];
-    let mut rom = Vec::from_slice(alloc, &main)?;
-    for _ in main.len()..0x66 {
-        rom.push(0)?;
+/// A ROM, its certificate's text, a procedure, and its longest walk, or why there is none.
+const WALKS: &[(Bytes, &str, u16, Wanted)] = &[
+    (
+        Bytes::Whole(&CALLED),
+        CALLED_TEXT,
+        1,
+        Ok((38, &[3, 4, 5, 6])),
+    ),
+    (
+        Bytes::Whole(&LOOP),
+        LOOP_TEXT,
+        1,
+        Err(TimeFault::Cycle(0x000A)),
+    ),
+    (
+        Bytes::Routine(&ROUTINE),
+        ROUTINE_TEXT,
+        1,
+        Ok((80, &[4, 5, 6, 7, 8, 9, 10])),
+    ),
+    // Main has no time
+    (
+        Bytes::Whole(&CALLED),
+        CALLED_TEXT,
+        0,
+        Err(TimeFault::Untimed),
+    ),
+    (Bytes::Whole(&LOOP), LOOP_TEXT, 0, Err(TimeFault::Untimed)),
+];
+
+#[test]
+fn walks(rt: HostRuntime) -> Result<(), Fail> {
+    for (rom, text, proc, wanted) in WALKS {
+        let rom = rom_of(rt.alloc(), *rom)?;
+        let found = told(rt.alloc(), rom.as_slice(), text, *proc)?;
+        assert!(rt; is_told(&found, wanted), "procedure {proc} of {text}");
     }
-    rom.extend_from_slice(routine)?;
-    Ok(rom)
-}
-
-#[test]
-fn a_procedure_that_is_called(rt: HostRuntime) -> Result<(), Fail> {
-    let walk = told(rt.alloc(), &CALLED, CALLED_TEXT, 1)?;
-    assert!(rt; is_walk(&walk, 38, &[3, 4, 5, 6]));
-    Ok(())
-}
-
-#[test]
-fn a_loop(rt: HostRuntime) -> Result<(), Fail> {
-    let walk = told(rt.alloc(), &LOOP, LOOP_TEXT, 1)?;
-    assert!(rt; is_fault(&walk, TimeFault::Cycle(0x000A)));
-    Ok(())
-}
-
-#[test]
-fn main_has_no_time(rt: HostRuntime) -> Result<(), Fail> {
-    assert!(rt;
-        is_fault(
-            &told(rt.alloc(), &CALLED, CALLED_TEXT, 0)?,
-            TimeFault::Untimed
-        )
-    );
-    assert!(rt; is_fault(&told(rt.alloc(), &LOOP, LOOP_TEXT, 0)?, TimeFault::Untimed));
-    Ok(())
-}
-
-#[test]
-fn an_nmi_routine(rt: HostRuntime) -> Result<(), Fail> {
-    let rom = rom_with_routine(rt.alloc(), &ROUTINE)?;
-    let walk = told(rt.alloc(), rom.as_slice(), ROUTINE_TEXT, 1)?;
-    assert!(rt; is_walk(&walk, 80, &[4, 5, 6, 7, 8, 9, 10]));
     Ok(())
 }

@@ -1,55 +1,111 @@
-// A ROM with a certificate, and the verdict on it.
+// The form of the tables: families of cases that share a certificate's text, each case a ROM with the verdict that is wanted.
 
-use cert_rules::examine;
+use cert_rules::{Refused, examine};
 use certificate::read;
 use std::alloc::Global;
+use std::process::Abort;
 use std::test::Fail;
 
 /// What of a verdict is compared: the address of a refusal, with the number and the name of its reason.
 pub type Told = (u16, u8, &'static [u8]);
 
-/// The verdict on a certificate's text for a ROM: None where it is accepted.
-pub fn verdict(alloc: Global, rom: &[u8], text: &str) -> Result<Option<Told>, Fail> {
-    let certificate = read(alloc, text.as_bytes())?;
-    match examine(alloc, rom, &certificate) {
-        Ok(()) => Ok(None),
-        Err(refused) => {
-            let reason = refused.reason;
-            Ok(Some((refused.address, reason.number(), reason.name())))
-        }
-    }
+/// A ROM's bytes from 0000 on, a part of the text for each of its marks, and what is told: None where the certificate is accepted.
+pub type Case = (&'static [u8], &'static [&'static str], Option<Told>);
+
+/// Cases with a text in common.
+#[derive(Clone, Copy)]
+pub struct Family {
+    /// The first lines of the text, as one of those below.
+    pub head: &'static str,
+    /// Those behind them but for the last, which is `end`. A `#` among the lines is the ROM's length, and a `?` is a mark: there stands
+    /// a case's next part.
+    pub lines: &'static str,
+    /// The NMI routine that each of the ROMs has at 0066, with zeros ahead of it; where it is empty the ROM is the case's bytes alone.
+    pub routine: &'static [u8],
+    pub cases: &'static [Case],
 }
 
-/// The verdict on a certificate of version 1 with the stack from 4380 to 4400 and no NMI routine; `lines` are those from main's on.
-pub fn verdict_without_nmi(alloc: Global, rom: &[u8], lines: &str) -> Result<Option<Told>, Fail> {
-    let text = format!(in alloc;
-        "galcert 1\nrom {}\nstack 4380 4400\nbudget -\n{lines}end\n",
-        rom.len()
-    )?;
-    verdict(alloc, rom, text.as_str())
+/// A table of cases, each written as `ROM [part, part] told;`.
+macro_rules! cases {
+    ($($rom:tt [$($part:expr),*] $told:expr;)*) => {
+        &[$(($rom, &[$($part),*], $told)),*]
+    };
 }
 
-/// The same, with an NMI routine that may take so many T-states.
-pub fn verdict_with_nmi(
-    alloc: Global,
-    rom: &[u8],
-    budget: u32,
-    lines: &str,
-) -> Result<Option<Told>, Fail> {
-    let text = format!(in alloc;
-        "galcert 1\nrom {}\nstack 4380 4400\nbudget {budget}\n{lines}end\n",
-        rom.len()
-    )?;
-    verdict(alloc, rom, text.as_str())
-}
+pub(crate) use cases;
 
-/// A ROM of these bytes, with an NMI routine of these at 0066.
-pub fn rom_with_routine(alloc: Global, main: &[u8], routine: &[u8]) -> Result<Vec<u8>, Fail> {
+/// Version 1, and no NMI routine.
+pub const WITHOUT_NMI: &str = "galcert 1\nrom #\nstack 4380 4400\nbudget -\n";
+
+/// Version 1, and an NMI routine; the first part is what it may take.
+pub const WITH_NMI: &str = "galcert 1\nrom #\nstack 4380 4400\nbudget ?\n";
+
+/// Version 2 on the Galaxian board; the first part is the budget, or `-` where there is no NMI routine.
+pub const GALAXIAN: &str = "galcert 2\nrom #\nmap galaxian\nstack 4380 4400\nbudget ?\n";
+
+/// A ROM of these bytes, with an NMI routine of these at 0066, if any.
+pub fn rom_of(alloc: Global, main: &[u8], routine: &[u8]) -> Result<Vec<u8>, Fail> {
     let mut rom = Vec::new(alloc);
     rom.extend_from_slice(main)?;
-    for _ in main.len()..0x66 {
-        rom.push(0)?;
+    if !routine.is_empty() {
+        rom.resize(0x66, 0)?;
+        rom.extend_from_slice(routine)?;
     }
-    rom.extend_from_slice(routine)?;
     Ok(rom)
+}
+
+/// A text with each of these parts in the place of its next mark.
+fn filled(alloc: Global, text: &str, parts: &[&str]) -> Result<String, Fail> {
+    let mut filled = String::new(alloc);
+    let mut rest = text;
+    for part in parts {
+        let Some((front, behind)) = rest.split_once('?') else {
+            return Err(Fail::new("more parts than marks"));
+        };
+        filled.push_str(front)?;
+        filled.push_str(part)?;
+        rest = behind;
+    }
+    filled.push_str(rest)?;
+    Ok(filled)
+}
+
+/// A text with a ROM's length in the place of its `#`, if any.
+fn with_length(alloc: Global, text: &str, length: usize) -> Result<String, Fail> {
+    match text.split_once('#') {
+        Some((front, behind)) => Ok(format!(in alloc; "{front}{length}{behind}")?),
+        None => Ok(format!(in alloc; "{text}")?),
+    }
+}
+
+/// What is told of a refusal.
+pub fn told_of(refused: Refused) -> Told {
+    (
+        refused.address,
+        refused.reason.number(),
+        refused.reason.name(),
+    )
+}
+
+/// What is told of a certificate's text for a ROM; where the text is no certificate, reason 0.
+fn verdict(alloc: Global, rom: &[u8], text: &str) -> Option<Told> {
+    match read(alloc, text.as_bytes()) {
+        Ok(certificate) => examine(alloc, rom, &certificate).err().map(told_of),
+        Err(_) => Some((0x0000, 0, b"no certificate")),
+    }
+}
+
+/// Sees that of each case of these families is told what is wanted.
+pub fn see_told(rt: &impl Abort, alloc: Global, families: &[Family]) -> Result<(), Fail> {
+    for family in families {
+        let template = format!(in alloc; "{}{}end\n", family.head, family.lines)?;
+        for &(main, parts, wanted) in family.cases {
+            let rom = rom_of(alloc, main, family.routine)?;
+            let text = filled(alloc, template.as_str(), parts)?;
+            let text = with_length(alloc, text.as_str(), rom.len())?;
+            let told = verdict(alloc, rom.as_slice(), text.as_str());
+            assert!(rt; told == wanted, "{told:?} is told of {main:?} and {text}");
+        }
+    }
+    Ok(())
 }

@@ -3,29 +3,37 @@
 use annotations::Annotations;
 use cert_writer::{WriterFault, analyse};
 use certificate::Certificate;
-use std::alloc::Global;
+use std::alloc::{AllocError, Global};
 use std::test::Fail;
 
-/// A stack of 128 bytes, and no NMI routine.
-pub const PLAIN: &str = "low = 0x4380\ntop = 0x4400\n";
+/// Annotations with a stack of 128 bytes and no NMI routine, and more.
+macro_rules! plain {
+    ($more:literal) => {
+        concat!("low = 0x4380\ntop = 0x4400\n", $more)
+    };
+}
 
-/// The same, with an NMI routine that may take all the T-states there are.
-pub const WITH_NMI: &str = "low = 0x4380\ntop = 0x4400\nnmi = true\nbudget = 50665\n";
+/// The same, with an NMI routine that may take all the T-states there are, and more.
+macro_rules! with_nmi {
+    ($more:literal) => {
+        concat!("low = 0x4380\ntop = 0x4400\nnmi = true\nbudget = 50665\n", $more)
+    };
+}
+
+pub(crate) use plain;
+pub(crate) use with_nmi;
+
+/// The same, with a loop at 0069 that B counts.
+pub const WITH_LOOP: &str = with_nmi!("loop = [{ at = 0x69, counter = \"B\" }]\n");
 
 /// LD SP,4400; LD A,1; LD (7001),A, which enables NMIs; a jump to itself.
 pub const ENABLING: [u8; 10] = [0x31, 0x00, 0x44, 0x3E, 0x01, 0x32, 0x01, 0x70, 0x18, 0xFE];
 
-/// A routine that switches NMIs off and on: PUSH AF; XOR A; LD (7001),A; INC A; LD (7001),A; POP AF; RETN.
-pub const SWITCHING: [u8; 11] = [
-    0xF5, 0xAF, 0x32, 0x01, 0x70, 0x3C, 0x32, 0x01, 0x70, 0xF1, 0xED,
-];
-
-/// A ROM of these bytes, with an NMI routine of these at 0066.
-pub fn rom_with_routine(alloc: Global, main: &[u8], routine: &[u8]) -> Result<Vec<u8>, Fail> {
-    let mut rom = Vec::new(alloc);
-    rom.extend_from_slice(main)?;
-    for _ in main.len()..0x66 {
-        rom.push(0)?;
+/// A ROM of these bytes, and where there is an NMI routine, with it at 0066.
+fn rom_of(alloc: Global, main: &[u8], routine: &[u8]) -> Result<Vec<u8>, AllocError> {
+    let mut rom = Vec::from_slice(alloc, main)?;
+    if !routine.is_empty() {
+        rom.resize(0x66, 0)?;
     }
     rom.extend_from_slice(routine)?;
     Ok(rom)
@@ -34,25 +42,48 @@ pub fn rom_with_routine(alloc: Global, main: &[u8], routine: &[u8]) -> Result<Ve
 /// What the writer makes of a ROM with these annotations.
 pub fn written(
     alloc: Global,
-    rom: &[u8],
+    main: &[u8],
+    routine: &[u8],
     said: &str,
 ) -> Result<Result<Certificate, WriterFault>, Fail> {
+    let rom = rom_of(alloc, main, routine)?;
     let said = Annotations::read(alloc, said.as_bytes())?;
-    Ok(analyse(alloc, rom, &said))
+    Ok(analyse(alloc, rom.as_slice(), &said))
 }
 
 /// The certificate of a ROM with these annotations, which is accepted.
-pub fn accepted(alloc: Global, rom: &[u8], said: &str) -> Result<Certificate, Fail> {
-    match written(alloc, rom, said)? {
+pub fn accepted(
+    alloc: Global,
+    main: &[u8],
+    routine: &[u8],
+    said: &str,
+) -> Result<Certificate, Fail> {
+    match written(alloc, main, routine, said)? {
         Ok(certificate) => Ok(certificate),
         Err(_) => Err(Fail::new("not accepted")),
     }
 }
 
-/// The address and the number of the reason that is told of a ROM.
-pub fn told(alloc: Global, rom: &[u8], said: &str) -> Result<Option<(u16, u8)>, Fail> {
-    match written(alloc, rom, said)? {
-        Err(WriterFault::Refused(refused)) => Ok(Some((refused.address, refused.reason.number()))),
-        _ => Ok(None),
+/// Why a ROM is refused.
+#[derive(Clone, Copy)]
+pub enum Why {
+    /// The address and the number of the reason that is told.
+    Refused(u16, u8),
+    Recursion(&'static [u16]),
+    LoopUnbounded(u16),
+    Limit,
+}
+
+/// Whether a ROM is refused for this reason.
+pub fn is_refused(written: &Result<Certificate, WriterFault>, why: Why) -> bool {
+    match (written, why) {
+        (Err(WriterFault::Refused(refused)), Why::Refused(address, number)) => {
+            refused.address == address && refused.reason.number() == number
+        }
+        (Err(WriterFault::Recursion(found)), Why::Recursion(entries)) => found.as_slice()
+            == entries,
+        (Err(WriterFault::LoopUnbounded(found)), Why::LoopUnbounded(address)) => *found == address,
+        (Err(WriterFault::Limit), Why::Limit) => true,
+        _ => false,
     }
 }
