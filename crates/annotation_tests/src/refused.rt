@@ -2,7 +2,6 @@
 
 use annotations::{AnnotationFault, Annotations};
 use std::alloc::Global;
-use std::process::Abort;
 use std::test::Fail;
 
 /// What is no TOML.
@@ -169,15 +168,19 @@ const LINES: &[(&str, &str)] = &[
     ("\"\u{e4}\" = 2", "\u{e4}"),
 ];
 
-/// Sees that a text behind this head is refused with this key.
-fn see_key(rt: &impl Abort, alloc: Global, head: &str, text: &str, key: &str) -> Result<(), Fail> {
-    let text = format!(in alloc; "{head}{text}")?;
-    let told = match Annotations::read(alloc, text.as_bytes()) {
+/// Whether a text is refused with this key.
+fn names(alloc: Global, text: &str, key: &str) -> bool {
+    match Annotations::read(alloc, text.as_bytes()) {
         Err(AnnotationFault::Key(name)) => name.as_str() == key,
         _ => false,
-    };
-    assert!(rt; told, "{key} is not told of {text}");
-    Ok(())
+    }
+}
+
+/// Whether this line, behind a good head, is refused with this key.
+fn names_behind(alloc: Global, line: &str, key: &str) -> Result<bool, Fail> {
+    let mut text = String::from_str(alloc, HEAD)?;
+    text.push_str(line)?;
+    Ok(names(alloc, text.as_str(), key))
 }
 
 #[test]
@@ -197,10 +200,10 @@ fn no_text(rt: HostRuntime) -> Result<(), Fail> {
 #[test]
 fn keys(rt: HostRuntime) -> Result<(), Fail> {
     for (text, key) in TEXTS {
-        see_key(&rt, rt.alloc(), "", text, key)?;
+        assert!(rt; names(rt.alloc(), text, key), "{key}: {text}");
     }
     for (line, key) in LINES {
-        see_key(&rt, rt.alloc(), HEAD, line, key)?;
+        assert!(rt; names_behind(rt.alloc(), line, key)?, "{key}: {line}");
     }
     Ok(())
 }
