@@ -135,8 +135,8 @@ impl Pairs {
             && keeps_pair(self.alternate_hl, other.alternate_hl)
     }
 
-    /// Whether each pair meets the other's.
-    pub(crate) fn meets(&self, other: &Pairs) -> bool
+    /// Whether each pair meets the other's: whether their ranges share a value.
+    pub fn meets(&self, other: &Pairs) -> bool
         ensures { IsTrue result ↔ MeetsPairs self.now other.now }
     {
         self.af.meets(other.af)

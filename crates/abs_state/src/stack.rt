@@ -1,4 +1,4 @@
-// Pushes and pops of pairs, and the exchange with the top slot.
+// Pushes and pops of pairs.
 ghost use Rattle.std.specs.Prelude.{◌≡◌, ◌<◌, ◌↔◌, ℕ, List, length, IsOk, IfOk, IfErr, OnOk, OnErr};
 ghost use Rattle.intervals.specs.Domain.{Entry};
 ghost use Rattle.intervals.specs.Pair.{HoldsPair};
@@ -36,18 +36,5 @@ impl AbsState {
             → IfOk result (λ pair. HoldsPair pair entry word × Holds self.new cells entry m) }
     {
         Ok(self.shape.pop()?.pair)
-    }
-
-    /// Exchanges a pair with what was pushed last, which it gives. At 0 slots it is Empty, and the state stays as it was.
-    pub fn exchange_top(&mut self, pair: Pair) -> Result<Pair, ShapeFault>
-        ensures ok { IsOk result ↔ (0 < length self.old.shape) }
-        ensures exchanged { IfOk result (λ top. (below : State) × (self.old ≡ pushed top below) × (self.new ≡ pushed pair below)) }
-        ensures empty { IfErr result (λ fault. fault ≡ ShapeFault.Empty) }
-        ensures unchanged { OnErr result (self.new ≡ self.old) }
-        ensures holds { (cells : List KeptCell) (entry : Entry) (m : Seen) (before after : ℕ) → Holds self.old cells entry (with_pushed before m)
-            → HoldsPair pair entry after
-            → IfOk result (λ top. HoldsPair top entry before × Holds self.new cells entry (with_pushed after m)) }
-    {
-        Ok(self.shape.exchange(Slot { pair })?.pair)
     }
 }

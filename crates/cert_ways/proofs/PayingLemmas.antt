@@ -63,7 +63,7 @@ pays_more s way start k answer found exact each n from below =
     ]
 
 -- a row that is asked is paid exactly where the potentials say so
-pub row_paid : (s : Subject) (way : Way) (k : ℕ) (row : Row) (lone answer : Bool) → slice_get s.cert.rows k ≡ Some row → (IsTrue lone ↔ IsLone s.cert way.arrival) →
+pub row_paid : (s : Subject) (way : Way) (k : ℕ) (row : Row) (lone answer : Bool) → slice_get s.cert.rows k ≡ Some row → (IsTrue lone ↔ IsLone s.cert way.arrival.proc way.arrival.address) →
     IsTrue lone ⊎ MeetsState row.state way.state → (IsTrue answer ↔ PaysTo s.row way.cost way.arrival.effect row) → IsTrue answer ↔ PaysToRow s way k
 row_paid s way k row lone answer at alone asks exact = (
   (λ told. record {

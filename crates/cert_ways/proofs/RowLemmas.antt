@@ -1,15 +1,20 @@
 -- The rows at an address: whether there is one, and which of them are asked.
-use Rattle.std.proofs.Common.{◌≡◌, ◌<◌, ◌≤◌, ◌-◌, ◌+◌, ◌↔◌, ℕ, leb, IsTrue, length, inl, inr, arith}
+use Rattle.std.proofs.Common.{◌≡◌, ◌<◌, ◌≤◌, ◌-◌, ◌+◌, ◌↔◌, ℕ, leb, IsTrue, Some, length, slice_get, inl, inr, arith}
 use Rattle.std.proofs.lemmas.Bool.{cases_lt, le-leb, leb-true}
 use Rattle.std.proofs.lemmas.Option.{slice_get_cases}
-use Rattle.cert_cover.proofs.CoveringLemmas.{AreRowsAt}
-use Rattle.cert_cover.specs.Arrival.{Arrival}
+use Rattle.cert_lines.specs.declared.row.Row.{Row}
 use Rattle.cert_order.specs.Contents.{Contents}
 use Rattle.cert_ways.specs.Pays.{AreOne}
 
+-- the numbers from the first to before the second are those of the rows at an address of a procedure
+abbrev AreRows : Contents → (proc address start end : ℕ) → Type 0
+AreRows cert proc address start end =
+    (k : ℕ) (row : Row) → slice_get cert.rows k ≡ Some row → ((start ≤ k) × (k < end)) ↔ ((row.proc ≡ proc) × (row.address ≡ address))
+
 -- where there are two rows at least, they are not one
-two_rows : (cert : Contents) (a : Arrival) (start end : ℕ) → AreRowsAt cert a start end → end ≤ length cert.rows → start + 1 < end → AreOne cert a → ⊥
-two_rows cert a start end rows within two one =
+two_rows : (cert : Contents) (proc address start end : ℕ) → AreRows cert proc address start end → end ≤ length cert.rows → start + 1 < end →
+    AreOne cert proc address → ⊥
+two_rows cert proc address start end rows within two one =
     elim (slice_get_cases cert.rows start).1 [
       | inl first ↦
           elim (slice_get_cases cert.rows (start + 1)).1 [
@@ -24,9 +29,9 @@ two_rows cert a start end rows within two one =
     ]
 
 -- there is one row at most where there is one number at most
-pub one_row : (cert : Contents) (a : Arrival) (start end few : ℕ) → AreRowsAt cert a start end → end ≤ length cert.rows → few ≡ end - start →
-    IsTrue (leb few 1) ↔ AreOne cert a
-one_row cert a start end few rows within is = (
+pub one_row : (cert : Contents) (proc address start end few : ℕ) → AreRows cert proc address start end → end ≤ length cert.rows → few ≡ end - start →
+    IsTrue (leb few 1) ↔ AreOne cert proc address
+one_row cert proc address start end few rows within is = (
   (λ yes i j row other at place at_other place_other.
       let upto : few ≤ 1 = leb-true few 1 yes in
       let here = (rows i row at).1 place in
@@ -38,7 +43,7 @@ one_row cert a start end few rows within is = (
       omega (arith, upto, is, h, k, l, m)),
   (λ one.
       elim (cases_lt (start + 1) end) [
-        | inl two ↦ absurd (two_rows cert a start end rows within two one)
+        | inl two ↦ absurd (two_rows cert proc address start end rows within two one)
         | inr upto ↦ le-leb few 1 (omega (arith, is, upto))
       ]),
 )

@@ -5,7 +5,6 @@ use Rattle.abs_state.specs.Variables.{range_of}
 use Rattle.abs_state.specs.declared.state.AbsState.{AbsState}
 use Rattle.abs_step.specs.declared.next.Next.{Next}
 use Rattle.abs_step.specs.declared.next.NextKind.TheVariants.{Exit}
-use Rattle.cert_cover.specs.Arrival.{Arrival}
 use Rattle.cert_cover.specs.Program.{IsRowAt, split_at}
 use Rattle.cert_cover.specs.declared.program.Callee.{Callee}
 use Rattle.cert_lines.specs.declared.proc.Proc.{Proc}
@@ -28,18 +27,18 @@ potential_of row = unwrap_or row.potential (constant_sum 0)
 
 -- ---- which rows are asked
 
--- the numbers of all rows at the address of an arrival are one number
-abbrev pub AreOne : Contents → Arrival → Type 0
-AreOne cert a = (i j : ℕ) (row other : Row) → slice_get cert.rows i ≡ Some row → (row.proc ≡ a.proc) × (row.address ≡ a.address)
-    → slice_get cert.rows j ≡ Some other → (other.proc ≡ a.proc) × (other.address ≡ a.address) → i ≡ j
+-- the numbers of all rows at an address of a procedure are one number
+abbrev pub AreOne : Contents → (proc address : ℕ) → Type 0
+AreOne cert proc address = (i j : ℕ) (row other : Row) → slice_get cert.rows i ≡ Some row → (row.proc ≡ proc) × (row.address ≡ address)
+    → slice_get cert.rows j ≡ Some other → (other.proc ≡ proc) × (other.address ≡ address) → i ≡ j
 
 -- there is one row at most at the address, and states are not told apart there
-abbrev pub IsLone : Contents → Arrival → Type 0
-IsLone cert a = (split_at cert a.proc a.address ≡ None) × AreOne cert a
+abbrev pub IsLone : Contents → (proc address : ℕ) → Type 0
+IsLone cert proc address = (split_at cert proc address ≡ None) × AreOne cert proc address
 
 -- where there is one row and no split, it is asked; else each row that the arriving state meets
 abbrev pub IsAsked : Contents → Way → Row → Type 0
-IsAsked cert way row = IsLone cert way.arrival ⊎ MeetsState row.state way.state
+IsAsked cert way row = IsLone cert way.arrival.proc way.arrival.address ⊎ MeetsState row.state way.state
 
 -- a row where a way arrives, and which is asked
 pub record Lands (cert : Contents) (way : Way) (target : Row) : Type 0 where

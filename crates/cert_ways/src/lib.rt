@@ -4,12 +4,14 @@
 mod effects;
 mod exits;
 mod going;
+mod meeting;
 mod paying;
 mod subject;
 mod walks;
 mod ways;
 
 pub use going::goes_on;
+pub use meeting::{is_lone, meets_state};
 pub use paying::{cost_before, pays};
 pub use subject::Subject;
 pub use walks::{compared, cost_between, cost_of_leaving, exit_cost};

@@ -8,6 +8,7 @@ ghost use Rattle.cert_ways.specs.Parts.{AtEachExit, CallPays, NextPays, OnEachEx
 ghost use Rattle.cert_ways.specs.Pays.{IsLone, MeetsTime, Pays, PaysCall, PaysOut, PaysTo, constant_sum, cost_before, potential_of};
 ghost use Rattle.cert_ways.specs.Ways.{step_of};
 
+use crate::meeting::is_lone;
 use crate::subject::Subject;
 use crate::ways::Way;
 use abs_step::{Next, NextKind};
@@ -59,7 +60,7 @@ fn row_pays_to(subject: &Subject, way: &Way, target: &RowView) -> bool
 
 /// Whether a row pays for a way to the row of a number, if that is asked.
 fn pays_row(subject: &Subject, way: &Way, lone: bool, id: RowId) -> bool
-    requires { IsTrue lone ↔ IsLone subject.now.cert way.now.arrival }
+    requires { IsTrue lone ↔ IsLone subject.now.cert way.now.arrival.proc way.now.arrival.address }
     ensures { IsTrue result ↔ PaysToRow subject.now way.now id }
 {
     let Some(row) = subject.certificate.row(id) else {
@@ -76,7 +77,7 @@ fn pays_row(subject: &Subject, way: &Way, lone: bool, id: RowId) -> bool
 fn pays_way(subject: &Subject, way: &Way) -> bool
     ensures { IsTrue result ↔ PaysWay subject.now way.now }
 {
-    let lone = way.is_lone(subject.certificate);
+    let lone = is_lone(subject.certificate, way.proc, way.address);
     let rows = way.rows(subject.certificate);
     for id in rows.start..rows.end {
         if !pays_row(subject, way, lone, id) {

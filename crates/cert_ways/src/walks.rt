@@ -8,6 +8,7 @@ ghost use Rattle.cert_ways.specs.Pays.{IsExitCost, IsGreatest, IsWalked, Lands, 
 ghost use Rattle.cert_ways.specs.Ways.{jump_way, step_of};
 
 use crate::exits::may_have_exit;
+use crate::meeting::{is_lone, meets_state};
 use crate::subject::Subject;
 use abs_step::{Next, NextKind};
 use address_map::{Map, Rom};
@@ -68,15 +69,15 @@ fn cost_by_call(subject: &Subject, next: &Next, target: &RowView) -> Option<u32>
     }
 }
 
-/// Whether a jump, or going on, leads to a row that is asked. The way is made only where it leads to the row's address: its state is large.
+/// Whether a jump, or going on, leads to a row that is asked. It is told from what is lent, and no way is made: its state is large.
 fn jump_lands(subject: &Subject, next: &Next, target: &RowView) -> bool
     requires { Contains subject.now.cert.rows target.now }
     ensures { IsTrue result ↔ Lands subject.now.cert (jump_way subject.now next.now) target.now }
 {
-    if next.address != target.address {
+    if next.address != target.address || subject.row.proc != target.proc {
         return false;
     }
-    subject.jump_way(next).lands(subject.certificate, target)
+    meets_state(target, &next.state) || is_lone(subject.certificate, subject.row.proc, next.address)
 }
 
 /// The T-states that lie between a row and another by a way on, or None where it doesn't lead there.

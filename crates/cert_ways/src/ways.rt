@@ -4,16 +4,17 @@ ghost use Rattle.std.specs.Prelude.{◌≡◌, ◌≤◌, ◌<◌, ◌↔◌, �
 ghost use Rattle.abs_state.specs.Covers.{MeetsState};
 ghost use Rattle.cert_cover.specs.Program.{callee_at};
 ghost use Rattle.cert_lines.specs.declared.row.Row.{Row};
-ghost use Rattle.cert_ways.specs.Pays.{AreOne, IsLone, Lands};
+ghost use Rattle.cert_ways.specs.Pays.{Lands};
 ghost use Rattle.cert_ways.specs.Ways.{call_cost, jump_way, return_way};
 
 use crate::effects::effect_of_call;
+use crate::meeting::{is_lone, meets_state};
 use crate::subject::Subject;
 use abs_draft::settled;
 use abs_state::AbsState;
 use abs_step::Next;
 use call_graph::ProcId;
-use cert_cover::{Arrival, Callee, split_at};
+use cert_cover::{Arrival, Callee};
 use certificate::{Certificate, RowId, RowView};
 use loop_bounds::{Effect, Linear};
 use std::marker::Model;
@@ -47,7 +48,7 @@ impl<'a> Model for Way<'a> {
 
 impl<'a> Subject<'a> {
     /// The way by a jump, or by going on.
-    pub fn jump_way<'s>(&'s self, next: &Next) -> Way<'s>
+    pub(crate) fn jump_way<'s>(&'s self, next: &Next) -> Way<'s>
         ensures { result ≡ jump_way self.now next.now }
     {
         Way {
@@ -100,7 +101,7 @@ fn call_cost(next: &Next, callee: &Callee) -> u32
 
 impl<'a> Way<'a> {
     /// The numbers of the rows where the way arrives.
-    pub fn rows(&self, certificate: &Certificate) -> Range<RowId>
+    pub(crate) fn rows(&self, certificate: &Certificate) -> Range<RowId>
         ensures within { result.end ≤ length certificate.now.rows }
         ensures at { (k : ℕ) (row : Row) → slice_get certificate.now.rows k ≡ Some row
             → ((result.start ≤ k) × (k < result.end)) ↔ ((row.proc ≡ self.now.arrival.proc) × (row.address ≡ self.now.arrival.address)) }
@@ -108,36 +109,21 @@ impl<'a> Way<'a> {
         certificate.rows_at(self.proc, self.address)
     }
 
-    /// Whether there is one row at most where the way arrives, and states are not told apart there: it is asked then, whatever it says.
-    pub fn is_lone(&self, certificate: &Certificate) -> bool
-        ensures { IsTrue result ↔ IsLone certificate.now self.now.arrival }
-    {
-        split_at(certificate, self.proc, self.address).is_none() && self.has_one_row(certificate)
-    }
-
-    /// Whether there is one row at most where the way arrives.
-    fn has_one_row(&self, certificate: &Certificate) -> bool
-        ensures { IsTrue result ↔ AreOne certificate.now self.now.arrival }
-    {
-        let rows = self.rows(certificate);
-        rows.end.saturating_sub(rows.start) <= 1
-    }
-
     /// Whether a row where the way arrives is asked: it is lone, or the state that arrives meets its state.
-    pub fn asks(&self, lone: bool, row: &RowView) -> bool
+    pub(crate) fn asks(&self, lone: bool, row: &RowView) -> bool
         ensures { IsTrue result ↔ (IsTrue lone ⊎ MeetsState row.now.state self.now.state) }
     {
-        lone || row.state().meets(&self.state)
+        lone || meets_state(row, &self.state)
     }
 
     /// Whether the way arrives at a row of the certificate, and this is asked.
-    pub fn lands(&self, certificate: &Certificate, row: &RowView) -> bool
+    pub(crate) fn lands(&self, certificate: &Certificate, row: &RowView) -> bool
         requires { Contains certificate.now.rows row.now }
         ensures { IsTrue result ↔ Lands certificate.now self.now row.now }
     {
         if row.proc != self.proc || row.address != self.address {
             return false;
         }
-        self.asks(false, row) || self.is_lone(certificate)
+        self.asks(false, row) || is_lone(certificate, self.proc, self.address)
     }
 }

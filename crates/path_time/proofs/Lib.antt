@@ -1,6 +1,5 @@
 -- Lemmas of the proofs.
 mod EdgeLemmas
-mod JumpLemmas
 mod LinkLemmas
 mod RoundLemmas
 mod TableLemmas

@@ -3,7 +3,6 @@
 
 mod ahead;
 mod fault;
-mod jumps;
 mod links;
 mod walks;
 

@@ -8,11 +8,10 @@ ghost use Rattle.cert_ways.specs.Ways.{IsNumbered, step_of};
 ghost use Rattle.path_time.specs.Links.{Added, AreLinks, IsAny, IsArrival, IsArrivalOfSome, IsWithin, arrival_of, edge_of};
 ghost use Rattle.path_time.specs.Table.{AreLinksFrom};
 
-use crate::jumps::cost_on;
 use abs_step::{Next, NextKind};
 use address_map::{Map, Rom};
 use call_graph::{Edge, ProcId};
-use cert_ways::Subject;
+use cert_ways::{Subject, cost_between};
 use certificate::{Certificate, RowId};
 use std::alloc::{AllocError, Global};
 use std::ops::Range;
@@ -173,7 +172,7 @@ fn cost_to(subject: &Subject, nexts: &[Next], to: RowId) -> Option<u32>
     ensures { (from : ℕ) → IsNumbered subject.now.rom subject.now.cert from subject.now → IsGreatest (LieBetween subject.now.rom subject.now.cert from to) result }
 {
     let target = subject.certificate.row(to)?;
-    cost_on(subject, nexts, &target)
+    cost_between(subject, nexts, &target)
 }
 
 /// The links without their costs.

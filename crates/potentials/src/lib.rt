@@ -5,12 +5,10 @@ mod fault;
 mod least;
 mod links;
 mod loops;
-mod meeting;
 mod requests;
 mod rounds;
 mod sums;
 
 pub use fault::PotentialFault;
-pub use meeting::meets_state;
 pub use rounds::potentials;
 pub use sums::greatest_value;

@@ -4,11 +4,10 @@ ghost use Rattle.std.specs.Prelude.{◌≡◌, Some};
 ghost use Rattle.cert_cover.specs.Program.{callee_at};
 
 use crate::fault::PotentialFault;
-use crate::meeting::meets_state;
 use abs_state::AbsState;
 use abs_step::{Next, NextKind};
-use cert_cover::{Callee, callee_at, split_at};
-use cert_ways::Subject;
+use cert_cover::{Callee, callee_at};
+use cert_ways::{Subject, is_lone, meets_state};
 use certificate::RowId;
 use loop_bounds::Effect;
 use std::alloc::Global;
@@ -94,9 +93,7 @@ impl Requests {
         let certificate = subject.certificate;
         let proc = subject.row.proc;
         let rows = certificate.rows_at(proc, address);
-        // Of several rows none is lone.
-        let lone = rows.end.saturating_sub(rows.start) <= 1
-            && split_at(certificate, proc, address).is_none();
+        let lone = is_lone(certificate, proc, address);
         for id in rows.start..rows.end {
             if let Some(row) = certificate.row(id) {
                 if lone || meets_state(&row, state) {

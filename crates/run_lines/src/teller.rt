@@ -1,8 +1,9 @@
 // Which event of a run has a line.
 
-ghost use Rattle.std.specs.Prelude.{◌≡◌, ◌≢◌, ◌<◌, ◌+◌, ◌-◌, ◌++◌, ◌^◌, ℕ, List, Bool, option_map, true};
+ghost use Rattle.std.specs.Prelude.{◌≡◌, ◌≢◌, ◌<◌, ◌+◌, ◌-◌, ◌++◌, ◌^◌, ℕ, List, Bool, true};
 ghost use Rattle.board_step.specs.Hardware.{Hardware};
-ghost use Rattle.board_step.specs.Known.{IsKnown, IsKnownAt};
+ghost use Rattle.board_step.specs.Kind.{kind_of};
+ghost use Rattle.board_step.specs.Known.{IsKnownAt};
 ghost use Rattle.board_step.specs.Run.{is_return};
 ghost use Rattle.board_step.specs.State.{State};
 ghost use Rattle.board_step.specs.Step.{Step};
@@ -113,14 +114,11 @@ fn end_note(running: &mut Option<Moment>, after: Moment, returned: bool) -> Note
     }
 }
 
-/// Whether an event is an instruction that returned, where this is known of the instruction.
-pub fn has_returned(known: Option<&Known>, event: &Event) -> bool
-    ensures { (hardware : Hardware) (s new : State) (env : Env) → IsKnown hardware.rom s (option_map (λ k. k.now) known.entry) → Step hardware s env event.now new → SaysReturned hardware s env result }
+/// Whether an instruction returned by the event in which it was done, where this is what is known of it.
+pub fn has_returned(known: &Known, event: &Event) -> bool
+    ensures { (hardware : Hardware) (s new : State) (env : Env) → kind_of s ≡ Kinds.Instr → IsKnownAt hardware.rom s.regs.pc known.now → Step hardware s env event.now new → SaysReturned hardware s env result }
 {
-    match known {
-        Some(known) => returned_after(known, event.t),
-        None => false,
-    }
+    returned_after(known, event.t)
 }
 
 /// Whether an instruction that took this many T-states returned.

@@ -25,8 +25,3 @@ TakesField old None new = (old ≡ []) × (new ≡ [])
 abbrev pub TakesWord : List ℕ → List (List ℕ) → Bool → List (List ℕ) → Type 0
 TakesWord word old true new = old ≡ word ∷ new
 TakesWord word old false new = (rest : List (List ℕ)) → old ≢ word ∷ rest
-
--- these fields were taken off, or the fields do not begin with them
-abbrev pub TakesFields : List (List ℕ) → List (List ℕ) → Bool → List (List ℕ) → Type 0
-TakesFields words old true new = old ≡ words ++ new
-TakesFields words old false new = (rest : List (List ℕ)) → old ≢ words ++ rest

@@ -1,8 +1,8 @@
 // The parts of a text, as the fields of a line: what stands between the marks that part them.
 
-ghost use Rattle.std.specs.Prelude.{◌≡◌, ◌∷◌, ◌==◌, ◌↔◌, [], ◌++◌, IsTrue, MatchOption, replicate};
+ghost use Rattle.std.specs.Prelude.{◌≡◌, ◌∷◌, ◌==◌, ◌↔◌, [], ◌++◌, IsTrue, MatchOption};
 ghost use Rattle.std.specs.List.{slice_split, position};
-ghost use Rattle.texts.specs.Fields.{TakesField, TakesWord, TakesFields, fields_in, parts_of};
+ghost use Rattle.texts.specs.Fields.{TakesField, TakesWord, fields_in, parts_of};
 
 use std::marker::Model;
 
@@ -81,18 +81,6 @@ impl<'a> Fields<'a> {
             Some(field) => field == word,
             None => false,
         }
-    }
-
-    /// Takes off the next fields, if they are all this word.
-    pub fn skip_all(&mut self, word: &[u8], count: usize) -> bool
-        ensures { TakesFields (replicate count word.now) self.old result self.new }
-    {
-        for _ in 0..count {
-            if !self.skip(word) {
-                return false;
-            }
-        }
-        true
     }
 
     /// Whether no field is left.

@@ -3,8 +3,8 @@ use Rattle.cert_ways.specs.Ways.{Subject}
 use Rattle.cert_ways.proofs.WalkLemmas.{between_numbers, listed_at}
 use Rattle.path_time.proofs.links.cost_to.Goals as goal
 
-pub cost_on-requires-clause-listed : goal.cost_on-requires-clause-listed
-cost_on-requires-clause-listed c =
+pub cost_between-requires-clause-listed : goal.cost_between-requires-clause-listed
+cost_between-requires-clause-listed c =
     let s = c.args.subject.now in
     let target = c.in_ok-target.target in
     let at : slice_get s.cert.rows c.args.to ≡ Some target =
@@ -18,4 +18,4 @@ returns c =
     let target = c.in_ok-target.target in
     let at : slice_get s.cert.rows c.args.to ≡ Some target =
     subst (λ (x : Subject). slice_get x.cert.rows c.args.to ≡ Some target) c.subject.view_is (sym (c.in_ok-target.ensures {u = tt})) in
-    between_numbers s.rom s.cert from c.args.to s target c.cost_on.result is at c.cost_on.ensures
+    between_numbers s.rom s.cert from c.args.to s target c.cost_between.result is at c.cost_between.ensures
