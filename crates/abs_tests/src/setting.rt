@@ -7,10 +7,12 @@ use loop_bounds::{Change, Part, SlotChange, SlotNumber, Variable};
 use stack_shape::{Shape, Slot};
 use std::alloc::Global;
 
+/// The words from one to another.
 pub fn words(low: u16, high: u16) -> WordRange {
     WordRange::new(low, high).unwrap_or(WordRange::full())
 }
 
+/// The bytes from one to another.
 pub fn bytes(low: u8, high: u8) -> ByteRange {
     ByteRange::new(low, high).unwrap_or(ByteRange::full())
 }
@@ -71,6 +73,7 @@ pub fn jumps(next: &Next, address: u16, cost: u8) -> bool {
     leads(next, address, cost, NextKind::Jump)
 }
 
+/// Whether a way on leads to this address, at this cost in T-states, and is of this kind.
 pub fn leads(next: &Next, address: u16, cost: u8, kind: NextKind) -> bool {
     next.address == address && next.cost == cost && next.kind == kind
 }

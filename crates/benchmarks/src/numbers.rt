@@ -19,6 +19,7 @@ impl Numbers {
         (self.state >> 48) as u16
     }
 
+    /// A number from 0 to 255.
     pub fn byte(&mut self) -> u8 {
         (self.word() / 256) as u8
     }

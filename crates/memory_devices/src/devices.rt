@@ -15,10 +15,12 @@ pub struct Bytes<'a> {
 }
 
 impl<'a> Bytes<'a> {
+    /// A source over bytes that gives 4,096 a call and never fails.
     pub fn whole(bytes: &'a [u8]) -> Bytes<'a> {
         Bytes::failing(bytes, 4096, u64::MAX)
     }
 
+    /// A source over bytes that gives `piece` of them a call, one at least, and fails at each call behind the first `calls`.
     pub fn failing(bytes: &'a [u8], piece: usize, calls: u64) -> Bytes<'a> {
         Bytes {
             rest: bytes,
@@ -73,10 +75,12 @@ pub struct Taken {
 }
 
 impl Taken {
+    /// A sink that takes 4,096 bytes a call, and fails only where memory is refused.
     pub fn new(alloc: std::alloc::Global) -> Taken {
         Taken::failing(alloc, 4096, u64::MAX)
     }
 
+    /// A sink that takes `piece` bytes a call, one at least, and fails at each call behind the first `calls`, and where memory is refused.
     pub fn failing(alloc: std::alloc::Global, piece: usize, calls: u64) -> Taken {
         Taken {
             bytes: Vec::new(alloc),
