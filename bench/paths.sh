@@ -1,16 +1,16 @@
 #!/usr/bin/env bash
-# Times `longest` and `potentials` over a procedure of 20,000 rows, of straight code and of branches (crates/timings/src/paths.rt), by
+# Times `longest` and `potentials` over a procedure of 20,000 rows, of straight code and of branches (crates/benchmarks/src/paths.rt), by
 # processor time. Prints milliseconds for each call, from the least of five runs with one call and of five with eleven; the aim is 100.
 set -euo pipefail
 here=$(cd "$(dirname "$0")" && pwd)
-(cd "$here/../crates/timings" && rt run > /dev/null)
-program=$here/../crates/timings/out/timings
+(cd "$here/../crates/benchmarks" && rt run > /dev/null < /dev/null)
+program=$here/../crates/benchmarks/out/benchmarks
 
 # The least processor time of five runs with these WALKS, POTENTIALS and BRANCHES, in seconds.
 TIMEFORMAT=%U
 least() {
     for _ in 1 2 3 4 5; do
-        { time "$program" "$@" > /dev/null; } 2>&1
+        { time "$program" 0 0 0 0 0 0 0 "$@" < /dev/null > /dev/null; } 2>&1
     done | sort -n | sed -n 1p
 }
 

@@ -10,14 +10,14 @@ program=$(realpath "${2:-$here/../galcert}")
 work=$(mktemp -d)
 trap 'rm -rf "$work"' EXIT
 cc -O2 -o "$work/libz80ex" "$here/libz80ex.c" -lz80ex
-(cd "$here/../crates/timings" && rt run > /dev/null)
-steps=$here/../crates/timings/out/timings
+(cd "$here/../crates/benchmarks" && rt run > /dev/null < /dev/null)
+steps=$here/../crates/benchmarks/out/benchmarks
 python3 "$here/roms.py" "$work"
 cd "$work"
 
 # So many events of a ROM by one of the four.
-checked() { "$steps" 0 0 0 "$2" 0 "$1.rom" "$1.cert"; }
-known() { "$steps" 0 0 0 0 "$2" "$1.rom" "$1.cert"; }
+checked() { "$steps" 0 0 0 0 0 "$2" 0 0 0 0 0 "$1.rom" "$1.cert" < /dev/null; }
+known() { "$steps" 0 0 0 0 0 0 "$2" 0 0 0 0 "$1.rom" "$1.cert" < /dev/null; }
 run() { "$program" run "$1.rom" "$1.cert" input "$2"; }
 libz80ex() { ./libz80ex "$1.rom" "$2"; }
 

@@ -1,22 +1,29 @@
-// The program that bench/ times and compares: EVENTS of a mixed loop on the checked step, ORDERS of calls without a circle and
-// CIRCLES with one, CALLS of `successors`, TWINS events of a ROM on the runner beside the checked step (each skipped where it is 0),
-// and the steps that standard input tells, one a line. Behind these five numbers stand a seed, a ROM's file and its certificate's.
+// The program that bench/ times and compares. Its arguments are EVENTS of a mixed loop on the checked step, ORDERS of calls without a circle
+// and CIRCLES with one, CALLS of `successors`, TWINS events of a ROM on the runner beside the checked step, CHECKED events of it on the
+// checked step alone and KNOWN on the known one, WALKS and POTENTIALS of a procedure of 20,000 rows (each skipped where it is 0), BRANCHES,
+// 0 where that procedure is straight code, a SEED, and the files of the ROM and of its certificate. Standard input tells steps, one a line.
 #![tactic(auto)]
 
 mod call_order;
 mod mixed_loop;
 mod numbers;
+mod paths;
+mod roms;
 mod rules;
 mod steps;
 mod twins;
 mod vectors;
 
+use crate::paths::{BRANCHES, STRAIGHT};
 use crate::twins::Twins;
+use address_map::Rom;
+use runner::{Summary, summary_lines};
+use std::io::Write;
 use std::{env, fs, io};
 
-/// The first six arguments: 0 where there is none.
-fn counts(rt: &HostRuntime) -> [u64; 6] {
-    let mut counts = [0; 6];
+/// The first eleven arguments: 0 where there is none.
+fn counts(rt: &HostRuntime) -> [u64; 11] {
+    let mut counts = [0; 11];
     let Ok(words) = env::args(rt) else {
         return counts;
     };
@@ -30,7 +37,19 @@ fn counts(rt: &HostRuntime) -> [u64; 6] {
 }
 
 fn main(rt: HostRuntime) -> io::Result<()> {
-    let [events, orders, circles, calls, twins, seed] = counts(&rt);
+    let [
+        events,
+        orders,
+        circles,
+        calls,
+        twins,
+        checked,
+        known,
+        walks,
+        potentials,
+        branches,
+        seed,
+    ] = counts(&rt);
     if events > 0 {
         print_loop(&rt, events)?;
     }
@@ -43,8 +62,11 @@ fn main(rt: HostRuntime) -> io::Result<()> {
     if calls > 0 {
         print_rules(&rt, calls)?;
     }
-    if twins > 0 {
-        print_twins(&rt, twins, seed)?;
+    if twins > 0 || checked > 0 || known > 0 {
+        print_events(&rt, [twins, checked, known], seed)?;
+    }
+    if walks > 0 || potentials > 0 {
+        print_paths(&rt, walks, potentials, branches > 0)?;
     }
     compare_steps(&rt)
 }
@@ -85,19 +107,69 @@ fn print_rules(rt: &HostRuntime, calls: u64) -> io::Result<()> {
     }
 }
 
-fn print_twins(rt: &HostRuntime, events: u64, seed: u64) -> io::Result<()> {
+/// Does so many events of a ROM in each of three ways: on two machines side by side, by the checked step and by the known one.
+fn print_events(rt: &HostRuntime, counts: [u64; 3], seed: u64) -> io::Result<()> {
     let words = env::args(rt)?.collect::<Vec<String>>(rt.alloc())?;
-    let (Some(rom), Some(cert)) = (words.get(7), words.get(8)) else {
+    let (Some(rom), Some(certificate)) = (words.get(12), words.get(13)) else {
         return println!(rt; "no files");
     };
-    let (rom, cert) = (fs::read(rt, rom.as_str())?, fs::read(rt, cert.as_str())?);
-    match twins::compared(rt.alloc(), rom.as_slice(), cert.as_slice(), events, seed) {
+    let rom = fs::read(rt, rom.as_str())?;
+    let certificate = fs::read(rt, certificate.as_str())?;
+    let [twins, checked, known] = counts;
+    if twins > 0 {
+        print_twins(rt, &rom, &certificate, twins, seed)?;
+    }
+    if checked > 0 {
+        print_summary(rt, roms::checked(&rom, checked))?;
+    }
+    if known > 0 {
+        print_summary(rt, roms::known(rt.alloc(), &rom, &certificate, known))?;
+    }
+    Ok(())
+}
+
+fn print_twins(
+    rt: &HostRuntime,
+    rom: &[u8],
+    certificate: &[u8],
+    events: u64,
+    seed: u64,
+) -> io::Result<()> {
+    match twins::compared(rt.alloc(), rom, certificate, events, seed) {
         Twins::Refused => println!(rt; "not accepted"),
         Twins::Differ(at) => println!(rt; "event {at} differs"),
         Twins::Agree(accepts) => println!(rt;
             "{events} events agree, {accepts} of them acceptances"
         ),
     }
+}
+
+/// Prints the lines that a run ends with.
+fn print_summary(rt: &HostRuntime, summary: Option<Summary>) -> io::Result<()> {
+    match summary {
+        Some(summary) => rt.stdout().write_all(summary_lines(&summary).bytes()),
+        None => println!(rt; "a trap, or no accepted ROM"),
+    }
+}
+
+/// Finds the longest walk and the potentials so many times, and prints them.
+fn print_paths(rt: &HostRuntime, walks: u64, potentials: u64, branches: bool) -> io::Result<()> {
+    let shape = if branches { BRANCHES } else { STRAIGHT };
+    let Ok(bytes) = shape.rom(rt.alloc()) else {
+        return println!(rt; "out of memory");
+    };
+    let Some(rom) = Rom::of(&bytes) else {
+        return println!(rt; "no ROM");
+    };
+    let Some(certificate) = paths::certificate_of(rt.alloc(), &shape, bytes.len()) else {
+        return println!(rt; "no certificate");
+    };
+    if certificate.rom_len() != rom.len() {
+        return println!(rt; "a ROM of another length");
+    }
+    let (sum, rows) = paths::walked(rt.alloc(), &rom, &certificate, walks);
+    let (first, count) = paths::paid(rt.alloc(), &rom, &certificate, potentials);
+    println!(rt; "a walk of {sum} T-states over {rows} rows; {count} potentials, the first {first}")
 }
 
 fn compare_steps(rt: &HostRuntime) -> io::Result<()> {
