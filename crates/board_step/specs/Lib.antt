@@ -1,4 +1,5 @@
 -- The machine's definitions. The first line of each file says whether the word "safe" reaches it (Trusted) or not (Helper).
+pub mod Calm
 pub mod Context
 pub mod Direct
 pub mod Env

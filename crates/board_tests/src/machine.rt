@@ -8,6 +8,7 @@ use address_map::{Map, RamKind, Region, Rom, Starts};
 use board_step::{Board, Costs, Env, Event, Inputs, Kind, Known, Profile, Reset, Trap, may_return};
 use rom_fetch::fetch;
 use t_states::cost;
+use z80_actions::Action;
 use z80_alu::{RegisterSet, Regs};
 
 // Each number of it is another, where a step can tell: an open read gives AA first and then BB, and R is 5C.
@@ -314,14 +315,16 @@ fn step_by_known(board: &mut Board, rom: &Rom, map: &Map, env: &Env) -> Option<E
     match board.kind() {
         Kind::Accept | Kind::Idle => Some(board.step_known(rom, map, None, env)),
         Kind::Instr => {
-            let (instr, len) = fetch(rom, board.regs().pc).ok()?;
+            let at = board.regs().pc;
+            let (instr, len) = fetch(rom, at).ok()?;
             let costs = Costs {
                 taken: cost(&instr, true),
                 not_taken: cost(&instr, false),
             };
             let known = Known {
-                instr,
-                len: u16::from(len),
+                action: Action::of(instr),
+                next: at.wrapping_add(u16::from(len)),
+                len,
                 costs,
                 may_return: may_return(&instr),
             };

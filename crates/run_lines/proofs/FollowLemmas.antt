@@ -10,6 +10,7 @@ use Rattle.rom_fetch.proofs.DecodedLemmas.{decoded_once}
 use Rattle.t_states.specs.Costs.{cost_of}
 use Rattle.std.proofs.lemmas.Bool.{false≢true}
 use Rattle.z80_decode.specs.declared.fault.DecodeFault.{DecodeFault}
+use Rattle.z80_actions.specs.Action.{instr_of}
 use Rattle.z80_decode.specs.declared.instr.Instr.{Instr}
 use Rattle.z80_decode.specs.declared.instr.Instr.TheVariants.{Return, ReturnIf, ReturnFromInterrupt, ReturnFromNonMaskable}
 use Rattle.board_step.specs.Run.{AcceptsAt, EndsAt, ReturnsTo, Run, is_return, spent, time_before}
@@ -41,15 +42,15 @@ same_instr : (i j : Instr) → (let r : Result Instr DecodeFault = Ok i in r) �
 same_instr i j e = cc
 
 pub says_some : (hardware : Hardware) (s new : State) (env : Env) (event : Event) (known : Known) (returned : Bool) → kind_of s ≡ kinds.Instr → IsKnownAt hardware.rom s.regs.pc known → Step hardware s env event new →
-    ((rom : List ℕ) (at : ℕ) (taken : Bool) → IsKnownAt rom at known → event.t ≡ cost_of known.instr taken → returned ≡ is_return known.instr taken) → SaysReturned hardware s env returned
+    ((rom : List ℕ) (at : ℕ) (taken : Bool) → IsKnownAt rom at known → event.t ≡ cost_of (instr_of known.action) taken → returned ≡ is_return (instr_of known.action) taken) → SaysReturned hardware s env returned
 says_some hardware s new env event known returned kind is step told =
     let c = context_of hardware s env in
     let x = step.executes kind in
-    let done : x.instr ≡ known.instr = same_instr x.instr known.instr (decoded_once (drop s.regs.pc hardware.rom) (Ok x.instr) (Ok known.instr) x.stands is.stands) in
-    let here = told hardware.rom s.regs.pc (instr_draft c known.instr).taken is (x.t ∙ ap (t_of c) done) in
+    let done : x.instr ≡ (instr_of known.action) = same_instr x.instr (instr_of known.action) (decoded_once (drop s.regs.pc hardware.rom) (Ok x.instr) (Ok (instr_of known.action)) x.stands is.stands) in
+    let here = told hardware.rom s.regs.pc (instr_draft c (instr_of known.action)).taken is (x.t ∙ ap (t_of c) done) in
     record {
       is = λ k instr stands.
-          here ∙ ap (λ (i : Instr). is_return i (instr_draft c i).taken) (same_instr known.instr instr (decoded_once (drop s.regs.pc hardware.rom) (Ok known.instr) (Ok instr) is.stands stands));
+          here ∙ ap (λ (i : Instr). is_return i (instr_draft c i).taken) (same_instr (instr_of known.action) instr (decoded_once (drop s.regs.pc hardware.rom) (Ok (instr_of known.action)) (Ok instr) is.stands stands));
       none = λ on. kind;
     }
 
@@ -58,12 +59,12 @@ says_none hardware s env none = record { is = λ kind instr stands. absurd (none
 
 -- what stands at the program counter says whether the event returns
 pub says_known : (hardware : Hardware) (s : State) (env : Env) (known : Known) → kind_of s ≡ kinds.Instr → IsKnownAt hardware.rom s.regs.pc known →
-    SaysReturned hardware s env (is_return known.instr (instr_draft (context_of hardware s env) known.instr).taken)
+    SaysReturned hardware s env (is_return (instr_of known.action) (instr_draft (context_of hardware s env) (instr_of known.action)).taken)
 says_known hardware s env known kind is =
     let c = context_of hardware s env in
     record {
       is = λ k instr stands.
-          ap (λ (i : Instr). is_return i (instr_draft c i).taken) (same_instr known.instr instr (decoded_once (drop s.regs.pc hardware.rom) (Ok known.instr) (Ok instr) is.stands stands));
+          ap (λ (i : Instr). is_return i (instr_draft c i).taken) (same_instr (instr_of known.action) instr (decoded_once (drop s.regs.pc hardware.rom) (Ok (instr_of known.action)) (Ok instr) is.stands stands));
       none = λ on. kind;
     }
 

@@ -12,6 +12,7 @@ ghost use Rattle.board_step.specs.declared.event.Kind.{Kind as Kinds};
 ghost use Rattle.run_lines.specs.Follows.{Follows, SaysReturned};
 ghost use Rattle.run_lines.specs.declared.teller.Moment.{Moment as Moments};
 ghost use Rattle.t_states.specs.Costs.{cost_of};
+ghost use Rattle.z80_actions.specs.Action.{instr_of};
 
 use board_step::{Event, Kind, Known};
 use z80_decode::Instr;
@@ -123,9 +124,9 @@ pub fn has_returned(known: &Known, event: &Event) -> bool
 
 /// Whether an instruction that took this many T-states returned.
 fn returned_after(known: &Known, t: u8) -> bool
-    ensures { (rom : List ℕ) (at : ℕ) (taken : Bool) → IsKnownAt rom at known.now → t ≡ cost_of known.now.instr taken → result ≡ is_return known.now.instr taken }
+    ensures { (rom : List ℕ) (at : ℕ) (taken : Bool) → IsKnownAt rom at known.now → t ≡ cost_of (instr_of known.now.action) taken → result ≡ is_return (instr_of known.now.action) taken }
 {
-    is_return(&known.instr, t == known.costs.taken)
+    is_return(&known.action.instr(), t == known.costs.taken)
 }
 
 /// Whether an instruction that is taken or not returns.
