@@ -8,3 +8,4 @@ pub mod PlayerLemmas
 pub mod PlayLemmas
 pub mod BeginLemmas
 pub mod StopLemmas
+pub mod StretchLemmas

@@ -5,5 +5,6 @@ pub mod Machine
 pub mod Output
 pub mod Player
 pub mod Playing
+pub mod Stretch
 -- passed on from below
 pub use Rattle.cert_checker.specs.Certified
