@@ -9,7 +9,7 @@ use Rattle.z80_draft.specs.Registers.{IsRegs}
 use Rattle.z80_moves.specs.declared.registers.WordRegister.TheVariants as registers
 use Rattle.address_map.specs.declared.region.Region.{Region}
 use Rattle.board_step.specs.Context.{Context}
-use Rattle.board_step.specs.Run.{is_return}
+use Rattle.known_instrs.specs.Returns.{is_return}
 use Rattle.board_step.specs.State.{State}
 use Rattle.board_step.specs.Step.{done, instr_draft}
 use Rattle.board_step.specs.Trap.{some_outside}

@@ -16,7 +16,7 @@ use Rattle.z80_moves.specs.declared.moves.Test.TheVariants as tests
 use Rattle.z80_moves.specs.declared.registers.WordRegister.TheVariants as registers
 use Rattle.address_map.specs.declared.region.Region.{Region}
 use Rattle.board_step.specs.Reads.{outside_of}
-use Rattle.board_step.specs.Run.{is_return}
+use Rattle.known_instrs.specs.Returns.{is_return}
 use Rattle.board_step.specs.State.{State}
 use Rattle.board_step.specs.Step.{instr_draft}
 use Rattle.board_step.specs.Trap.{some_outside}

@@ -17,7 +17,7 @@ use Rattle.z80_draft.specs.Registers.{IsRegs}
 use Rattle.board_step.specs.Context.{Context}
 use Rattle.board_step.specs.Env.{IsEnv}
 use Rattle.board_step.specs.Hardware.{hardware_of}
-use Rattle.board_step.specs.Run.{is_return}
+use Rattle.known_instrs.specs.Returns.{is_return}
 use Rattle.board_step.specs.State.{State, AreBytes, IsState}
 use Rattle.board_step.specs.Step.{done, instr_draft, t_of}
 use Rattle.board_step.specs.Trap.{trap_of_instr}

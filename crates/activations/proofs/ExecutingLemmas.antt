@@ -9,7 +9,7 @@ use Rattle.intervals.specs.Domain.{Entry}
 use Rattle.t_states.proofs.CostLemmas.{cost_greatest}
 use Rattle.board_step.specs.Context.{Context}
 use Rattle.board_step.specs.Env.{IsEnv}
-use Rattle.board_step.specs.Run.{is_return}
+use Rattle.known_instrs.specs.Returns.{is_return}
 use Rattle.board_step.specs.State.{IsState, State}
 use Rattle.board_step.specs.Step.{done, instr_draft, t_of}
 use Rattle.board_step.specs.declared.env.Env.{Env}

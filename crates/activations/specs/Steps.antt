@@ -3,7 +3,7 @@ use Rattle.std.specs.Prelude.{ℕ, ◌≤◌, ◌≡◌, Bool, true, false, List
 use Rattle.z80_decode.specs.declared.instr.Instr.{Instr}
 use Rattle.board_step.specs.Context.{Context, context_of}
 use Rattle.rom_fetch.specs.Decoded.{StandsAt}
-use Rattle.board_step.specs.Run.{is_return}
+use Rattle.known_instrs.specs.Returns.{is_return}
 use Rattle.board_step.specs.State.{State}
 use Rattle.board_step.specs.Step.{done, instr_draft, t_of}
 use Rattle.board_step.specs.Trap.{trap_of_instr}

@@ -1,4 +1,6 @@
+pub mod AtOnceLemmas
 pub mod RangeLemmas
+pub mod RepeatLemmas
 pub mod RunLemmas
 pub mod StateRangeLemmas
 pub mod StepLemmas

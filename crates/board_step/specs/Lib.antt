@@ -9,6 +9,7 @@ pub mod Known
 pub mod Memory
 pub mod Profile
 pub mod Reads
+pub mod Repeat
 pub mod Reset
 pub mod Run
 pub mod Safe

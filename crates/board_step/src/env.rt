@@ -2,8 +2,7 @@
 
 ghost use Rattle.board_step.specs.Env.{IsEnv, IsInputs};
 
-/// The bytes that the board's inputs give to one read: the three input ports, and the byte of an
-/// address that nothing drives.
+/// The bytes that the board's inputs give to one read: the three input ports, and the byte of an address that nothing drives.
 #[derive(Clone, Copy, PartialEq, Eq)]
 pub struct Inputs {
     pub in0: u8,

@@ -1,12 +1,10 @@
-// The machine: a Z80 on the board of docs/BOARD.md, one event at a time, with a test of each trap. Its
-// definitions say what the machine does and what a run of it is; every crate above cites them.
+// The machine: a Z80 on the board of docs/BOARD.md, one event at a time; its definitions say what it does and what a run of it is.
 #![tactic(auto)]
 
 mod board;
 mod context;
 mod env;
 mod event;
-mod known;
 mod profile;
 mod step;
 mod trap;
@@ -14,7 +12,7 @@ mod trap;
 pub use board::{Board, Reset};
 pub use env::{Env, Inputs};
 pub use event::{Event, Kind};
-pub use known::{Costs, Known, may_return};
+pub use known_instrs::{Costs, Known, may_return};
 pub use profile::{Profile, Trap};
 pub use z80_draft::{StackAccess, Write, displace, regs_are_in_range, set_is_in_range};
 pub use z80_moves::{

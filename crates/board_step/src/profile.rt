@@ -3,8 +3,7 @@
 use address_map::{Map, Region, Starts};
 use thiserror::Error;
 
-/// What a board's steps are tested against, beside the ROM: its address map, where instructions may start, and the
-/// bytes that the stack may use.
+/// What a board's steps are tested against, beside the ROM: its address map, where instructions may start, and the bytes that the stack may use.
 #[derive(Clone, Copy)]
 pub struct Profile<'a> {
     pub map: &'a Map,

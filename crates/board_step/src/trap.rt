@@ -33,11 +33,7 @@ fn trap_of_writes(map: &Map, writes: &[Write]) -> Option<Trap>
             _ => {}
         }
     }
-    if unmapped {
-        Some(Trap::WriteUnmapped)
-    } else {
-        None
-    }
+    unmapped.then_some(Trap::WriteUnmapped)
 }
 
 #[inline]

@@ -4,8 +4,8 @@ use Rattle.std.proofs.lemmas.Bool.{cases_eq, cases_lt}
 use Rattle.board_step.specs.Context.{context_of}
 use Rattle.board_step.specs.Hardware.{Hardware}
 use Rattle.board_step.specs.Kind.{kind_of}
-use Rattle.board_step.specs.Known.{IsKnownAt}
-use Rattle.board_step.specs.declared.known.Known.{Known}
+use Rattle.known_instrs.specs.Known.{IsKnownAt}
+use Rattle.known_instrs.specs.declared.known.Known.{Known}
 use Rattle.rom_fetch.proofs.DecodedLemmas.{decoded_once}
 use Rattle.t_states.specs.Costs.{cost_of}
 use Rattle.std.proofs.lemmas.Bool.{false≢true}
@@ -13,7 +13,8 @@ use Rattle.z80_decode.specs.declared.fault.DecodeFault.{DecodeFault}
 use Rattle.z80_actions.specs.Action.{instr_of}
 use Rattle.z80_decode.specs.declared.instr.Instr.{Instr}
 use Rattle.z80_decode.specs.declared.instr.Instr.TheVariants.{Return, ReturnIf, ReturnFromInterrupt, ReturnFromNonMaskable}
-use Rattle.board_step.specs.Run.{AcceptsAt, EndsAt, ReturnsTo, Run, is_return, spent, time_before}
+use Rattle.board_step.specs.Run.{AcceptsAt, EndsAt, ReturnsTo, Run, spent, time_before}
+use Rattle.known_instrs.specs.Returns.{is_return}
 use Rattle.board_step.specs.State.{State}
 use Rattle.board_step.specs.Step.{Step, instr_draft, t_of}
 use Rattle.board_step.specs.declared.env.Env.{Env}

@@ -4,7 +4,8 @@ use Rattle.board_step.specs.Context.{context_of}
 use Rattle.rom_fetch.specs.Decoded.{StandsAt}
 use Rattle.board_step.specs.Hardware.{Hardware}
 use Rattle.board_step.specs.Kind.{kind_of}
-use Rattle.board_step.specs.Run.{AcceptsAt, ReturnsTo, Run, is_return, time_before}
+use Rattle.board_step.specs.Run.{AcceptsAt, ReturnsTo, Run, time_before}
+use Rattle.known_instrs.specs.Returns.{is_return}
 use Rattle.board_step.specs.State.{State}
 use Rattle.board_step.specs.Step.{instr_draft}
 use Rattle.board_step.specs.declared.env.Env.{Env}

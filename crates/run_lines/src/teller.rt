@@ -3,8 +3,8 @@
 ghost use Rattle.std.specs.Prelude.{◌≡◌, ◌≢◌, ◌<◌, ◌+◌, ◌-◌, ◌++◌, ◌^◌, ℕ, List, Bool, true};
 ghost use Rattle.board_step.specs.Hardware.{Hardware};
 ghost use Rattle.board_step.specs.Kind.{kind_of};
-ghost use Rattle.board_step.specs.Known.{IsKnownAt};
-ghost use Rattle.board_step.specs.Run.{is_return};
+ghost use Rattle.known_instrs.specs.Known.{IsKnownAt};
+ghost use Rattle.known_instrs.specs.Returns.{is_return};
 ghost use Rattle.board_step.specs.State.{State};
 ghost use Rattle.board_step.specs.Step.{Step};
 ghost use Rattle.board_step.specs.declared.env.Env.{Env};

@@ -9,3 +9,4 @@ pub mod PlayLemmas
 pub mod BeginLemmas
 pub mod StopLemmas
 pub mod StretchLemmas
+pub mod TurnLemmas

@@ -6,5 +6,6 @@ pub mod Output
 pub mod Player
 pub mod Playing
 pub mod Stretch
+pub mod Turns
 -- passed on from below
 pub use Rattle.cert_checker.specs.Certified

@@ -2,7 +2,8 @@
 use Rattle.std.proofs.Common.{◌≡◌, ◌≤◌, ◌<◌, ◌+◌, ◌-◌, ◌∙◌, ◌⊎◌, inl, inr, ℕ, zero, suc, false, List, [], ◌∷◌, ℤ, pos, ◌+ℤ◌, ◌≤ℤ◌, sym, ap, subst, arith}
 use Rattle.std.proofs.lemmas.Int.{ints}
 use Rattle.board_step.specs.Hardware.{Hardware}
-use Rattle.board_step.specs.Run.{Run, is_return, spent, time_before}
+use Rattle.board_step.specs.Run.{Run, spent, time_before}
+use Rattle.known_instrs.specs.Returns.{is_return}
 use Rattle.board_step.specs.State.{IsState, State}
 use Rattle.board_step.specs.Step.{Step, done, instr_draft, t_of}
 use Rattle.frame_clock.specs.Clock.{since}

@@ -6,7 +6,8 @@ use Rattle.board_step.specs.Context.{context_of}
 use Rattle.rom_fetch.specs.Decoded.{Spells}
 use Rattle.board_step.specs.Env.{IsEnv}
 use Rattle.board_step.specs.Reset.{IsReset}
-use Rattle.board_step.specs.Run.{Run, time_before, AcceptsAt, is_return, ReturnsTo, EndsAt, GivesBack}
+use Rattle.board_step.specs.Run.{Run, time_before, AcceptsAt, ReturnsTo, EndsAt, GivesBack}
+use Rattle.known_instrs.specs.Returns.{is_return}
 use Rattle.board_step.specs.Safe.{KeepsWithin, Safe}
 use Rattle.board_step.specs.State.{State}
 use Rattle.board_step.specs.Step.{Step, instr_draft}

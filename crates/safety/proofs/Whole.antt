@@ -6,7 +6,8 @@ use Rattle.board_step.specs.Env.{IsEnv}
 use Rattle.board_step.specs.Kind.{kind_of}
 use Rattle.board_step.specs.Reset.{IsReset}
 use Rattle.board_step.specs.Hardware.{Hardware}
-use Rattle.board_step.specs.Run.{AcceptsAt, Run, is_return}
+use Rattle.board_step.specs.Run.{AcceptsAt, Run}
+use Rattle.known_instrs.specs.Returns.{is_return}
 use Rattle.board_step.specs.Safe.{KeepsWithout, Safe}
 use Rattle.board_step.specs.State.{IsState, State}
 use Rattle.board_step.specs.Step.{Step, accepted, done, instr_draft, t_of}

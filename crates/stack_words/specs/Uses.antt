@@ -11,7 +11,7 @@ use Rattle.z80_moves.specs.Moves.{moves_of}
 use Rattle.z80_moves.specs.Operands.{stack_register}
 use Rattle.z80_moves.specs.declared.registers.WordRegister.{WordRegister}
 use Rattle.z80_moves.specs.declared.registers.WordRegister.TheVariants.{Pc}
-use Rattle.board_step.specs.Run.{is_return}
+use Rattle.known_instrs.specs.Returns.{is_return}
 use Rattle.stack_words.specs.Calm.{are_calm}
 
 -- whether an instruction pushes a word: PUSH, CALL, CALL cc where it is taken, and RST
