@@ -2,7 +2,7 @@
 # Times the checked step, the known step and `galcert run` beside Debian's libz80ex (apt-get install libz80ex-dev) on five ROMs
 # (bench/roms.py), by processor time, in turns: bench/run.sh [EVENTS] [PROGRAM], 20,000,000 events and ./galcert where none are named.
 # First all must leave the same registers, but for bits 5 and 3 of F, and the same RAM. Prints nanoseconds an event, from the least of
-# five rounds less the least of five with one event, and the parts of libz80ex's time.
+# fifteen rounds less the least of fifteen with one event, and the parts of libz80ex's time. It takes some four minutes.
 set -euo pipefail
 here=$(cd "$(dirname "$0")" && pwd)
 events=${1:-20000000}
@@ -41,7 +41,7 @@ for rom in six mixed fill nops random; do
     for way in checked known run; do
         [ "$(board $way $rom 100003)" = "$wanted" ] || { echo "$rom: $way and libz80ex differ" >&2; exit 1; }
     done
-    for _ in 1 2 3 4 5; do
+    for _ in {1..15}; do
         for way in libz80ex checked known run; do
             seconds $way $rom "$events" >> $way.$rom
             seconds $way $rom 1 >> $way.$rom.none
