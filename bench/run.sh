@@ -2,7 +2,7 @@
 # Times the checked step, the known step and `galcert run` beside Debian's libz80ex (apt-get install libz80ex-dev) on five ROMs
 # (bench/roms.py), by processor time, in turns: bench/run.sh [EVENTS] [PROGRAM], 20,000,000 events and ./galcert where none are named.
 # First all must leave the same registers, but for bits 5 and 3 of F, and the same RAM. Prints nanoseconds an event, from the least of
-# fifteen rounds less the least of fifteen with one event, and the parts of libz80ex's time. It takes some four minutes.
+# fifteen rounds less the least of fifteen with one event, and the parts of libz80ex's time.
 set -euo pipefail
 here=$(cd "$(dirname "$0")" && pwd)
 events=${1:-20000000}
