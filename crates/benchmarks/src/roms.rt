@@ -1,9 +1,8 @@
 // Events of a ROM that goes round for ever, on the checked step and on the known one: all that a run takes from outside is 0.
 
-ghost use Rattle.std.specs.Prelude.{◌≡◌, length};
-
+use crate::steps::last_step;
 use address_map::{Map, RamKind, Region, Rom, Starts};
-use board_step::{Board, Env, Inputs, Profile, Trap};
+use board_step::{Board, Env, Inputs, Profile};
 use certificate::read;
 use runner::cert_checker::check;
 use runner::{Machine, ResetLine, Summary};
@@ -33,16 +32,6 @@ fn sum(bytes: &[u8]) -> u32 {
     sum
 }
 
-/// Does so many events by the checked step, or as many as there are before a trap.
-fn do_checked(board: &mut Board, rom: &Rom, profile: &Profile, events: u64) -> Result<(), Trap>
-    requires { profile.now.map.now.rom_len ≡ length rom.now }
-{
-    for _ in 0..events {
-        board.step_checked(rom, profile, &QUIET)?;
-    }
-    Ok(())
-}
-
 /// The board after so many events by the checked step, with no T-states told; None where one trapped. Each address is a start.
 pub fn checked(rom: &[u8], events: u64) -> Option<Summary> {
     let rom = Rom::of(rom)?;
@@ -60,7 +49,7 @@ pub fn checked(rom: &[u8], events: u64) -> Option<Summary> {
         },
     };
     let mut board = Board::reset(&START.reset());
-    do_checked(&mut board, &rom, &profile, events).ok()?;
+    last_step(&mut board, &rom, &profile, &QUIET, events).ok()?;
     let regs = board.regs();
     let main = regs.main;
     Some(Summary {

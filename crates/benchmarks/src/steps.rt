@@ -1,4 +1,4 @@
-// The one call of the checked step: were there a second one, the compiler would not build the step into its caller.
+// Events by the checked step in one environment: the loop that the timings and the vectors share.
 
 ghost use Rattle.std.specs.Prelude.{◌≡◌, length};
 

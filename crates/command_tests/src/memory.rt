@@ -1,10 +1,12 @@
 // Memory that is refused once, at each of the growths in turn (`tools/memory.sh command_tests`): the command has status 4 and writes
-// nothing, and the next one goes as if nothing had been. A refusal is told by a line.
+// nothing, and the next one goes as if nothing had been; so does `check`, which answers `NoMemory`. A refusal is told by a line.
 
+use certificate::read;
 use command_samples::{
     JUMP, JUMP_CERTIFICATE, Outcome, SAVE, SAVE_CERTIFICATE, SAVE_TABLE, THREE, run_whole,
     verify_whole,
 };
+use runner::cert_checker::{CheckFault, check};
 use std::test::Fail;
 
 /// Whether a command ended for want of memory and wrote nothing; with status 3 it was the sink of this test that wanted memory.
@@ -36,6 +38,25 @@ fn run_again(rt: HostRuntime) -> Result<(), Fail> {
         if !after.is(0, THREE) {
             println!(rt; "refused in run")?;
             assert!(rt; wants_memory(&after));
+            refused = refused.wrapping_add(1);
+        }
+    }
+    assert!(rt; refused <= 1);
+    Ok(())
+}
+
+/// The one growth of `check`, of the table of instructions, behind those of the certificate that it is handed.
+#[test]
+fn check_again(rt: HostRuntime) -> Result<(), Fail> {
+    let alloc = rt.alloc();
+    let mut refused = 0u8;
+    for _ in 0..3 {
+        let Ok(certificate) = read(alloc, JUMP_CERTIFICATE.as_bytes()) else {
+            continue;
+        };
+        if let Err(fault) = check(alloc, JUMP, certificate) {
+            println!(rt; "refused in check of a certificate")?;
+            assert!(rt; fault == CheckFault::NoMemory);
             refused = refused.wrapping_add(1);
         }
     }
