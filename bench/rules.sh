@@ -4,11 +4,13 @@
 # usage: bench/rules.sh [PROGRAM]        PROGRAM is ./galcert where none is named
 #
 # It makes ROMs with certificates that are accepted: straight-line code of 65,529 rows in procedures with a time, and of half as many;
-# 10,000 calls of 1,022 procedures; 65,535 rows at two addresses, where the row that covers is the last one; 2,000 calls of a procedure of 2,000
-# exits, without times and with them, where 10 s are the aim; and rows at two addresses, with pairs and shapes, where each is covered by another: in
-# order, and at random, where 60 s are the aim for 65,535. Each is handed to `PROGRAM verify` up to three times, and as often for a ROM of another
-# length, which is refused at once: what is told are the least processor time and the greatest memory beyond those of reading. Rows in order are found
-# beside the one that covered last; at random they are looked for, which grows fourfold with twice the rows.
+# 10,000 calls of 1,022 procedures; 65,535 rows at two addresses, where the row that covers is the last one; and certificates that are made to take
+# long, where 5 s are the aim (docs/CHECKER.md, "How long judging takes"): 2,700 calls of a procedure of 8,200 exits that leave the same, without times and
+# with them; 32,000 rows at a call of a procedure with as many exits, each of which leaves something else, likewise; as many rows at a call of a procedure
+# of as many rows without an exit; 65,535 rows at two addresses, with pairs and shapes, where each is covered by another: in order, and at random; 65,024
+# rows at one DJNZ at random; 32,000 rows that pay to as many; and 65,000 rows where states are told apart: by a row that covers all, and by 256 rows at
+# random. Each is handed to `PROGRAM verify` up to three times, and as often for a ROM of another length, which is refused at once: what is told are the
+# least processor time and the greatest memory beyond those of reading.
 set -eu
 cd "$(dirname "$0")/.."
 exec python3 - "${1:-./galcert}" <<'PYTHON'
@@ -23,10 +25,11 @@ ANY = "* " * 10
 OWN = "*@AF *@BC *@DE *@HL *@IX *@IY *@AF' *@BC' *@DE' *@HL' "
 
 
-def text(rom, procs, rows):
+def text(rom, procs, rows, splits=()):
     """A certificate of version 1 without an NMI routine."""
     head = f"galcert 1\nrom {len(rom)}\nstack 4380 4400\nbudget -\n"
-    return head + "".join(f"proc {proc}\n" for proc in procs) + "".join(f"row {row}\n" for row in rows) + "end\n"
+    lists = (("proc", procs), ("split", splits), ("row", rows))
+    return head + "".join(f"{name} {line}\n" for name, lines in lists for line in lines) + "end\n"
 
 
 def word(value):
@@ -103,6 +106,70 @@ def exits(places, count, timed):
     return rom, text(rom, procs, rows)
 
 
+def one(number):
+    """A pair that holds one word."""
+    return f"{number:04X}-{number:04X}:{number // 256:02X}-{number // 256:02X}:{number % 256:02X}-{number % 256:02X}"
+
+
+def shuffled(things, seed):
+    things = list(things)
+    random.Random(seed).shuffle(things)
+    return things
+
+
+def different_exits(count, timed):
+    """So many rows at one call, told apart by DE, of a procedure with as many exits, told apart by BC."""
+    rom = b"\x18\xFE\xCD\x0A\x00\xC9\x00\x00\x00\x00\x00\xC9"
+    time = (lambda number: number) if timed else (lambda _: "-")
+    procs = ["main 0000 2 0 -", f"sub 0002 1 4 {time(41)}", f"sub 000A 0 2 {time(14)}"]
+    rows = [f"0 0000 u {ANY}- - - -"]
+    rows += [f"1 0002 s * * {one(number)} {'* ' * 7}- - - {time(41)}" for number in range(count)]
+    rows += [f"1 0005 s {ANY}- - - {time(10)}", f"2 000A s {ANY}- - - {time(14)}", f"2 000B s {ANY}- - - {time(10)}"]
+    rows += [f"2 000B s * {one(number)} {'* ' * 8}- - - {time(10)}" for number in shuffled(range(count), 3)]
+    return rom, text(rom, procs, rows)
+
+
+def endless(count):
+    """So many rows at one call of a procedure of as many rows that never ends."""
+    rom = b"\x18\xFE\xCD\x0A\x00\xC9\x00\x00\x00\x00\x18\xFE"
+    rows = [f"0 0000 u {ANY}- - - -"]
+    rows += [f"1 0002 s * * {one(number)} {'* ' * 7}- - - -" for number in range(count)]
+    rows += [f"2 000A s {ANY}- - - -"] * count
+    return rom, text(rom, ["main 0000 2 0 -", "sub 0002 1 4 -", "sub 000A 0 2 -"], rows)
+
+
+def djnz(each):
+    """Rows at one DJNZ, at random: 256 values of B with each of so many of DE."""
+    rows = [f"0 0000 u {ANY}- - - -"]
+    rows += [f"0 0000 s * {b:02X}00-{b:02X}FF:{b:02X}-{b:02X}:00-FF {one(de)} {'* ' * 7}- - * -"
+             for b, de in shuffled([(b, de) for b in range(256) for de in range(each)], 7)]
+    rows += [f"0 0002 u {ANY}- - - -", f"0 0002 s {ANY}- - * -"]
+    return b"\x10\xFE\x18\xFE", text(b"\x10\xFE\x18\xFE", ["main 0000 0 2 -"], rows)
+
+
+def all_meet(count):
+    """So many rows of a timed procedure at a NOP, each of which meets each of as many at a RET."""
+    rows = [f"0 0000 u {ANY}- - - -"]
+    rows += [f"1 0002 s {ANY}- - - 90000000"] * count
+    rows += [f"1 0003 s {ANY}- - - {10 + number}" for number in range(count)]
+    return b"\x18\xFE\x00\xC9", text(b"\x18\xFE\x00\xC9", ["main 0000 2 0 -", "sub 0002 1 4 100000000"], rows)
+
+
+def told_apart(count, by_one):
+    """Rows that lead to an address where states are told apart by B: to rows that cover each value, or to 256 rows among others at random."""
+    rows = [f"0 0000 u {ANY}- - - -"]
+    if by_one:
+        rows += [f"0 0000 s * * {one(number)} {'* ' * 7}- - - -" for number in range(count // 2)]
+        rows += [f"0 0001 u {ANY}- - - -"]
+        rows += [f"0 0001 s * * {one(number)} {'* ' * 7}- - - -" for number in range(count // 2)]
+        return TWO, text(TWO, ["main 0000 0 0 -"], rows, ["0 0000 B", "0 0001 B"])
+    values = [f"{b:02X}00-{b:02X}FF:{b:02X}-{b:02X}:00-FF" for b in range(256)]
+    rows += [f"0 0000 s {ANY}- - - -"] * (count // 2)
+    rows += shuffled([f"0 0001 u * {value} {'* ' * 8}- - - -" for value in values]
+                     + [f"0 0001 u * {value} {one(number)} {'* ' * 7}- - - -" for number in range(count // 512) for value in values], 4)
+    return b"\x00\x18\xFE", text(b"\x00\x18\xFE", ["main 0000 0 0 -"], rows, ["0 0001 B"])
+
+
 def run(rom, cert):
     """The processor time in seconds, the greatest memory in KB and the first line of the answer of one run."""
     child = subprocess.Popen([PROGRAM, "verify", rom, cert], stdout=subprocess.PIPE, stderr=subprocess.STDOUT)
@@ -143,9 +210,16 @@ with tempfile.TemporaryDirectory() as folder:
     print(f"twice the rows: {whole / half:.2f} times as long")
     tell(folder, "10,000 calls of 1,022 procedures", lambda: calls(10000, 1022))
     tell(folder, "65,535 rows at two addresses, the last covers", lambda: many_last(65535))
-    tell(folder, "2,000 calls of a procedure of 2,000 exits", lambda: exits(2000, 2000, False), 1)
-    tell(folder, "the same with times", lambda: exits(2000, 2000, True), 1)
-    tell(folder, "65,535 rows at two addresses, each covers once", lambda: many_each(65535, False), 1)
-    tell(folder, "8,192 rows of these at random", lambda: many_each(8192, True), 1)
-    tell(folder, "65,535 rows of these at random", lambda: many_each(65535, True), 1)
+    tell(folder, "2,700 calls of a procedure of 8,200 exits", lambda: exits(2700, 8200, False))
+    tell(folder, "the same with times", lambda: exits(2700, 8200, True))
+    tell(folder, "32,000 calls of one of 32,000 different exits", lambda: different_exits(32000, False))
+    tell(folder, "the same with times", lambda: different_exits(32000, True))
+    tell(folder, "32,000 calls of one of 32,000 rows that never ends", lambda: endless(32000))
+    tell(folder, "65,535 rows at two addresses, each covers once", lambda: many_each(65535, False))
+    tell(folder, "8,192 rows of these at random", lambda: many_each(8192, True))
+    tell(folder, "65,535 rows of these at random", lambda: many_each(65535, True))
+    tell(folder, "65,024 rows at one DJNZ at random", lambda: djnz(254))
+    tell(folder, "32,000 rows that pay to 32,000", lambda: all_meet(32000))
+    tell(folder, "65,000 rows where B is told apart, one covers", lambda: told_apart(65000, True))
+    tell(folder, "the same, 256 rows at random cover", lambda: told_apart(65000, False), 1)
 PYTHON

@@ -3,8 +3,8 @@
 #
 # usage: tools/edits.sh [CRATE..]        with no name: every crate that has more-edits
 #
-# It works in a copy of the repository, where a crate's more-edits stand in the place of its must-fail edits, and leaves
-# the repository as it is. The last line is 'N refused, M not', and the status is 0 only if all were refused.
+# It works in a copy of the repository and leaves the repository as it is. In the copy, a crate's more-edits stand in the
+# place of its must-fail edits. The last line is 'N refused, M not'. The status is 0 only if all were refused.
 set -u
 cd "$(dirname "$0")/.." || exit 2
 top=$PWD
@@ -21,21 +21,6 @@ for crate; do
     fi
 done
 
-# The crate's name, and those of the crates that it stands on, as crates.txt lists them.
-with_below() {
-    awk -v wanted="$1" '
-        { sub(/#.*/, "") }
-        /:/ { split($0, side, ":"); split(side[1], word, " "); below[word[1]] = side[2] }
-        function visit(name, list, i, n) {
-            if (name in seen || !(name in below)) return
-            seen[name] = 1
-            print name
-            n = split(below[name], list, " ")
-            for (i = 1; i <= n; i++) visit(list[i])
-        }
-        END { visit(wanted) }' crates.txt
-}
-
 copy=$(mktemp -d) || exit 2
 trap 'rm -rf "$copy"' EXIT
 trap 'exit 130' INT
@@ -50,7 +35,7 @@ for crate; do
     git ls-files -z --cached --others --exclude-standard |
         tar --null --files-from=- --ignore-failed-read -cf - 2>/dev/null |
         tar -xf - -C "$copy/repository"
-    for below in $(with_below "$crate"); do
+    for below in $(tools/crates.py below "$crate"); do
         [ -d "crates/$below/out" ] && cp -a "crates/$below/out" "$copy/repository/crates/$below/"
     done
     cd "$copy/repository" || exit 2
@@ -59,8 +44,8 @@ for crate; do
     mv "crates/$crate/more-edits" "crates/$crate/must-fail"
     edits=$(ls "crates/$crate/must-fail" | grep -c '\.edit$')
     # An edit of a crate that is not proved without it would seem to be refused.
-    if (cd "crates/$crate" && rt check) >"$copy/said" 2>&1; then
-        rt must-fail "$crate" 2>&1 | tee "$copy/said"
+    if (cd "crates/$crate" && "$top/tools/rt" check) >"$copy/said" 2>&1; then
+        "$top/tools/rt" must-fail "$crate" 2>&1 | tee "$copy/said"
     else
         echo "edits: $crate itself is not proved" | tee "$copy/said" >&2
     fi

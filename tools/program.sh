@@ -205,6 +205,114 @@ judge "--cert without a FILE" 2 '' +
 ask check "$six.rom"
 judge "no word for ANNOT" 2 '' +
 
+# A FILE that is also read is told before anything is read, and stays as it was.
+cp "$six.rom" gone.rom
+cp six.toml gone.toml
+ln -s gone.rom link.rom
+ln gone.rom hard.rom
+same() {
+    ask check gone.rom gone.toml --cert "$2"
+    judge "$1" 2 '' "FILE $2 and $3 are the same file"$'\n'
+    holds "$1: ROM" gone.rom "$six.rom"
+    holds "$1: ANNOT" gone.toml six.toml
+}
+same "FILE is ROM" gone.rom "ROM gone.rom"
+same "FILE is ROM by its folder" ./gone.rom "ROM gone.rom"
+same "FILE is ROM by a link" link.rom "ROM gone.rom"
+same "FILE is ROM by a second name" hard.rom "ROM gone.rom"
+same "FILE is ANNOT" gone.toml "ANNOT gone.toml"
+same "FILE is ANNOT by its whole name" "$work/gone.toml" "ANNOT gone.toml"
+"$galcert" check /dev/stdin gone.toml --cert gone.rom > out 2> err < gone.rom
+echo $? > status
+judge "FILE is standard input" 2 '' $'FILE gone.rom and ROM /dev/stdin are the same file\n'
+holds "FILE is standard input: ROM" gone.rom "$six.rom"
+ask check missing.rom six.toml --cert missing.rom
+judge "FILE is a ROM that is not there" 2 '' $'FILE missing.rom and ROM missing.rom are the same file\n'
+ask check "$six.rom" six.toml --cert new.cert
+judge "FILE is new" 0 "$table" ''
+
+# Words that are not UTF-8.
+ask check $'gone\xFF.rom' six.toml
+judge "a ROM whose name is not UTF-8" 2 '' $'word 2 is not UTF-8: gone\\xff.rom\n'
+ask $'\xC3' "$six.rom"
+judge "a command that is not UTF-8" 2 '' $'word 1 is not UTF-8: \\xc3\n'
+
+# Keys with control characters stay on one line.
+printf '"accepted\\nmain\\u001B[2J\\u009F \\"\\\\\\u0000\\b\\t\\f\\r\\u007F" = 1\nlow = 0x4380\ntop = 0x4400\n' > control.toml
+ask check "$six.rom" control.toml
+judge "a key with control characters" 1 $'bad annotation accepted\\nmain\\u001B[2J\\u009F "\\\\u0000\\b\\t\\f\\r\\u007F\n' ''
+printf 'low = 0x4380\ntop = 0x4400\ntext = 1\n' > text.toml
+ask check "$six.rom" text.toml
+judge "an unknown key called text" 1 $'bad annotation text\n' ''
+
+# Outputs that take a part of what they are given: files of at most 1,024 bytes. A text of 1,025 to 4,096 bytes is written at once,
+# and the last line of a certificate of 1,026 bytes is cut, so that only the count of a write tells it.
+small() { (trap '' XFSZ; ulimit -f 1; "$galcert" "$@" > out 2> err < /dev/null; echo $? > status); }
+{
+    printf '\x31\x00\x44'
+    for at in $(seq 0 29); do printf "\\xCD\\x$(printf %02X $((128 + at)))\\x00"; done
+    printf '\x18\xFE'
+    head -c 33 /dev/zero
+    yes $'\xC9' | head -n 30 | tr -d '\n'
+} > calls.rom
+ask check calls.rom six.toml --cert calls.cert
+cp out whole.table
+judge "30 procedures" 0 "$(cat whole.table)"$'\n' ''
+small verify calls.rom calls.cert
+head -c 1024 whole.table > part.table
+holds "standard output has the first 1,024 bytes" out part.table
+: > out
+judge "a standard output that is full at 1,024 bytes" 3 '' $'device error\n'
+printf '\x31\x00\x44' > nops.rom
+head -c 17 /dev/zero >> nops.rom
+printf '\x18\xFE' >> nops.rom
+{ cat six.toml; echo 'inline = ['; for at in $(seq 256 270); do echo "{ at = $at },"; done; echo ']'; } > nops.toml
+ask check nops.rom nops.toml --cert nops.cert
+judge "a certificate of 1,026 bytes" 0 "$table" ''
+cases=$((cases + 1))
+[ "$(wc -c < nops.cert)" = 1026 ] || { echo "not as it should be: a certificate of 1,026 bytes has $(wc -c < nops.cert)"; wrong=$((wrong + 1)); }
+small check nops.rom nops.toml --cert part.cert
+judge "a FILE that is full at 1,024 bytes" 3 '' $'device error\n'
+head -c 1024 nops.cert > first.cert
+holds "FILE has the first 1,024 bytes" part.cert first.cert
+
+# Memory that runs out.
+rows 65535 > rows.cert
+(ulimit -v 20000; "$galcert" verify "$six.rom" rows.cert > out 2> err < /dev/null; echo $? > status)
+judge "65,535 rows in 20 MB" 4 '' $'out of memory\n'
+
+# Memory that is refused once, at each growth in turn: the answer is `out of memory`, and nothing is written; or it is the whole
+# answer, where the program can do without.
+cc -O2 -shared -fPIC -o refuse.so "$here/tools/refuse.c" -ldl
+growths() {
+    local name=$1 step=$2 growth=1 bad=0
+    shift 2
+    "$galcert" "$@" > whole 2> /dev/null < /dev/null
+    rm -f kept.cert
+    while :; do
+        rm -f refused kept.cert
+        REFUSE=$growth REFUSED=refused LD_PRELOAD=./refuse.so "$galcert" "$@" > out 2> err < /dev/null
+        local status=$?
+        [ -e refused ] || break
+        if [ $status = 4 ]; then
+            [ ! -s out ] && [ ! -e kept.cert ] && [ "$(cat err)" = "out of memory" ] || bad=$((bad + 1))
+        else
+            [ $status = 0 ] && cmp -s out whole || bad=$((bad + 1))
+        fi
+        growth=$((growth + step))
+    done
+    cases=$((cases + 1))
+    [ $bad = 0 ] && [ $growth -gt 40 ] || { echo "not as it should be: $name: of $growth growths $bad are told otherwise"; wrong=$((wrong + 1)); }
+}
+growths "verify without memory" 1 verify "$six.rom" "$six.cert"
+growths "run without memory" 1 run "$six.rom" "$six.cert" "$six.input" 3
+growths "migrate without memory" 1 migrate "$six.cert"
+growths "check without memory" 1 check "$six.rom" six.toml --cert kept.cert
+growths "check of a routine without memory" 1 check loop.rom loop.toml --cert kept.cert
+states=$here/examples/state-table/states
+growths "check of the states without memory" 40 check "$states.rom" "$states.toml" --cert kept.cert
+growths "verify of the states without memory" 10 verify "$states.rom" "$states.cert"
+
 # Certificates carried to version 2.
 ask migrate "$six.cert"
 cp out migrated.cert
@@ -240,5 +348,5 @@ printf 'reset 50687 A5\n1 1A 2B 3C 4D 5E 6F 1\n1 00 00 00 00 00 00 0\n' > two.in
 ask run <(bytes "$six.rom") <(bytes "$six.cert") <(bytes two.input) 9
 judge "a byte at a time, two lines" 0 $'done 2 20 0003 4400\nregs A5A5 A5A5 A5A5 A5A5 A5A5 A5A5\nsum 168960 168960 42240\n' ''
 
-echo "$cases cases, $wrong not as they should be"
+echo "$((cases - wrong)) passed, $wrong failed"
 [ "$wrong" = 0 ]

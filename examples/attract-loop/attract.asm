@@ -269,7 +269,7 @@ credits:    ld a,(frames)
             and 0Fh
             ret nz
             ld de,credit_text
-            ld bc,011Fh
+            ld bc,021Fh
             call print
             ld a,(credit)
             jp pair
@@ -670,7 +670,7 @@ script:     defb 2
             defb 9
             defb 5,8,3
             defw star
-            defb 5,0,10
+            defb 5,2,10
             defw corridor
             defb 1,60
             defb 6,0,8,16
@@ -884,11 +884,11 @@ star:       defb 17h,15h,1Dh,0
             defb 01h,1Fh,01h,0
             defb 1Fh,05h,1Fh,0
             defb 1Fh,05h,1Ah,0FFh
-corridor:   defb 1Fh,11h,11h,0
+corridor:   defb 1Fh,11h,0          ; of two columns, and the I of one: the word has 28, as many as are seen
             defb 1Fh,11h,1Fh,0
             defb 1Fh,05h,1Ah,0
             defb 1Fh,05h,1Ah,0
-            defb 11h,1Fh,11h,0
+            defb 1Fh,0
             defb 1Fh,11h,0Eh,0
             defb 1Fh,11h,1Fh,0
             defb 1Fh,05h,1Ah,0FFh

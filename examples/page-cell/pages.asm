@@ -733,12 +733,12 @@ bad_text:   defm "BAD"
 then_text:  defm "THE LIGHTS COME NEXT"
             defb 0
 
-names:      defm "* RAIN *"
-            defm "* BARS *"
-            defm "* NEWS *"
-            defm "* BALL *"
-            defm "* WALL *"
-            defm "* WEFT *"
+names:      defm "  RAIN  "
+            defm "  BARS  "
+            defm "  NEWS  "
+            defm "  BALL  "
+            defm "  WALL  "
+            defm "  WEFT  "
 
 ; The news, of lines of 8 letters.
 news:       defm "TONIGHT "
@@ -784,7 +784,7 @@ news:       defm "TONIGHT "
             defb 0
 
 ; Two posters, of 31 rows of 8 tiles.
-rocket:     defm "* SHIP *"
+rocket:     defm "  SHIP  "
             defm "        "
             defm " .    . "
             defm "   /\\   "
@@ -816,7 +816,7 @@ rocket:     defm "* SHIP *"
             defm "TO  THE "
             defm "  MOON !"
 
-tower:      defm "* SHOW *"
+tower:      defm "  SHOW  "
             defm "        "
             defm "   ||   "
             defm "  .||.  "

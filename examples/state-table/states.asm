@@ -566,7 +566,7 @@ forget:     ld (hl),a
             defm "HIGH SCORE"
             ld a,2
             call print
-            defb 1,31,6
+            defb 2,31,6
             defm "CREDIT"
             ld a,22
             call print
@@ -574,9 +574,9 @@ forget:     ld (hl),a
             defm "2UP"
             ld a,23
             call print
-            defb 11,31,6
+            defb 12,31,6
             defm "PLAYER"
-            ld bc,121Fh
+            ld bc,131Fh
             ld a,(player)
             inc a
             call digit
@@ -614,7 +614,7 @@ six:        ld a,(de)
 credits:    ld a,(frames)
             and 0Fh
             ret nz
-            ld bc,081Fh
+            ld bc,091Fh
             ld a,(credit)
             call pair
             ld bc,141Fh

@@ -1,4 +1,4 @@
--- The least and the greatest of some bytes, whichever of them is taken first.
+-- The least and the greatest of some bytes, in any order.
 use Rattle.std.proofs.Common.{◌≡◌, ℕ, ◌+◌, ◌<◌, List, [], ◌∷◌, drop, length, get_or, min, max, arith, sym, ◌∙◌, ap}
 use Rattle.std.proofs.lemmas.List.{drop_more}
 use Rattle.abs_draft.specs.Ground.{least_of, greatest_of}

@@ -1,6 +1,6 @@
--- The definitions of abstract drafts: what reads and writes find, what each kind of move leaves, and tests.
+-- The definitions of abstract drafts: what reads and writes do, the transfer function of each kind of move, and tests.
 pub mod AfterMove
 pub mod Ground
-pub mod Known
+pub mod AbsDraft
 pub mod Outcomes
 pub mod Results

@@ -1,6 +1,6 @@
--- The moves of an instruction, and the two ways that its test may go.
+-- The moves of an instruction, and the two outcomes of its test.
 use Rattle.std.specs.Prelude.{ℕ, ◌+◌, ◌%◌, ◌==◌, Bool, true, false, not, if◌then◌else◌, List, [], ◌∷◌, length, get_or, Option, Some, None, option_map}
-use Rattle.intervals.specs.Range.{Interval, single}
+use Rattle.intervals.specs.Range.{RangeView, single}
 use Rattle.intervals.specs.declared.reg_pair.RegPair.TheVariants.{Bc}
 use Rattle.loop_bounds.specs.declared.effect.Change.{Change}
 use Rattle.loop_bounds.specs.declared.effect.Change.TheVariants.{Constant}
@@ -19,11 +19,11 @@ use Rattle.abs_state.specs.Narrowing.{byte_is, word_is, condition_is}
 use Rattle.abs_state.specs.Variables.{full_slot}
 use Rattle.abs_state.specs.declared.state.AbsState.{AbsState}
 use Rattle.abs_draft.specs.AfterMove.{after_move}
-use Rattle.abs_draft.specs.Ground.{Ground}
+use Rattle.abs_draft.specs.Ground.{GroundView}
 use Rattle.loop_bounds.specs.Effect.{unchanged}
-use Rattle.abs_draft.specs.declared.known.Known.{Known}
+use Rattle.abs_draft.specs.declared.draft.AbsDraft.{AbsDraft}
 
--- what is known of a state where a test held, and where it did not; none where that can't be
+-- the state where a test held, and where it did not; none if that is infeasible
 abbrev pub state_tested : Test → Bool → AbsState → Option AbsState
 state_tested (tests.Flag condition) held s = condition_is held condition s
 state_tested tests.BNotZero held s = byte_is (not held) registers.B 0 s
@@ -31,15 +31,15 @@ state_tested tests.BcNotZero held s = word_is (not held) Bc 0 s
 state_tested tests.SearchGoesOn true s = word_is false Bc 0 s
 state_tested tests.SearchGoesOn false s = Some s
 
-abbrev pub tested : Test → Bool → Known → Option Known
+abbrev pub tested : Test → Bool → AbsDraft → Option AbsDraft
 tested test held k = option_map (λ s. record k { state = s }) (state_tested test held k.state)
 
--- the test that a move is, if it is one
+-- the test, if the move is one
 abbrev pub test_in : Move → Option Test
 test_in (OnlyIf test) = Some test
 test_in _ = None
 
--- the moves up to the test of a list, the test, and the moves behind it
+-- the moves up to the test of a list, the test, and the moves after it
 abbrev pub moves_to : Option Test → Move → List Move → List Move
 moves_to (Some test) m ms = []
 moves_to None m ms = m ∷ ms
@@ -64,13 +64,13 @@ unfoldable pub behind_test : List Move → List Move
 behind_test [] = []
 behind_test (m ∷ ms) = moves_behind (test_in m) ms (behind_test ms)
 
--- what is known after some moves
-unfoldable pub after_moves : Ground → Bool → List Move → Known → Known
+-- what is known after these moves
+unfoldable pub after_moves : GroundView → Bool → List Move → AbsDraft → AbsDraft
 after_moves g inline [] k = k
 after_moves g inline (m ∷ ms) k = after_moves g inline ms (after_move g inline m k)
 
--- what is known once the program counter stands behind an instruction
-abbrev pub known_before : ℕ → Instr → AbsState → Known
+-- What is known before the first move. The program counter is already after the instruction.
+abbrev pub known_before : ℕ → Instr → AbsState → AbsDraft
 known_before address instr s = record {
   state = s;
   readable = s.armed;
@@ -81,14 +81,14 @@ known_before address instr s = record {
   writes = record { items = [] };
 }
 
--- what is known at the test of an instruction, or at its end where it has none
-abbrev pub known_at_test : Ground → ℕ → Bool → Instr → AbsState → Known
+-- what is known at the test of an instruction, or at its end if it has none
+abbrev pub known_at_test : GroundView → ℕ → Bool → Instr → AbsState → AbsDraft
 known_at_test g address inline instr s = after_moves g inline (before_test (moves_of instr)) (known_before address instr s)
 
 -- ---- constants
 
--- a constant goes first, where the range after is one value
-abbrev pub constant_first : Interval → Change → Change
+-- constants have priority, where the range after the step has one value
+abbrev pub constant_first : RangeView → Change → Change
 constant_first range change = if range.low == range.high then Constant range.low else change
 
 abbrev pub settled_slot : List Slot → SlotChange → SlotChange
@@ -98,7 +98,8 @@ settled_slot shape c = record c {
   low = constant_first (get_or shape c.number full_slot).pair.low c.low;
 }
 
--- the effect, each variable whose range in the state after is one value a constant
+-- the effect with priority for constants: a variable whose range in the state after the step has one value is that
+-- constant
 abbrev pub settled : AbsState → Effect → Effect
 settled s e = record {
   a = constant_first s.pairs.af.high e.a;

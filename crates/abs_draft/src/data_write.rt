@@ -1,9 +1,9 @@
-// Data writes, a byte each.
+// Data writes, one for each byte.
 ghost use Rattle.std.specs.Prelude.{◌≡◌};
 
 use intervals::{ByteRange, WordRange};
 
-/// A data write of one byte: where it may go to, and which bytes it may write.
+/// A data write of one byte: the addresses that it may go to, and the bytes that it may write.
 #[derive(Clone, Copy)]
 pub struct DataWrite {
     pub at: WordRange,
@@ -15,7 +15,7 @@ impl Default for DataWrite {
 
     ghost is_default = { λ w. w ≡ record { at = full 65536; byte = full 256 } };
 
-    /// A write of which nothing is known.
+    /// A write about which nothing is known.
     fn default() -> DataWrite {
         DataWrite {
             at: WordRange::full(),

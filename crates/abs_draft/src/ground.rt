@@ -1,7 +1,7 @@
-// What never changes beside a row, and what data reads and writes find there.
+// The ground: what is the same for all rows, and what data reads and writes do there.
 ghost use Rattle.std.specs.Prelude.{◌≡◌, ◌≤◌, ◌<◌, take, drop, length, Option, Some, None};
-ghost use Rattle.address_map.specs.Class.{class_of, cell_of};
-ghost use Rattle.address_map.specs.AddressMap.{AddressMap};
+ghost use Rattle.address_map.specs.Class.{class_of};
+ghost use Rattle.address_map.specs.Cell.{cell_of};
 ghost use Rattle.abs_draft.specs.Ground.{ground_of, any_address, is_enable, some_odd, may_enable, mode_after, is_work_cell, cell_at, has_range, arms, armed_after, span, least_of, greatest_of, bytes_at, rom_range, read_one, read_range};
 
 use crate::data_write::DataWrite;
@@ -10,7 +10,7 @@ use address_map::{Map, RamKind, Rom};
 use intervals::{ByteRange, Domain, WordRange};
 use std::marker::Model;
 
-/// What never changes beside a row: the ROM, its map, and the kept cells, at most 256.
+/// What is the same for all rows: the ROM, its map, and the kept cells, at most 256.
 #[derive(Drop)]
 pub struct Ground<'a> {
     rom: &'a Rom<'a>,
@@ -19,28 +19,28 @@ pub struct Ground<'a> {
 }
 
 impl<'a> Model for Ground<'a> {
-    ghost use Rattle.abs_draft.specs.Ground.{Ground as Given};
+    ghost use Rattle.abs_draft.specs.Ground.{GroundView};
 
-    ghost Value = { Given };
+    ghost Value = { GroundView };
 
     ghost view = { λ g. record { rom = g.rom.now; map = g.map.now; cells = g.cells.now } };
 }
 
-/// Whether some byte of a range is odd.
+/// Whether some byte of the range is odd.
 fn some_odd(range: ByteRange) -> bool
     ensures { result ≡ some_odd range }
 {
     range.low() % 2 == 1 || range.low() < range.high()
 }
 
-/// Whether some address of a range is the NMI enable.
+/// Whether some address of the range is the NMI enable.
 fn some_enable(map: &Map, range: WordRange) -> bool
     ensures { result ≡ any_address (λ address. is_enable (class_of map.now address).write) range }
 {
     map.some_enable(range)
 }
 
-/// The least to the greatest of some bytes.
+/// The range from the least to the greatest of these bytes.
 fn span(bytes: &[u8]) -> ByteRange
     ensures { result ≡ span bytes.now }
 {
@@ -50,7 +50,7 @@ fn span(bytes: &[u8]) -> ByteRange
     widened(ByteRange::single(*first), rest)
 }
 
-/// A range widened to hold some bytes.
+/// The hull of a range and some bytes.
 #[tactic(auto, unfolding(crate::specs::Ground::least_of, crate::specs::Ground::greatest_of))]
 fn widened(range: ByteRange, bytes: &[u8]) -> ByteRange
     ensures { result ≡ record { low = least_of range.low bytes.now; high = greatest_of range.high bytes.now } }
@@ -62,7 +62,7 @@ fn widened(range: ByteRange, bytes: &[u8]) -> ByteRange
     wide
 }
 
-/// Whether an address is of the cell of work RAM at another.
+/// Whether `address` folds to the cell of work RAM at `at`.
 fn is_at_cell(map: &Map, address: u16, at: u16) -> bool
     ensures { result ≡ is_work_cell (cell_of map.now address) at }
 {
@@ -72,7 +72,7 @@ fn is_at_cell(map: &Map, address: u16, at: u16) -> bool
     }
 }
 
-/// The first of some cells that an address folds to.
+/// The first of the cells to which the address folds.
 fn cell_at(map: &Map, address: u16, cells: &[KeptCell]) -> Option<KeptCell>
     ensures { result ≡ cell_at map.now address cells.now }
 {
@@ -100,7 +100,7 @@ impl DataWrite {
     }
 }
 
-/// The mode after a write that may enable the NMI, or not.
+/// The mode after a write that may or may not enable the NMI.
 pub(crate) fn mode_after(enables: bool, mode: Mode) -> Mode
     ensures { result ≡ mode_after enables mode }
 {
@@ -111,21 +111,21 @@ pub(crate) fn mode_after(enables: bool, mode: Mode) -> Mode
 }
 
 impl<'a> Ground<'a> {
-    /// Lends a ROM, its map, and the kept cells, at most 256.
+    /// A ground that borrows a ROM, its map, and the kept cells, at most 256.
     pub fn of(rom: &'a Rom<'a>, map: &'a Map, cells: &'a [KeptCell]) -> Ground<'a>
         ensures { result ≡ ground_of rom.now map.now cells.now }
     {
         Ground { rom, map, cells }
     }
 
-    /// Whether a write may enable the NMI: some address is the NMI enable, and some byte is odd.
+    /// Whether a write may enable the NMI: some of its addresses is the NMI enable, and some of its bytes is odd.
     pub fn may_enable(&self, write: &DataWrite) -> bool
         ensures { result ≡ may_enable self.now.map write.now }
     {
         some_enable(self.map, write.at) && some_odd(write.byte)
     }
 
-    /// How many cells are armed after a write, where so many were before it.
+    /// The number of armed cells after a write, given the number before it.
     pub fn armed_after(&self, write: &DataWrite, armed: u16) -> u16
         requires { length self.now.cells ≤ 256 }
         ensures { result ≡ armed_after self.now write.now armed }
@@ -148,7 +148,7 @@ impl<'a> Ground<'a> {
         span(&bytes[..usize::from(at.high() - at.low()) + 1])
     }
 
-    /// The cells that are armed, where so many of the first are.
+    /// The first `armed` of the kept cells.
     pub fn armed(&self, armed: u16) -> &[KeptCell]
         ensures { result.now ≡ take armed self.now.cells }
     {
@@ -156,7 +156,7 @@ impl<'a> Ground<'a> {
         &self.cells[..count]
     }
 
-    /// The byte that a data read finds, with so many cells armed.
+    /// The range of the byte that a data read finds, given the number of armed cells.
     pub(crate) fn read(&self, armed: u16, at: WordRange) -> ByteRange
         ensures { result ≡ read_range self.now armed at }
     {

@@ -1,15 +1,14 @@
-// What is known while an instruction goes through its moves: the table of the abstract step (docs/CHECKER.md, "The abstract
-// step").
+// The abstract draft within an instruction, and the transfer functions of moves (docs/CHECKER.md, "The abstract step").
 #![tactic(auto)]
 
 mod data_write;
+mod draft;
 mod ground;
-mod known;
 mod moving;
 mod results;
 mod testing;
 
 pub use data_write::DataWrite;
+pub use draft::AbsDraft;
 pub use ground::Ground;
-pub use known::Known;
 pub use testing::{Tested, settled};

@@ -1,12 +1,12 @@
-// The moves of an instruction, on what is known.
+// Moves on the abstract draft.
 ghost use Rattle.std.specs.Prelude.{◌≡◌, ◌≤◌, length};
-ghost use Rattle.abs_draft.specs.AfterMove.{take_slot, exchanged_stack, exchanged_de_hl, exchanged_af, exchanged_sets, operated, changed_byte, read_word, write_word, pushed, incremented, decremented, counted_down, incremented_word, decremented_word, after_move};
-ghost use Rattle.abs_draft.specs.Known.{write_byte};
+ghost use Rattle.abs_draft.specs.AfterMove.{take_slot, exchanged_stack, exchanged_de_hl, exchanged_af, exchanged_sets, operated, changed_byte, known_read_word, write_word, pushed_known, incremented, decremented, counted_down, incremented_word, decremented_word, after_move};
+ghost use Rattle.abs_draft.specs.AbsDraft.{write_byte};
 ghost use Rattle.abs_draft.specs.Outcomes.{after_moves};
 
 use crate::data_write::DataWrite;
+use crate::draft::{AbsDraft, WordChanges, lowered_byte, lowered_word, raised_byte, raised_word};
 use crate::ground::Ground;
-use crate::known::{Known, Parts, lowered_byte, lowered_word, raised_byte, raised_word};
 use crate::results::{compared, rotated, shifted, zero_of};
 use abs_state::FlagFact;
 use intervals::{ByteRange, Pair, WordRange};
@@ -15,8 +15,8 @@ use std::mem::swap;
 use z80_decode::{ArithmeticKind, Register8};
 use z80_moves::{ByteRegister, Move, WordRegister};
 
-impl Known {
-    /// A word register gets what is known of the last slot.
+impl AbsDraft {
+    /// Sets a word register to what is known of the last slot.
     fn take_slot(&mut self, register: WordRegister)
         ensures { self.new ≡ take_slot register self.old }
     {
@@ -77,7 +77,7 @@ impl Known {
         }
     }
 
-    /// A byte whose result is known by a range alone, and the flags that come with it.
+    /// Sets a byte to a range and the flags to unknown.
     fn change_byte(&mut self, register: ByteRegister, range: ByteRange)
         ensures { self.new ≡ changed_byte register range self.old }
     {
@@ -86,11 +86,11 @@ impl Known {
     }
 
     fn read_word(&mut self, ground: &Ground, register: WordRegister, at: WordRange)
-        ensures { self.new ≡ read_word ground.now register at self.old }
+        ensures { self.new ≡ known_read_word ground.now register at self.old }
     {
         let low = ground.read(self.readable, at);
         let high = ground.read(self.readable, at.increment());
-        self.put_pair(register, Pair::of_bytes(high, low), Parts::none());
+        self.put_pair(register, Pair::of_bytes(high, low), WordChanges::none());
     }
 
     fn write_byte(&mut self, ground: &Ground, at: WordRange, byte: ByteRange)
@@ -109,9 +109,9 @@ impl Known {
         self.write_byte(ground, at.increment(), pair.high);
     }
 
-    /// A push; a call that is not inline leaves the procedure with its stack as it was.
+    /// Pushes a word register. The push of a call that is not inline leaves the stack as it was.
     fn push(&mut self, inline: bool, register: WordRegister)
-        ensures { self.new ≡ pushed inline register self.old }
+        ensures { self.new ≡ pushed_known inline register self.old }
     {
         match register {
             WordRegister::Pc if !inline => {}
@@ -119,7 +119,7 @@ impl Known {
         }
     }
 
-    /// One move.
+    /// The transfer function of one move.
     #[tactic(auto, unfolding(crate::specs::AfterMove::after_move))]
     pub(crate) fn make(&mut self, ground: &Ground, inline: bool, step: Move)
         requires { length ground.now.cells ≤ 256 }
@@ -287,7 +287,7 @@ impl Known {
         );
     }
 
-    /// Makes some moves, one after another. `inline` says whether a call pushes its return word here.
+    /// Makes moves one after another. `inline` says whether a call pushes its return address on this shape.
     #[tactic(auto, unfolding(crate::specs::Outcomes::after_moves))]
     pub fn make_all(&mut self, ground: &Ground, inline: bool, moves: &[Move])
         requires { length ground.now.cells ≤ 256 }

@@ -1,15 +1,15 @@
-// The ranges that operations leave, and the flag facts.
+// The ranges and the flag facts of operations.
 ghost use Rattle.std.specs.Prelude.{◌≡◌};
 ghost use Rattle.abs_draft.specs.Results.{arithmetic_range, shift_range, rotate_range, zero_fact, compare_fact};
 
-use crate::known::Known;
+use crate::draft::AbsDraft;
 use abs_state::FlagFact;
 use intervals::ByteRange;
 use z80_decode::{AccumulatorRotate, ArithmeticKind, Register8, ShiftKind};
 use z80_moves::ByteRegister;
 
-impl Known {
-    /// A after an operation of it and a byte.
+impl AbsDraft {
+    /// A after an operation on A and a byte.
     pub(crate) fn arithmetic(&self, kind: ArithmeticKind, register: ByteRegister) -> ByteRange
         ensures { result ≡ arithmetic_range kind register self.now }
     {
@@ -29,7 +29,7 @@ impl Known {
     }
 }
 
-/// A byte after a shift or rotation behind CB.
+/// A byte after a shift or rotate after the prefix CB.
 pub(crate) fn shifted(kind: ShiftKind, range: ByteRange) -> ByteRange
     ensures { result ≡ shift_range kind range }
 {
@@ -42,7 +42,7 @@ pub(crate) fn shifted(kind: ShiftKind, range: ByteRange) -> ByteRange
     }
 }
 
-/// A after a rotation that has a code of one byte.
+/// A after a rotate of A with an opcode of one byte.
 pub(crate) fn rotated(kind: AccumulatorRotate, range: ByteRange) -> ByteRange
     ensures { result ≡ rotate_range kind range }
 {
@@ -53,7 +53,7 @@ pub(crate) fn rotated(kind: AccumulatorRotate, range: ByteRange) -> ByteRange
     }
 }
 
-/// The fact that INC and DEC of a register give.
+/// The flag fact of INC and DEC of a register.
 pub(crate) fn zero_of(register: ByteRegister) -> Option<FlagFact>
     ensures { result ≡ zero_fact register }
 {
@@ -70,7 +70,7 @@ pub(crate) fn zero_of(register: ByteRegister) -> Option<FlagFact>
     Some(FlagFact::Zero(register))
 }
 
-/// The fact that CP with a byte gives.
+/// The flag fact of CP with a byte.
 pub(crate) fn compared(range: ByteRange) -> Option<FlagFact>
     ensures { result ≡ compare_fact range }
 {

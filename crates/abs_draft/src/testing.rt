@@ -1,11 +1,11 @@
-// The test of an instruction: what is known where it held and where it did not, and the constants at the end.
+// The test of an instruction: what is known if it held and if not; and the constants at the end.
 ghost use Rattle.std.specs.Prelude.{◌≡◌, ◌≤◌, Some, None, MatchBool, IfSome, option_map, length, get_or};
 ghost use Rattle.std.specs.Bool.{OnFalse};
 ghost use Rattle.abs_state.specs.Variables.{full_slot};
 ghost use Rattle.abs_draft.specs.Outcomes.{state_tested, tested, test_in, before_test, test_of, behind_test, after_moves, constant_first, settled, settled_slot};
 
+use crate::draft::AbsDraft;
 use crate::ground::Ground;
-use crate::known::Known;
 use abs_state::AbsState;
 use arrayvec::ArrayVec;
 use intervals::{ByteRange, Pair, RegPair, WordRange};
@@ -14,23 +14,23 @@ use stack_shape::Shape;
 use z80_decode::Register8;
 use z80_moves::{Move, Test};
 
-impl Known {
-    /// Narrows what is known to where a test held, or to where it did not. Tells whether that can be; where it can't,
-    /// nothing changes.
+impl AbsDraft {
+    /// Narrows what is known to where a test held, or did not. Answers whether that is feasible; else nothing changes.
     pub fn narrow(&mut self, test: Test, held: bool) -> bool
-        ensures exact { MatchBool result (tested test held self.old ≡ Some self.new) (tested test held self.old ≡ None) }
+        ensures exact { MatchBool result (tested test held self.old
+            ≡ Some self.new) (tested test held self.old ≡ None) }
         ensures unchanged { OnFalse result (self.new ≡ self.old) }
     {
         narrow_state(&mut self.state, test, held)
     }
 
-    /// The same again.
-    pub fn copied(&self) -> Known
+    /// A copy.
+    pub fn copied(&self) -> AbsDraft
         ensures { result ≡ self.now }
     {
         let mut writes = ArrayVec::new();
         let _fits = writes.try_extend_from_slice(self.writes.as_slice());
-        Known {
+        AbsDraft {
             state: self.state.copied(),
             readable: self.readable,
             operand: self.operand,
@@ -43,7 +43,8 @@ impl Known {
 }
 
 fn narrow_state(state: &mut AbsState, test: Test, held: bool) -> bool
-    ensures exact { MatchBool result (state_tested test held state.old ≡ Some state.new) (state_tested test held state.old ≡ None) }
+    ensures exact { MatchBool result (state_tested test held state.old
+        ≡ Some state.new) (state_tested test held state.old ≡ None) }
     ensures unchanged { OnFalse result (state.new ≡ state.old) }
 {
     match test {
@@ -55,7 +56,7 @@ fn narrow_state(state: &mut AbsState, test: Test, held: bool) -> bool
     }
 }
 
-/// The test that a move is, if it is one.
+/// The test, if the move is one.
 fn test_in(step: Move) -> Option<Test>
     ensures { result ≡ test_in step }
 {
@@ -65,15 +66,15 @@ fn test_in(step: Move) -> Option<Test>
     }
 }
 
-/// The test of an instruction, and the moves behind it.
+/// The test of an instruction, and the moves after it.
 #[derive(Drop)]
 pub struct Tested<'a> {
     pub test: Test,
     pub behind: &'a [Move],
 }
 
-impl Known {
-    /// Makes the moves up to the test of a list, or all of them where it has none.
+impl AbsDraft {
+    /// Makes the moves up to the test of a list, or all of them if it has none.
     #[tactic(auto, unfolding(crate::specs::Outcomes::before_test, crate::specs::Outcomes::test_of, crate::specs::Outcomes::behind_test, crate::specs::Outcomes::after_moves))]
     pub fn make_to_test<'a>(
         &mut self,
@@ -98,7 +99,7 @@ impl Known {
         None
     }
 
-    /// The constants go first: a variable whose range is one value is that value.
+    /// Gives constants priority: a variable whose range has one value becomes that constant in the effect.
     pub fn settle(&mut self)
         ensures { self.new ≡ record self.old { effect = settled self.old.state self.old.effect } }
     {
@@ -106,7 +107,7 @@ impl Known {
     }
 }
 
-/// An effect with the constants first: a variable whose range in the state after is one value is that value.
+/// The effect with priority for constants: a variable whose range in the state after it has one value is that constant.
 pub fn settled(effect: &Effect, state: &AbsState) -> Effect
     ensures { result ≡ settled state.now effect.now }
 {
@@ -131,7 +132,7 @@ pub fn settled(effect: &Effect, state: &AbsState) -> Effect
     }
 }
 
-/// What is known of a slot; nothing where there is none.
+/// What is known of a slot; a full pair if there is none.
 fn slot_at(shape: &Shape, number: SlotNumber) -> Pair
     ensures { result ≡ (get_or shape.now number full_slot).pair }
 {

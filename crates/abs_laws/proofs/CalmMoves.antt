@@ -1,4 +1,4 @@
--- Containment of each kind of move that makes no access of the stack.
+-- Soundness of each kind of move without stack accesses.
 use Rattle.std.proofs.Common.{◌≡◌, ℕ, ◌+◌, ◌-◌, ◌<◌, ◌≤◌, Bool, true, false, refl, arith, List, length, None}
 use Rattle.z80_alu.proofs.FlagsLemmas.{zero_of_difference8}
 use Rattle.z80_alu.proofs.RangeLemmas.{shifted-lt, decimal_adjusted-lt, bit_set-lt, bit_reset-lt}
@@ -7,7 +7,7 @@ use Rattle.z80_decode.specs.Kinds.{bit}
 use Rattle.z80_decode.specs.declared.operands.Special.{Special}
 use Rattle.z80_decode.specs.declared.operands.Special.TheVariants as specials
 use Rattle.z80_draft.specs.Arithmetic.{shift_named, rotation_named}
-use Rattle.z80_draft.specs.Draft.{Draft, byte_in, word_in, special_in, digits_done, moved, test_holds}
+use Rattle.z80_draft.specs.Draft.{DraftView, draft_byte, draft_word, special_in, digits_done, moved, test_holds}
 use Rattle.z80_draft.specs.Outside.{Outside}
 use Rattle.z80_draft.specs.Room.{accesses_by, writes_by}
 use Rattle.z80_moves.specs.declared.moves.Move.{Move}
@@ -22,9 +22,9 @@ use Rattle.loop_bounds.specs.Effect.{Valuation}
 use Rattle.loop_bounds.specs.declared.effect.Change.TheVariants.{Unknown}
 use Rattle.abs_state.specs.declared.state.AbsState.{AbsState}
 use Rattle.abs_draft.specs.AfterMove.{after_move}
-use Rattle.abs_draft.specs.Ground.{Ground}
-use Rattle.abs_draft.specs.Known.{byte_of, word_of}
-use Rattle.abs_draft.specs.declared.known.Known.{Known}
+use Rattle.abs_draft.specs.Ground.{GroundView}
+use Rattle.abs_draft.specs.AbsDraft.{known_byte, known_word}
+use Rattle.abs_draft.specs.declared.draft.AbsDraft.{AbsDraft}
 use Rattle.abs_laws.specs.Fits.{Fits, IsInRange, ReadsFit}
 use Rattle.abs_laws.proofs.Numbers.{wraps_byte, wraps_word, word_sum, word_sum_with_carry, word_difference_with_carry, byte_negation}
 use Rattle.abs_laws.proofs.Parts.{byte_small, word_small, byte_within, pair_holds, byte_follows, word_follows, rest_changed}
@@ -47,7 +47,7 @@ digits_joined a b = omega arith
 digits_moved : (a b : ℕ) → b < 256 → rrd_byte a b < 256
 digits_moved a b q = omega arith
 
-module _ (g : Ground) (start : AbsState) (o : Outside) (inline : Bool) (k : Known) (entry : Entry) (before : Valuation) (d : Draft) (stack : List ℕ) (reads : ReadsFit g o k.readable) (f : Fits g start k entry before d stack) where
+module _ (g : GroundView) (start : AbsState) (o : Outside) (inline : Bool) (k : AbsDraft) (entry : Entry) (before : Valuation) (d : DraftView) (stack : List ℕ) (reads : ReadsFit g o k.readable) (f : Fits g start k entry before d stack) where
   a_small : d.regs.main.a < 256
   a_small = f.regs.main.a
 
@@ -59,21 +59,21 @@ module _ (g : Ground) (start : AbsState) (o : Outside) (inline : Bool) (k : Know
   unfolding after_move
   digits a byte h l = byte_done bytes.Operand (full 256) Unknown byte l (in_full byte l) refl (changed_done g start o inline k entry before d stack f bytes.A (full 256) a _ h (in_full a h))
 
-  small : (r : ByteRegister) → byte_in r d < 256
+  small : (r : ByteRegister) → draft_byte r d < 256
   small = byte_small g start k entry before d stack f
 
-  within : (r : ByteRegister) → Within (byte_of r k) (byte_in r d)
+  within : (r : ByteRegister) → Within (known_byte r k) (draft_byte r d)
   within = byte_within g start k entry before d stack f
 
-  word_within : (w : WordRegister) → Within (word_of w k) (word_in w d)
+  word_within : (w : WordRegister) → Within (known_word w k) (draft_word w d)
   word_within w = (pair_holds g start k entry before d stack f w).word
 
   pub calm_fits : (m : Move) → accesses_by m ≡ 0 → IsInRange m → length d.writes + writes_by m ≤ 2 → Fits g start (after_move g inline m k) entry before (moved o m d) stack
   unfolding after_move moved
   calm_fits (SetByte r n) c i room = byte_done r (single n) Unknown n i (omega arith) refl f
   calm_fits (SetWord w nn) c i room = word_done w (single nn) Unknown nn i (omega arith) refl f
-  calm_fits (CopyByte to from) c i room = byte_done to _ _ (byte_in from d) (small from) (within from) (byte_follows g start k entry before d stack f from) f
-  calm_fits (CopyWord to from) c i room = word_done to _ _ (word_in from d) (word_small g start k entry before d stack f from) (word_within from) (word_follows g start k entry before d stack f from) f
+  calm_fits (CopyByte to from) c i room = byte_done to _ _ (draft_byte from d) (small from) (within from) (byte_follows g start k entry before d stack f from) f
+  calm_fits (CopyWord to from) c i room = word_done to _ _ (draft_word from d) (word_small g start k entry before d stack f from) (word_within from) (word_follows g start k entry before d stack f from) f
   calm_fits (Displace w by) c i room = displace_done g start o inline k entry before d stack f w by
   calm_fits (ReadByte r at) c i room = read_done g start o inline k entry before d stack f reads r at
   calm_fits (WriteByte at r) c i room = write_one g start o inline k entry before d stack f at r (omega arith)

@@ -1,4 +1,4 @@
--- What is known before the first move is true of the machine at a row.
+-- What is known before the first move describes the machine at a row.
 use Rattle.std.proofs.Common.{◌≡◌, ◌<◌, ◌+◌, ◌%◌, ℕ, refl, ap, arith, length}
 use Rattle.intervals.specs.Domain.{Entry}
 use Rattle.intervals.specs.Range.{Within, single}
@@ -15,9 +15,9 @@ use Rattle.abs_state.specs.Pairs.{HoldsPairs}
 use Rattle.abs_state.specs.Seen.{Seen}
 use Rattle.abs_state.specs.Variables.{value_in}
 use Rattle.abs_state.specs.declared.state.AbsState.{AbsState}
-use Rattle.abs_draft.specs.Ground.{Ground}
+use Rattle.abs_draft.specs.Ground.{GroundView}
 use Rattle.abs_draft.specs.Outcomes.{known_before}
-use Rattle.abs_laws.specs.Fits.{Fits, Follows, seen_by}
+use Rattle.abs_laws.specs.Fits.{Fits, FollowsChange, seen_by_draft}
 use Rattle.abs_laws.proofs.Parts.{same_fact}
 
 behind_small : (n : ℕ) → n % 65536 < 65536
@@ -26,11 +26,11 @@ behind_small n = omega arith
 at_behind : (address pc len : ℕ) → pc ≡ address → Within (single ((address + len) % 65536)) ((pc + len) % 65536)
 at_behind address pc len e = omega (arith, ap (λ (n : ℕ). (n + len) % 65536) e)
 
-as_it_was : (m : Seen) (len : ℕ) (v : Variable) → Follows (change_of unchanged v) (value_in m) (value_in (seen_by (draft_on (past len m.regs)) m.words) v)
+as_it_was : (m : Seen) (len : ℕ) (v : Variable) → FollowsChange (change_of unchanged v) (value_in m) (value_in (seen_by_draft (draft_on (past len m.regs)) m.words) v)
 as_it_was m len variables.A = refl
 as_it_was m len v = refl
 
-pub first_fits : (g : Ground) (s : AbsState) (address : ℕ) (instr : Instr) (entry : Entry) (m : Seen) → IsRegs m.regs → m.regs.pc ≡ address
+pub first_fits : (g : GroundView) (s : AbsState) (address : ℕ) (instr : Instr) (entry : Entry) (m : Seen) → IsRegs m.regs → m.regs.pc ≡ address
     → HoldsPairs s.pairs entry m.regs → HoldsFact s.flag m.regs → HoldsShape s.shape entry m.words
     → Fits g s (known_before address instr s) entry (value_in m) (draft_on (past (length (spelling instr)) m.regs)) m.words
 first_fits g s address instr entry m r at pairs fact shape =

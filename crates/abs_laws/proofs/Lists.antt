@@ -3,7 +3,7 @@ use Rattle.std.proofs.Common.{◌≡◌, ◌+◌, ◌≤◌, ℕ, Bool, true, co
 use Rattle.intervals.specs.Domain.{Entry}
 use Rattle.loop_bounds.specs.Effect.{Valuation}
 use Rattle.z80_draft.proofs.DraftLemmas.{counts, drafted_on}
-use Rattle.z80_draft.specs.Draft.{Draft, drafted, moved, goes_on, test_holds}
+use Rattle.z80_draft.specs.Draft.{DraftView, drafted, moved, goes_on, test_holds}
 use Rattle.z80_draft.specs.Outside.{Outside}
 use Rattle.z80_draft.specs.Room.{accesses_in, writes_in}
 use Rattle.z80_moves.specs.declared.moves.Move.{Move}
@@ -11,9 +11,9 @@ use Rattle.z80_moves.specs.declared.moves.Move.TheVariants.{OnlyIf}
 use Rattle.z80_moves.specs.declared.moves.Test.{Test}
 use Rattle.abs_state.specs.declared.state.AbsState.{AbsState}
 use Rattle.abs_draft.specs.AfterMove.{after_move}
-use Rattle.abs_draft.specs.Ground.{Ground}
+use Rattle.abs_draft.specs.Ground.{GroundView}
 use Rattle.abs_draft.specs.Outcomes.{after_moves, before_test, behind_test, test_in, test_of, test_or}
-use Rattle.abs_draft.specs.declared.known.Known.{Known}
+use Rattle.abs_draft.specs.declared.draft.AbsDraft.{AbsDraft}
 use Rattle.abs_laws.specs.Fits.{AreInRange, Fits, ReadsFit}
 use Rattle.abs_laws.specs.Lists.{IsParted, marked}
 use Rattle.abs_laws.proofs.CalmMoves.{calm_fits}
@@ -28,21 +28,21 @@ pub second_none : (a b : Option Test) → test_or a b ≡ None → b ≡ None
 second_none None b e = e
 second_none (Some test) b e = absurd (cc)
 
-pub goes : (m : Move) (d : Draft) → test_in m ≡ None → goes_on m d ≡ true
+pub goes : (m : Move) (d : DraftView) → test_in m ≡ None → goes_on m d ≡ true
 goes (OnlyIf test) d e = absurd (cc)
 goes _ d e = refl
 
--- where there is no test, all moves stand before it
+-- without a test all moves are before it
 pub none_behind : (ms : List Move) → test_of ms ≡ None → before_test ms ≡ ms
 unfolding test_of before_test
 none_behind [] e = refl
 none_behind (m ∷ ms) e =
     rw (first_none (test_in m) (test_of ms) e) (ap (λ (xs : List Move). m ∷ xs) (none_behind ms (second_none (test_in m) (test_of ms) e)))
 
-pub without_test : (o : Outside) (ms : List Move) (d : Draft) → test_of ms ≡ None → drafted o ms d ≡ drafted o (before_test ms) d
+pub without_test : (o : Outside) (ms : List Move) (d : DraftView) → test_of ms ≡ None → drafted o ms d ≡ drafted o (before_test ms) d
 without_test o ms d e = ap (λ (xs : List Move). drafted o xs d) (sym (none_behind ms e))
 
--- what stands before it has none
+-- the moves before the test have none
 pub none_before : (ms : List Move) → test_of (before_test ms) ≡ None
 unfolding test_of before_test
 none_before [] = refl
@@ -52,17 +52,17 @@ none_before (m ∷ ms) = none_before ms
 some_same : (a b : Test) → Some a ≡ Some b → a ≡ b
 some_same a b e = cc
 
-pub with_test : (o : Outside) (ms : List Move) (test : Test) (d : Draft) → test_of ms ≡ Some test →
+pub with_test : (o : Outside) (ms : List Move) (test : Test) (d : DraftView) → test_of ms ≡ Some test →
     drafted o ms d ≡ cond (test_holds test (drafted o (before_test ms) d)) (drafted o (behind_test ms) (marked test (drafted o (before_test ms) d))) (marked test (drafted o (before_test ms) d))
 unfolding drafted moved test_of before_test behind_test
 with_test o [] test d e = absurd (cc)
 with_test o (OnlyIf t ∷ ms) test d e = rw (some_same t test e) refl
 with_test o (m ∷ ms) test d e = with_test o ms test (moved o m d) e
 
--- ---- containment
+-- ---- soundness
 
-module _ (g : Ground) (start : AbsState) (o : Outside) (inline : Bool) (entry : Entry) (before : Valuation) (stack : List ℕ) (reads : ReadsFit g o start.armed) where
-  pub all_fit : (ms : List Move) (k : Known) (d : Draft) → accesses_in ms ≡ 0 → AreInRange ms → test_of ms ≡ None → length d.writes + writes_in ms ≤ 2 → Fits g start k entry before d stack
+module _ (g : GroundView) (start : AbsState) (o : Outside) (inline : Bool) (entry : Entry) (before : Valuation) (stack : List ℕ) (reads : ReadsFit g o start.armed) where
+  pub all_fit : (ms : List Move) (k : AbsDraft) (d : DraftView) → accesses_in ms ≡ 0 → AreInRange ms → test_of ms ≡ None → length d.writes + writes_in ms ≤ 2 → Fits g start k entry before d stack
       → Fits g start (after_moves g inline ms k) entry before (drafted o ms d) stack
   unfolding drafted after_moves test_of AreInRange
   all_fit [] k d calm range none room f = f
@@ -71,9 +71,9 @@ module _ (g : Ground) (start : AbsState) (o : Outside) (inline : Bool) (entry : 
       let count = (counts o m d).writes in
       let one = calm_fits g start o inline k entry before d stack known f m (omega arith) range.0 (omega arith) in
       let rest = all_fit ms (after_move g inline m k) (moved o m d) (omega arith) range.1 (second_none (test_in m) (test_of ms) none) (omega arith) one in
-      subst (λ (x : Draft). Fits g start (after_moves g inline ms (after_move g inline m k)) entry before x stack) (sym (drafted_on o m ms d (goes m (moved o m d) (first_none (test_in m) (test_of ms) none)))) rest
+      subst (λ (x : DraftView). Fits g start (after_moves g inline ms (after_move g inline m k)) entry before x stack) (sym (drafted_on o m ms d (goes m (moved o m d) (first_none (test_in m) (test_of ms) none)))) rest
 
-pub list_fits : (g : Ground) (start : AbsState) (o : Outside) (inline : Bool) (ms : List Move) (k : Known) (entry : Entry) (before : Valuation) (d : Draft) (stack : List ℕ)
+pub list_fits : (g : GroundView) (start : AbsState) (o : Outside) (inline : Bool) (ms : List Move) (k : AbsDraft) (entry : Entry) (before : Valuation) (d : DraftView) (stack : List ℕ)
     → accesses_in ms ≡ 0 → AreInRange ms → test_of ms ≡ None → length d.writes + writes_in ms ≤ 2 → ReadsFit g o k.readable → Fits g start k entry before d stack
     → Fits g start (after_moves g inline ms k) entry before (drafted o ms d) stack
 list_fits g start o inline ms k entry before d stack calm range none room reads f =

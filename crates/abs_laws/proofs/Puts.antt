@@ -1,8 +1,8 @@
--- What a written register leaves is true of the draft.
+-- A written register keeps the abstract draft true.
 use Rattle.std.proofs.Common.{◌≡◌, ◌<◌, ◌+◌, ◌*◌, ◌/◌, ◌%◌, ℕ, refl, sym, subst, arith, List, [], length, Option, None}
 use Rattle.intervals.specs.Domain.{Entry}
 use Rattle.intervals.specs.Pair.{HoldsPair, written_bytes, written_word}
-use Rattle.intervals.specs.Range.{Interval, Within, full}
+use Rattle.intervals.specs.Range.{RangeView, Within, full}
 use Rattle.intervals.specs.declared.pair.Pair.{Pair}
 use Rattle.intervals.specs.declared.reg_pair.RegPair.{RegPair}
 use Rattle.intervals.specs.declared.reg_pair.RegPair.TheVariants as pairs
@@ -19,7 +19,7 @@ use Rattle.z80_alu.specs.declared.flags.Flags.{Flags}
 use Rattle.z80_alu.specs.declared.regs.Regs.{Regs}
 use Rattle.z80_decode.specs.declared.operands.Register8.{Register8}
 use Rattle.z80_decode.specs.declared.operands.Register8.TheVariants as registers
-use Rattle.z80_draft.specs.Draft.{Draft, with_byte, with_word, with_flags, with_result, with_word_result}
+use Rattle.z80_draft.specs.Draft.{DraftView, with_byte, with_word, with_flags, with_result, with_word_result}
 use Rattle.z80_draft.specs.Registers.{IsRegs}
 use Rattle.z80_moves.specs.declared.registers.ByteRegister.{ByteRegister}
 use Rattle.z80_moves.specs.declared.registers.ByteRegister.TheVariants as bytes
@@ -27,14 +27,14 @@ use Rattle.z80_moves.specs.declared.registers.WordRegister.{WordRegister}
 use Rattle.z80_moves.specs.declared.registers.WordRegister.TheVariants as words
 use Rattle.abs_state.proofs.ChangeLemmas.{byte_put as state_byte_put, pair_put as state_pair_put}
 use Rattle.abs_state.specs.Fact.{HoldsFact}
-use Rattle.abs_state.specs.Seen.{Seen, with_byte as with_register, with_word as with_pair_word, with_flags as with_flags_byte}
+use Rattle.abs_state.specs.Seen.{Seen, regs_with_byte as with_register, regs_with_word as with_pair_word, regs_with_flags as with_flags_byte}
 use Rattle.abs_state.specs.Variables.{value_in}
 use Rattle.abs_state.specs.declared.fact.FlagFact.{FlagFact}
 use Rattle.abs_state.specs.declared.state.AbsState.{AbsState}
-use Rattle.abs_draft.specs.Ground.{Ground}
-use Rattle.abs_draft.specs.Known.{with_byte_change, with_parts, set_byte, set_pair, put_byte, put_pair, put_word, put_flags}
-use Rattle.abs_draft.specs.declared.known.Known.{Known}
-use Rattle.abs_laws.specs.Fits.{Fits, Follows, IsThere, seen_by}
+use Rattle.abs_draft.specs.Ground.{GroundView}
+use Rattle.abs_draft.specs.AbsDraft.{with_byte_change, with_parts, set_byte, set_pair, put_known_byte, put_known_pair, put_known_word, put_known_flags}
+use Rattle.abs_draft.specs.declared.draft.AbsDraft.{AbsDraft}
+use Rattle.abs_laws.specs.Fits.{Fits, FollowsChange, IsThere, seen_by_draft}
 use Rattle.abs_laws.proofs.Parts.{PartsFollow, changed_so, held, high_small, low_small, same_fact}
 
 -- ---- a byte register
@@ -52,9 +52,9 @@ pc_stays : (r : Register8) (n : ℕ) (regs : Regs) → (with_register r n regs).
 pc_stays registers.A n regs = refl
 pc_stays _ n regs = refl
 
-register_followed : (effect : Effect) (before : Valuation) (m : Seen) (r : Register8) (change : Change) (n : ℕ) → Follows change before n
-    → ((v : Variable) → IsThere (length m.words) v → Follows (change_of effect v) before (value_in m v))
-    → (v : Variable) → IsThere (length m.words) v → Follows (change_of (with_byte_change r change effect) v) before (value_in (record m { regs = with_register r n m.regs }) v)
+register_followed : (effect : Effect) (before : Valuation) (m : Seen) (r : Register8) (change : Change) (n : ℕ) → FollowsChange change before n
+    → ((v : Variable) → IsThere (length m.words) v → FollowsChange (change_of effect v) before (value_in m v))
+    → (v : Variable) → IsThere (length m.words) v → FollowsChange (change_of (with_byte_change r change effect) v) before (value_in (record m { regs = with_register r n m.regs }) v)
 register_followed effect before m registers.A change n c f variables.A i = c
 register_followed effect before m registers.A change n c f v i = f v i
 register_followed effect before m registers.B change n c f variables.B i = c
@@ -76,22 +76,22 @@ register_followed effect before m registers.L change n c f variables.L i = c
 register_followed effect before m registers.L change n c f variables.Hl i = refl
 register_followed effect before m registers.L change n c f v i = f v i
 
-register_done : {g : Ground} {start : AbsState} {k : Known} {entry : Entry} {before : Valuation} {d : Draft} {stack : List ℕ} (r : Register8) (range : Interval) (change : Change) (n : ℕ)
-    → n < 256 → Within range n → Follows change before n → Fits g start k entry before d stack → Fits g start (set_byte r range change k) entry before (record d { regs = with_register r n d.regs }) stack
+register_done : {g : GroundView} {start : AbsState} {k : AbsDraft} {entry : Entry} {before : Valuation} {d : DraftView} {stack : List ℕ} (r : Register8) (range : RangeView) (change : Change) (n : ℕ)
+    → n < 256 → Within range n → FollowsChange change before n → Fits g start k entry before d stack → Fits g start (set_byte r range change k) entry before (record d { regs = with_register r n d.regs }) stack
 register_done {k = k} {entry = entry} {before = before} {d = d} {stack = stack} r range change n small w c f = changed_so f (record {
   in_range = register_fits r n d.regs small f.regs;
   pc = pc_stays r n d.regs;
-  holds = state_byte_put r range n k.state [] entry (seen_by d stack) small f.regs w (held f);
+  holds = state_byte_put r range n k.state [] entry (seen_by_draft d stack) small f.regs w (held f);
   mode = refl;
   armed = refl;
-  follows = register_followed k.effect before (seen_by d stack) r change n c f.follows;
+  follows = register_followed k.effect before (seen_by_draft d stack) r change n c f.follows;
 })
 
 -- ---- F
 
 -- F is written, and the fact holds of it
-pub flags_byte_done : {g : Ground} {start : AbsState} {k : Known} {entry : Entry} {before : Valuation} {d : Draft} {stack : List ℕ} (fact : Option FlagFact) (n : ℕ)
-    → n < 256 → HoldsFact fact (with_flags_byte n d.regs) → Fits g start k entry before d stack → Fits g start (put_flags fact k) entry before (with_byte bytes.F n d) stack
+pub flags_byte_done : {g : GroundView} {start : AbsState} {k : AbsDraft} {entry : Entry} {before : Valuation} {d : DraftView} {stack : List ℕ} (fact : Option FlagFact) (n : ℕ)
+    → n < 256 → HoldsFact fact (with_flags_byte n d.regs) → Fits g start k entry before d stack → Fits g start (put_known_flags fact k) entry before (with_byte bytes.F n d) stack
 flags_byte_done {k = k} {entry = entry} {before = before} {d = d} {stack = stack} fact n small h f =
     let high = f.pairs.af.high in
     let low = f.regs.main.f in
@@ -110,23 +110,23 @@ flags_byte_done {k = k} {entry = entry} {before = before} {d = d} {stack = stack
       };
       mode = refl;
       armed = refl;
-      follows = flags_followed k.effect before (seen_by d stack) n f.follows;
+      follows = flags_followed k.effect before (seen_by_draft d stack) n f.follows;
     })
   where
-    flags_followed : (effect : Effect) (before : Valuation) (m : Seen) (n : ℕ) → ((v : Variable) → IsThere (length m.words) v → Follows (change_of effect v) before (value_in m v))
-        → (v : Variable) → IsThere (length m.words) v → Follows (change_of effect v) before (value_in (record m { regs = with_flags_byte n m.regs }) v)
+    flags_followed : (effect : Effect) (before : Valuation) (m : Seen) (n : ℕ) → ((v : Variable) → IsThere (length m.words) v → FollowsChange (change_of effect v) before (value_in m v))
+        → (v : Variable) → IsThere (length m.words) v → FollowsChange (change_of effect v) before (value_in (record m { regs = with_flags_byte n m.regs }) v)
     flags_followed effect before m n f variables.A i = f variables.A i
     flags_followed effect before m n f v i = f v i
 
 -- new flags
-pub flags_done : {g : Ground} {start : AbsState} {k : Known} {entry : Entry} {before : Valuation} {d : Draft} {stack : List ℕ} (fact : Option FlagFact) (flags : Flags)
-    → HoldsFact fact (with_flags flags d).regs → Fits g start k entry before d stack → Fits g start (put_flags fact k) entry before (with_flags flags d) stack
+pub flags_done : {g : GroundView} {start : AbsState} {k : AbsDraft} {entry : Entry} {before : Valuation} {d : DraftView} {stack : List ℕ} (fact : Option FlagFact) (flags : Flags)
+    → HoldsFact fact (with_flags flags d).regs → Fits g start k entry before d stack → Fits g start (put_known_flags fact k) entry before (with_flags flags d) stack
 flags_done fact flags h f = flags_byte_done fact (flags_byte flags) (flags_byte-lt flags) h f
 
 -- ---- any byte
 
-pub byte_done : {g : Ground} {start : AbsState} {k : Known} {entry : Entry} {before : Valuation} {d : Draft} {stack : List ℕ} (r : ByteRegister) (range : Interval) (change : Change) (n : ℕ)
-    → n < 256 → Within range n → Follows change before n → Fits g start k entry before d stack → Fits g start (put_byte r range change k) entry before (with_byte r n d) stack
+pub byte_done : {g : GroundView} {start : AbsState} {k : AbsDraft} {entry : Entry} {before : Valuation} {d : DraftView} {stack : List ℕ} (r : ByteRegister) (range : RangeView) (change : Change) (n : ℕ)
+    → n < 256 → Within range n → FollowsChange change before n → Fits g start k entry before d stack → Fits g start (put_known_byte r range change k) entry before (with_byte r n d) stack
 byte_done bytes.A range change n small w c f = register_done registers.A range change n small w c f
 byte_done bytes.F range change n small w c f = flags_byte_done None n small tt f
 byte_done bytes.B range change n small w c f = register_done registers.B range change n small w c f
@@ -140,9 +140,9 @@ byte_done {k = k} {d = d} bytes.I range change n small w c f =
     assumption
 byte_done bytes.Operand range change n small w c f = assumption
 
--- a byte, and the flags of it
-pub result_done : {g : Ground} {start : AbsState} {k : Known} {entry : Entry} {before : Valuation} {d : Draft} {stack : List ℕ} (r : ByteRegister) (range : Interval) (change : Change) (n : ℕ) (fact : Option FlagFact) (flags : Flags)
-    → n < 256 → Within range n → Follows change before n → HoldsFact fact (with_result r n flags d).regs → Fits g start k entry before d stack → Fits g start (put_flags fact (put_byte r range change k)) entry before (with_result r n flags d) stack
+-- a byte and its flags
+pub result_done : {g : GroundView} {start : AbsState} {k : AbsDraft} {entry : Entry} {before : Valuation} {d : DraftView} {stack : List ℕ} (r : ByteRegister) (range : RangeView) (change : Change) (n : ℕ) (fact : Option FlagFact) (flags : Flags)
+    → n < 256 → Within range n → FollowsChange change before n → HoldsFact fact (with_result r n flags d).regs → Fits g start k entry before d stack → Fits g start (put_known_flags fact (put_known_byte r range change k)) entry before (with_result r n flags d) stack
 result_done r range change n fact flags small w c h f = flags_done fact flags h (byte_done r range change n small w c f)
 
 -- ---- a word
@@ -150,10 +150,10 @@ result_done r range change n fact flags small w c h f = flags_done fact flags h 
 whole_again : (n : ℕ) → n / 256 * 256 + n % 256 ≡ n
 whole_again n = omega arith
 
-whole_followed : (change : Change) (before : Valuation) (n : ℕ) → Follows change before n → Follows change before (n / 256 * 256 + n % 256)
-whole_followed change before n h = subst (λ (x : ℕ). Follows change before x) (sym (whole_again n)) h
+whole_followed : (change : Change) (before : Valuation) (n : ℕ) → FollowsChange change before n → FollowsChange change before (n / 256 * 256 + n % 256)
+whole_followed change before n h = subst (λ (x : ℕ). FollowsChange change before x) (sym (whole_again n)) h
 
-word_fits : (w : WordRegister) (n : ℕ) (d : Draft) → n < 65536 → IsRegs d.regs → IsRegs (with_word w n d).regs
+word_fits : (w : WordRegister) (n : ℕ) (d : DraftView) → n < 65536 → IsRegs d.regs → IsRegs (with_word w n d).regs
 word_fits words.Af n d small h = let high = high_small n small in let low = low_small n in assumption
 word_fits words.Bc n d small h = let high = high_small n small in let low = low_small n in assumption
 word_fits words.De n d small h = let high = high_small n small in let low = low_small n in assumption
@@ -164,9 +164,9 @@ word_fits words.Sp n d small h = assumption
 word_fits words.Pc n d small h = assumption
 word_fits words.Pointer n d small h = h
 
-word_followed : (effect : Effect) (before : Valuation) (d : Draft) (stack : List ℕ) (w : WordRegister) (word high low : Change) (n : ℕ) → PartsFollow word high low before n
-    → ((v : Variable) → IsThere (length stack) v → Follows (change_of effect v) before (value_in (seen_by d stack) v))
-    → (v : Variable) → IsThere (length stack) v → Follows (change_of (with_parts w (record { word = word; high = high; low = low }) effect) v) before (value_in (seen_by (with_word w n d) stack) v)
+word_followed : (effect : Effect) (before : Valuation) (d : DraftView) (stack : List ℕ) (w : WordRegister) (word high low : Change) (n : ℕ) → PartsFollow word high low before n
+    → ((v : Variable) → IsThere (length stack) v → FollowsChange (change_of effect v) before (value_in (seen_by_draft d stack) v))
+    → (v : Variable) → IsThere (length stack) v → FollowsChange (change_of (with_parts w (record { word = word; high = high; low = low }) effect) v) before (value_in (seen_by_draft (with_word w n d) stack) v)
 word_followed effect before d stack words.Af word high low n p f variables.A i = p.of_high
 word_followed effect before d stack words.Af word high low n p f v i = f v i
 word_followed effect before d stack words.Bc word high low n p f variables.Bc i = whole_followed word before n p.of_word
@@ -191,20 +191,20 @@ word_followed effect before d stack words.Pc word high low n p f variables.A i =
 word_followed effect before d stack words.Pc word high low n p f v i = f v i
 word_followed effect before d stack words.Pointer word high low n p f v i = f v i
 
-module _ (g : Ground) (start : AbsState) (k : Known) (entry : Entry) (before : Valuation) (d : Draft) (stack : List ℕ) (pair : Pair) (word high low : Change) (n : ℕ) (small : n < 65536) (h : HoldsPair pair entry n) (p : PartsFollow word high low before n) (f : Fits g start k entry before d stack) where
+module _ (g : GroundView) (start : AbsState) (k : AbsDraft) (entry : Entry) (before : Valuation) (d : DraftView) (stack : List ℕ) (pair : Pair) (word high low : Change) (n : ℕ) (small : n < 65536) (h : HoldsPair pair entry n) (p : PartsFollow word high low before n) (f : Fits g start k entry before d stack) where
   -- a word register that is a pair of the state
   set_pair_done : (r : RegPair) (w : WordRegister) → (with_word w n d).regs ≡ with_pair_word r n d.regs → (with_word w n d).regs.pc ≡ d.regs.pc
       → Fits g start (set_pair r w pair (record { word = word; high = high; low = low }) k) entry before (record d { regs = (with_word w n d).regs }) stack
   set_pair_done r w e pc = changed_so f (record {
     in_range = word_fits w n d small f.regs;
     pc = pc;
-    holds = rw e (state_pair_put r pair n k.state [] entry (seen_by d stack) h (held f));
+    holds = rw e (state_pair_put r pair n k.state [] entry (seen_by_draft d stack) h (held f));
     mode = refl;
     armed = refl;
     follows = word_followed k.effect before d stack w word high low n p f.follows;
   })
 
-  pub pair_done : (w : WordRegister) → Fits g start (put_pair w pair (record { word = word; high = high; low = low }) k) entry before (with_word w n d) stack
+  pub pair_done : (w : WordRegister) → Fits g start (put_known_pair w pair (record { word = word; high = high; low = low }) k) entry before (with_word w n d) stack
   pair_done words.Af = set_pair_done pairs.Af words.Af refl refl
   pair_done words.Bc = set_pair_done pairs.Bc words.Bc refl refl
   pair_done words.De = set_pair_done pairs.De words.De refl refl
@@ -224,13 +224,13 @@ module _ (g : Ground) (start : AbsState) (k : Known) (entry : Entry) (before : V
       assumption
   pair_done words.Pointer = let inside = h.word in assumption
 
--- a word that is written
-pub word_done : {g : Ground} {start : AbsState} {k : Known} {entry : Entry} {before : Valuation} {d : Draft} {stack : List ℕ} (w : WordRegister) (range : Interval) (change : Change) (n : ℕ)
-    → n < 65536 → Within range n → Follows change before n → Fits g start k entry before d stack → Fits g start (put_word w range change k) entry before (with_word w n d) stack
+-- a written word
+pub word_done : {g : GroundView} {start : AbsState} {k : AbsDraft} {entry : Entry} {before : Valuation} {d : DraftView} {stack : List ℕ} (w : WordRegister) (range : RangeView) (change : Change) (n : ℕ)
+    → n < 65536 → Within range n → FollowsChange change before n → Fits g start k entry before d stack → Fits g start (put_known_word w range change k) entry before (with_word w n d) stack
 word_done {g = g} {start = start} {k = k} {entry = entry} {before = before} {d = d} {stack = stack} w range change n small i c f =
     pair_done g start k entry before d stack (written_word range) change Unknown Unknown n small (written_word_holds range entry n i) (record { of_word = c; of_high = refl; of_low = refl }) f w
 
--- a word, and the flags of it
-pub word_result_done : {g : Ground} {start : AbsState} {k : Known} {entry : Entry} {before : Valuation} {d : Draft} {stack : List ℕ} (w : WordRegister) (range : Interval) (n : ℕ) (flags : Flags)
-    → n < 65536 → Within range n → Fits g start k entry before d stack → Fits g start (put_flags None (put_word w range Unknown k)) entry before (with_word_result w n flags d) stack
+-- a word and its flags
+pub word_result_done : {g : GroundView} {start : AbsState} {k : AbsDraft} {entry : Entry} {before : Valuation} {d : DraftView} {stack : List ℕ} (w : WordRegister) (range : RangeView) (n : ℕ) (flags : Flags)
+    → n < 65536 → Within range n → Fits g start k entry before d stack → Fits g start (put_known_flags None (put_known_word w range Unknown k)) entry before (with_word_result w n flags d) stack
 word_result_done w range n flags small i f = flags_done None flags tt (word_done w range Unknown n small i refl f)

@@ -6,7 +6,7 @@ use Rattle.z80_moves.specs.Moves.{moves_of}
 use Rattle.z80_moves.specs.declared.moves.Move.{Move}
 use Rattle.z80_moves.specs.declared.moves.Move.TheVariants.{SetByte, SetWord}
 use Rattle.board_step.proofs.RangeLemmas.{spelled_fits}
-use Rattle.rom_fetch.specs.Decoded.{StandsAt}
+use Rattle.board_fetch.specs.Decoded.{StandsAt}
 use Rattle.board_step.specs.State.{AreBytes}
 use Rattle.abs_laws.specs.Fits.{IsInRange, AreInRange}
 

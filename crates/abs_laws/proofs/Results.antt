@@ -1,4 +1,4 @@
--- What logic, shifts and rotations make of bytes lies in what is known of it.
+-- The results of logic, shifts and rotates of bytes lie in the known ranges.
 use Rattle.std.proofs.Common.{◌≡◌, ℕ, ◌+◌, ◌*◌, ◌/◌, ◌%◌, ◌<◌, ◌≤◌, Bool, true, eqb, refl, arith}
 use Rattle.std.proofs.lemmas.Bool.{agree_below, agree_below_at, eqb-true}
 use Rattle.z80_alu.specs.Bits.{bit_set, bit_reset}
@@ -13,7 +13,7 @@ use Rattle.z80_decode.specs.declared.kinds.ShiftKind.{ShiftKind}
 use Rattle.z80_decode.specs.declared.kinds.ShiftKind.TheVariants as shifts
 use Rattle.z80_draft.specs.Arithmetic.{shift_named, rotation_named}
 use Rattle.intervals.specs.Logic.{of_single, rotation_left, rotation_right, with_bit_set, with_bit_reset}
-use Rattle.intervals.specs.Range.{Interval, Within, full}
+use Rattle.intervals.specs.Range.{RangeView, Within, full}
 use Rattle.intervals.proofs.Laws.{of_single_holds, doubles_of_bytes, halves_of_bytes}
 use Rattle.abs_draft.specs.Results.{shift_range, rotate_range}
 
@@ -38,13 +38,13 @@ right_small n h = omega arith
 doubled : (n : ℕ) → 2 * (n % 128) ≡ 2 * n % 256
 doubled n = omega arith
 
-left_within : (range : Interval) (n : ℕ) → n < 256 → Within range n → Within (of_single rotation_left range) (2 * (n % 128) + n / 128)
+left_within : (range : RangeView) (n : ℕ) → n < 256 → Within range n → Within (of_single rotation_left range) (2 * (n % 128) + n / 128)
 left_within range n small h = rw (left_turned n small) (of_single_holds rotation_left range n h (left_small n small))
 
-right_within : (range : Interval) (n : ℕ) → n < 256 → Within range n → Within (of_single rotation_right range) (n / 2 + 128 * (n % 2))
+right_within : (range : RangeView) (n : ℕ) → n < 256 → Within range n → Within (of_single rotation_right range) (n / 2 + 128 * (n % 2))
 right_within range n small h = of_single_holds rotation_right range n h (right_small n small)
 
-pub shift_within : (kind : ShiftKind) (range : Interval) (n : ℕ) (carry : Bool) → n < 256 → Within range n → Within (shift_range kind range) (shifted (shift_named kind) n carry)
+pub shift_within : (kind : ShiftKind) (range : RangeView) (n : ℕ) (carry : Bool) → n < 256 → Within range n → Within (shift_range kind range) (shifted (shift_named kind) n carry)
 unfolding shifted
 shift_within shifts.Rlc range n carry small h = left_within range n small h
 shift_within shifts.Rrc range n carry small h = right_within range n small h
@@ -54,7 +54,7 @@ shift_within shifts.Sla range n carry small h = rw (doubled n) (doubles_of_bytes
 shift_within shifts.Sra range n carry small h = in_full _ (shifted-lt (shift_named shifts.Sra) n carry small)
 shift_within shifts.Srl range n carry small h = halves_of_bytes range n h
 
-pub rotate_within : (kind : AccumulatorRotate) (range : Interval) (n : ℕ) (carry : Bool) → n < 256 → Within range n → Within (rotate_range kind range) (shifted (rotation_named kind) n carry)
+pub rotate_within : (kind : AccumulatorRotate) (range : RangeView) (n : ℕ) (carry : Bool) → n < 256 → Within range n → Within (rotate_range kind range) (shifted (rotation_named kind) n carry)
 unfolding shifted
 rotate_within rotates.Rlca range n carry small h = left_within range n small h
 rotate_within rotates.Rrca range n carry small h = right_within range n small h
@@ -88,13 +88,13 @@ bit_below bits.Five = omega arith
 bit_below bits.Six = omega arith
 bit_below bits.Seven = omega arith
 
-pub set_within : (b : Bit) (range : Interval) (n : ℕ) → n < 256 → Within range n → Within (of_single (with_bit_set (bit b)) range) (bit_set (bit b) n)
+pub set_within : (b : Bit) (range : RangeView) (n : ℕ) → n < 256 → Within range n → Within (of_single (with_bit_set (bit b)) range) (bit_set (bit b) n)
 set_within b range n small h =
     let e = set_is_or (bit b) n (bit_below b) small in
     let top = at_most_byte _ (bit_set-lt (bit b) n (bit_below b) small) in
     rw e (of_single_holds (with_bit_set (bit b)) range n h (rw e at top))
 
-pub reset_within : (b : Bit) (range : Interval) (n : ℕ) → n < 256 → Within range n → Within (of_single (with_bit_reset (bit b)) range) (bit_reset (bit b) n)
+pub reset_within : (b : Bit) (range : RangeView) (n : ℕ) → n < 256 → Within range n → Within (of_single (with_bit_reset (bit b)) range) (bit_reset (bit b) n)
 reset_within b range n small h =
     let e = reset_is_and (bit b) n (bit_below b) small in
     let top = at_most_byte _ (bit_reset-lt (bit b) n small) in

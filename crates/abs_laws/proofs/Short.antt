@@ -1,4 +1,4 @@
--- The moves of each instruction: at most two data writes, before its one test.
+-- The moves of each instruction have at most one test, and at most two data writes before it.
 use Rattle.std.proofs.Common.{◌≡◌, ◌≤◌, refl, arith, List, [], ◌∷◌, None}
 use Rattle.z80_decode.specs.declared.instr.Instr.{Instr}
 use Rattle.z80_decode.specs.declared.instr.Instr.TheVariants as instrs
@@ -14,40 +14,40 @@ use Rattle.z80_draft.specs.Room.{writes_by}
 use Rattle.z80_moves.specs.Moves.{at_memory, changing, moves_of, reading}
 use Rattle.z80_moves.specs.declared.moves.Move.{Move}
 use Rattle.abs_draft.specs.Outcomes.{behind_test, test_in, test_of}
-use Rattle.abs_laws.specs.Lists.{IsShort}
+use Rattle.abs_laws.specs.Lists.{IsShortList}
 
--- a move in front that neither tests nor writes
-one_before : (m : Move) (ms : List Move) → writes_by m ≡ 0 → test_in m ≡ None → IsShort ms → IsShort (m ∷ ms)
+-- one more move in front, which is no test and no write
+one_before : (m : Move) (ms : List Move) → writes_by m ≡ 0 → test_in m ≡ None → IsShortList ms → IsShortList (m ∷ ms)
 unfolding test_of behind_test
 one_before m ms w t h =
     let few = h.writes in
     let none = h.writes_first in
     record { writes = omega arith; once = rw t h.once; writes_first = rw t h.writes_first }
 
-memory_short : (m : Memory) (then : List Move) → IsShort then → IsShort (at_memory m then)
+memory_short : (m : Memory) (then : List Move) → IsShortList then → IsShortList (at_memory m then)
 memory_short memories.AtHl then h = one_before _ then refl refl h
 memory_short (memories.At index d) then h = one_before _ _ refl refl (one_before _ then refl refl h)
 
-nothing_short : IsShort []
+nothing_short : IsShortList []
 unfolding test_of behind_test
 nothing_short = record { writes = omega arith; once = refl; writes_first = refl }
 
-one_short : (m : Move) → writes_by m ≡ 0 → test_in m ≡ None → IsShort (m ∷ [])
+one_short : (m : Move) → writes_by m ≡ 0 → test_in m ≡ None → IsShortList (m ∷ [])
 one_short m w t = one_before m [] w t nothing_short
 
-write_short : (m : Move) → writes_by m ≤ 2 → test_in m ≡ None → IsShort (m ∷ [])
+write_short : (m : Move) → writes_by m ≤ 2 → test_in m ≡ None → IsShortList (m ∷ [])
 unfolding test_of behind_test
 write_short m w t = record { writes = omega arith; once = rw t refl; writes_first = rw t refl }
 
-reading_short : (p : Place) (m : Move) → writes_by m ≡ 0 → test_in m ≡ None → IsShort (reading p m)
+reading_short : (p : Place) (m : Move) → writes_by m ≡ 0 → test_in m ≡ None → IsShortList (reading p m)
 reading_short (places.Register r) m w t = one_short m w t
 reading_short (places.Memory memory) m w t = memory_short memory _ (one_before _ _ refl refl (one_short m w t))
 
-changing_short : (p : Place) (m : Move) → writes_by m ≡ 0 → test_in m ≡ None → IsShort (changing p m)
+changing_short : (p : Place) (m : Move) → writes_by m ≡ 0 → test_in m ≡ None → IsShortList (changing p m)
 changing_short (places.Register r) m w t = one_short m w t
 changing_short (places.Memory memory) m w t = memory_short memory _ (one_before _ _ refl refl (one_before m _ w t (write_short _ (omega arith) refl)))
 
-pub short : (instr : Instr) → IsShort (moves_of instr)
+pub short : (instr : Instr) → IsShortList (moves_of instr)
 unfolding test_of behind_test
 short (instrs.LoadRegister r (places.Register s)) = one_short _ refl refl
 short (instrs.LoadRegister r (places.Memory m)) = memory_short m _ (one_short _ refl refl)

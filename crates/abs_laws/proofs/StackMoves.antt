@@ -1,4 +1,4 @@
--- Containment of the moves of the stack.
+-- Soundness of the moves with stack accesses.
 use Rattle.std.proofs.Common.{◌≡◌, ◌≢◌, ◌<◌, ◌+◌, ◌-◌, ◌/◌, ◌%◌, ℕ, Bool, true, false, cond, eqb, ltb, refl, sym, ◌∙◌, subst, arith, rules, List, [], ◌∷◌, ◌++◌, length, length-append, take, set, get_or, Option, Some, None}
 use Rattle.std.proofs.lemmas.Bool.{eqb-true}
 use Rattle.std.proofs.lemmas.List.{get_or_append_left, get_or_push}
@@ -19,7 +19,7 @@ use Rattle.loop_bounds.specs.declared.variable.Variable.TheVariants as variables
 use Rattle.stack_shape.specs.Shape.{HoldsShape}
 use Rattle.stack_shape.specs.Slot.{HoldsSlot}
 use Rattle.stack_shape.specs.declared.slot.Slot.{Slot}
-use Rattle.z80_draft.specs.Draft.{Draft, above, below, moved, pushed as pushed_word, read_word, stack_read, stack_written, with_word, word_in, word_read}
+use Rattle.z80_draft.specs.Draft.{DraftView, above, below, moved, word_pushed as pushed_word, read_word, stack_read, stack_written, with_word, draft_word, word_read}
 use Rattle.z80_draft.specs.Outside.{Outside}
 use Rattle.z80_draft.specs.declared.access.StackAccess.{StackAccess}
 use Rattle.z80_moves.specs.declared.moves.Move.TheVariants.{ExchangeStack, Pop, Push}
@@ -29,10 +29,10 @@ use Rattle.abs_state.specs.CutLaws.{slot_held}
 use Rattle.abs_state.specs.Variables.{part_of, value_in}
 use Rattle.abs_state.specs.declared.state.AbsState.{AbsState}
 use Rattle.abs_draft.specs.AfterMove.{after_move, take_slot}
-use Rattle.abs_draft.specs.Ground.{Ground}
-use Rattle.abs_draft.specs.Known.{without_last, known_pair, last_slot, parts_of, pop_pair, push_pair, put_last, put_pair, slot_parts}
-use Rattle.abs_draft.specs.declared.known.Known.{Known}
-use Rattle.abs_laws.specs.Fits.{Fits, Follows, IsThere, seen_by}
+use Rattle.abs_draft.specs.Ground.{GroundView}
+use Rattle.abs_draft.specs.AbsDraft.{without_last, known_pair, last_slot, known_parts_of, pop_pair, push_pair, put_last, put_known_pair, slot_parts}
+use Rattle.abs_draft.specs.declared.draft.AbsDraft.{AbsDraft}
+use Rattle.abs_laws.specs.Fits.{Fits, FollowsChange, IsThere, seen_by_draft}
 use Rattle.abs_laws.proofs.Parts.{PartsFollow, pair_holds, parts_follow, rest_changed}
 use Rattle.abs_laws.proofs.Puts.{pair_done, word_done}
 
@@ -56,52 +56,52 @@ shape_replaced [] entry (r ∷ rs) old word slot p h = absurd h
 shape_replaced (s ∷ ss) entry [] old word slot p h = (p, h.1)
 shape_replaced (s ∷ ss) entry (r ∷ rs) old word slot p h = (h.0, shape_replaced ss entry rs old word slot p h.1)
 
--- ---- the variables of the slot that is written, and of the others
+-- ---- the variables of the written slot, and of the others
 
 abbrev written_slot : ℕ → Change → Change → Change → Option SlotChange
 written_slot number word high low = Some (record { number = number; word = word; high = high; low = low })
 
--- the slot on top is written with the changes, the others keep what they held
+-- the top slot is written with the changes; the others keep their values
 slot_follows : (word high low : Change) (before : Valuation) (rest : List ℕ) (n number count : ℕ) (part : Part) → count ≡ length rest → number < length (rest ++ n ∷ []) → PartsFollow word high low before n
-    → ((m : ℕ) → m < length rest → Follows (Old (variables.Slot m part)) before (part_of part (get_or rest m 0)))
-    → Follows (slot_change (written_slot count word high low) number part) before (part_of part (get_or (rest ++ n ∷ []) number 0))
+    → ((m : ℕ) → m < length rest → FollowsChange (Old (variables.Slot m part)) before (part_of part (get_or rest m 0)))
+    → FollowsChange (slot_change (written_slot count word high low) number part) before (part_of part (get_or (rest ++ n ∷ []) number 0))
 slot_follows word high low before rest n number count part e i p f =
     let longer : length (rest ++ n ∷ []) ≡ length rest + 1 = length-append rest (n ∷ []) in
     let c : SlotChange = record { number = count; word = word; high = high; low = low } in
-    let at : (t : Bool) → eqb count number ≡ t → Follows (cond t (part_change c part) (Old (variables.Slot number part))) before (part_of part (get_or (rest ++ n ∷ []) number 0)) =
+    let at : (t : Bool) → eqb count number ≡ t → FollowsChange (cond t (part_change c part) (Old (variables.Slot number part))) before (part_of part (get_or (rest ++ n ∷ []) number 0)) =
     elim [
       | true ↦ λ q.
           let same : count ≡ number = eqb-true _ _ q in
           let value : get_or (rest ++ n ∷ []) number 0 ≡ n = get_or_push rest n 0 number (sym e ∙ same) in
-          subst (λ (x : ℕ). Follows (part_change c part) before (part_of part x)) (sym value) (of_part part)
+          subst (λ (x : ℕ). FollowsChange (part_change c part) before (part_of part x)) (sym value) (of_part part)
       | false ↦ λ q.
           let other : count ≢ number = search rules in
           let inside : number < length rest = omega arith in
           let value : get_or (rest ++ n ∷ []) number 0 ≡ get_or rest number 0 = get_or_append_left rest (n ∷ []) 0 number inside in
-          subst (λ (x : ℕ). Follows (Old (variables.Slot number part)) before (part_of part x)) (sym value) (f number inside)
+          subst (λ (x : ℕ). FollowsChange (Old (variables.Slot number part)) before (part_of part x)) (sym value) (f number inside)
     ] in
     at (eqb count number) refl
   where
-    of_part : (part : Part) → Follows (part_change (let c : SlotChange = record { number = count; word = word; high = high; low = low } in c) part) before (part_of part n)
+    of_part : (part : Part) → FollowsChange (part_change (let c : SlotChange = record { number = count; word = word; high = high; low = low } in c) part) before (part_of part n)
     of_part Word = p.of_word
     of_part High = p.of_high
     of_part Low = p.of_low
 
--- the variables other than those of slots are those of the registers
-slots_apart : (effect : Effect) (slot : Option SlotChange) (before : Valuation) (d : Draft) (stack other : List ℕ)
-    → ((v : Variable) → IsThere (length stack) v → Follows (change_of effect v) before (value_in (seen_by d stack) v))
-    → ((number : ℕ) (part : Part) → number < length other → Follows (slot_change slot number part) before (part_of part (get_or other number 0)))
-    → (v : Variable) → IsThere (length other) v → Follows (change_of (record effect { slot = slot }) v) before (value_in (seen_by d other) v)
+-- variables that are not of slots are those of the registers
+slots_apart : (effect : Effect) (slot : Option SlotChange) (before : Valuation) (d : DraftView) (stack other : List ℕ)
+    → ((v : Variable) → IsThere (length stack) v → FollowsChange (change_of effect v) before (value_in (seen_by_draft d stack) v))
+    → ((number : ℕ) (part : Part) → number < length other → FollowsChange (slot_change slot number part) before (part_of part (get_or other number 0)))
+    → (v : Variable) → IsThere (length other) v → FollowsChange (change_of (record effect { slot = slot }) v) before (value_in (seen_by_draft d other) v)
 slots_apart effect slot before d stack other f g (variables.Slot number part) i = g number part i
 slots_apart effect slot before d stack other f g v i = f v tt
 
--- ---- what is pushed, popped and put in place of the top
+-- ---- pushes, pops and replacements of the top
 
-module _ (g : Ground) (start : AbsState) (k : Known) (entry : Entry) (before : Valuation) (d : Draft) where
-  untouched : (stack : List ℕ) → Fits g start k entry before d stack → k.effect.slot ≡ None → (m : ℕ) (part : Part) → m < length stack → Follows (Old (variables.Slot m part)) before (part_of part (get_or stack m 0))
+module _ (g : GroundView) (start : AbsState) (k : AbsDraft) (entry : Entry) (before : Valuation) (d : DraftView) where
+  untouched : (stack : List ℕ) → Fits g start k entry before d stack → k.effect.slot ≡ None → (m : ℕ) (part : Part) → m < length stack → FollowsChange (Old (variables.Slot m part)) before (part_of part (get_or stack m 0))
   untouched stack f none m part i =
-      let h : Follows (slot_change k.effect.slot m part) before (part_of part (get_or stack m 0)) = f.follows (variables.Slot m part) i in
-      subst (λ (c : Option SlotChange). Follows (slot_change c m part) before (part_of part (get_or stack m 0))) none h
+      let h : FollowsChange (slot_change k.effect.slot m part) before (part_of part (get_or stack m 0)) = f.follows (variables.Slot m part) i in
+      subst (λ (c : Option SlotChange). FollowsChange (slot_change c m part) before (part_of part (get_or stack m 0))) none h
 
   push_pair_done : (stack : List ℕ) (pair : Pair) (word high low : Change) (n : ℕ) → HoldsPair pair entry n → PartsFollow word high low before n → k.effect.slot ≡ None → length k.state.shape < 64
       → Fits g start k entry before d stack → Fits g start (push_pair pair (record { word = word; high = high; low = low }) k) entry before d (stack ++ n ∷ [])
@@ -127,18 +127,18 @@ module _ (g : Ground) (start : AbsState) (k : Known) (entry : Entry) (before : V
         readable = f.readable;
       })
 
-  -- the last number of a shape is that of the words below the top
+  -- the number of a shape's last slot is the number of the words below the top
   last_number : (rest : List ℕ) (word : ℕ) → Fits g start k entry before d (rest ++ word ∷ []) → length k.state.shape - 1 ≡ length rest
   last_number rest word f =
       let longer : length (rest ++ word ∷ []) ≡ length rest + 1 = length-append rest (word ∷ []) in
       let same = as_long k.state.shape entry (rest ++ word ∷ []) f.shape in
       omega arith
 
-  still : (rest : List ℕ) (word : ℕ) → Fits g start k entry before d (rest ++ word ∷ []) → (m : ℕ) (part : Part) → m < length rest → Follows (slot_change k.effect.slot m part) before (part_of part (get_or rest m 0))
+  still : (rest : List ℕ) (word : ℕ) → Fits g start k entry before d (rest ++ word ∷ []) → (m : ℕ) (part : Part) → m < length rest → FollowsChange (slot_change k.effect.slot m part) before (part_of part (get_or rest m 0))
   still rest word f m part i =
       let longer : length (rest ++ word ∷ []) ≡ length rest + 1 = length-append rest (word ∷ []) in
       let inside : m < length (rest ++ word ∷ []) = omega arith in
-      subst (λ (x : ℕ). Follows (slot_change k.effect.slot m part) before (part_of part x)) (get_or_append_left rest (word ∷ []) 0 m i) (f.follows (variables.Slot m part) inside)
+      subst (λ (x : ℕ). FollowsChange (slot_change k.effect.slot m part) before (part_of part x)) (get_or_append_left rest (word ∷ []) 0 m i) (f.follows (variables.Slot m part) inside)
 
   pop_pair_done : (rest : List ℕ) (word : ℕ) → Fits g start k entry before d (rest ++ word ∷ []) → Fits g start (pop_pair k) entry before d rest
   pop_pair_done rest word f = record {
@@ -163,8 +163,8 @@ module _ (g : Ground) (start : AbsState) (k : Known) (entry : Entry) (before : V
   put_last_done rest old pair word high low n h p none f =
       let top : Slot = record { pair = pair } in
       let place = last_number rest old f in
-      let below : (m : ℕ) (part : Part) → m < length rest → Follows (Old (variables.Slot m part)) before (part_of part (get_or rest m 0)) =
-      λ m part i. subst (λ (c : Option SlotChange). Follows (slot_change c m part) before (part_of part (get_or rest m 0))) none (still rest old f m part i) in
+      let below : (m : ℕ) (part : Part) → m < length rest → FollowsChange (Old (variables.Slot m part)) before (part_of part (get_or rest m 0)) =
+      λ m part i. subst (λ (c : Option SlotChange). FollowsChange (slot_change c m part) before (part_of part (get_or rest m 0))) none (still rest old f m part i) in
       record {
         regs = f.regs;
         operand_byte = f.operand_byte;
@@ -183,7 +183,7 @@ module _ (g : Ground) (start : AbsState) (k : Known) (entry : Entry) (before : V
         readable = f.readable;
       }
 
-  -- what is known of the last slot is true of the word on top
+  -- what is known of the last slot is true of the top word
   last_holds : (rest : List ℕ) (word : ℕ) → Fits g start k entry before d (rest ++ word ∷ []) → HoldsPair (last_slot k.state.shape).pair entry word
   last_holds rest word f =
       let there : get_or (rest ++ word ∷ []) (length k.state.shape - 1) 0 ≡ word = get_or_push rest word 0 _ (sym (last_number rest word f)) in
@@ -196,8 +196,8 @@ module _ (g : Ground) (start : AbsState) (k : Known) (entry : Entry) (before : V
       let longer : length (rest ++ word ∷ []) ≡ length rest + 1 = length-append rest (word ∷ []) in
       let inside : length k.state.shape - 1 < length (rest ++ word ∷ []) = omega arith in
       let there : get_or (rest ++ word ∷ []) (length k.state.shape - 1) 0 ≡ word = get_or_push rest word 0 _ (sym place) in
-      let told : (part : Part) → Follows (slot_change k.effect.slot (length k.state.shape - 1) part) before (part_of part word) =
-      λ part. subst (λ (x : ℕ). Follows (slot_change k.effect.slot (length k.state.shape - 1) part) before (part_of part x)) there (f.follows (variables.Slot (length k.state.shape - 1) part) inside) in
+      let told : (part : Part) → FollowsChange (slot_change k.effect.slot (length k.state.shape - 1) part) before (part_of part word) =
+      λ part. subst (λ (x : ℕ). FollowsChange (slot_change k.effect.slot (length k.state.shape - 1) part) before (part_of part x)) there (f.follows (variables.Slot (length k.state.shape - 1) part) inside) in
       record { of_word = told Word; of_high = told High; of_low = told Low }
 
 -- ---- the moves
@@ -208,30 +208,30 @@ above_small sp n = omega arith
 below_small : (sp n : ℕ) → below sp n < 65536
 below_small sp n = omega arith
 
--- nothing is followed of SP, and nothing is known of the accesses
-sp_moved : {g : Ground} {start : AbsState} {k : Known} {entry : Entry} {before : Valuation} {d : Draft} {stack : List ℕ} (sp : ℕ) (accesses : List StackAccess) → sp < 65536 → Fits g start k entry before d stack
+-- nothing is known of SP and of the accesses
+sp_moved : {g : GroundView} {start : AbsState} {k : AbsDraft} {entry : Entry} {before : Valuation} {d : DraftView} {stack : List ℕ} (sp : ℕ) (accesses : List StackAccess) → sp < 65536 → Fits g start k entry before d stack
     → Fits g start k entry before (record (with_word words.Sp sp d) { stack = accesses }) stack
 sp_moved {g = g} {start = start} {k = k} {entry = entry} {before = before} {d = d} {stack = stack} sp accesses small f =
     rest_changed (word_done words.Sp (full 65536) Unknown sp small (omega arith) refl f) d.has_read d.taken d.halts accesses
 
--- the changes of a slot and of a register pair apart
-take_keeps : (w : WordRegister) (pair : Pair) (word high low : Change) (k : Known) → ((put_pair w pair (record { word = word; high = high; low = low }) k).state.shape ≡ k.state.shape) × ((put_pair w pair (record { word = word; high = high; low = low }) k).effect.slot ≡ k.effect.slot)
+-- the changes of a slot and of a register pair are independent
+take_keeps : (w : WordRegister) (pair : Pair) (word high low : Change) (k : AbsDraft) → ((put_known_pair w pair (record { word = word; high = high; low = low }) k).state.shape ≡ k.state.shape) × ((put_known_pair w pair (record { word = word; high = high; low = low }) k).effect.slot ≡ k.effect.slot)
 take_keeps words.Af pair word high low k = (refl, refl)
 take_keeps _ pair word high low k = (refl, refl)
 
-module _ (g : Ground) (start : AbsState) (o : Outside) (k : Known) (entry : Entry) (before : Valuation) (d : Draft) where
+module _ (g : GroundView) (start : AbsState) (o : Outside) (k : AbsDraft) (entry : Entry) (before : Valuation) (d : DraftView) where
   pushed_done : (stack : List ℕ) (w : WordRegister) → k.effect.slot ≡ None → length k.state.shape < 64 → Fits g start k entry before d stack
-      → Fits g start (push_pair (known_pair w k) (parts_of w k.effect) k) entry before (pushed_word (word_in w d) d) (stack ++ word_in w d ∷ [])
+      → Fits g start (push_pair (known_pair w k) (known_parts_of w k.effect) k) entry before (pushed_word (draft_word w d) d) (stack ++ draft_word w d ∷ [])
   pushed_done stack w none room f =
-      let n = word_in w d in
+      let n = draft_word w d in
       let pair = pair_holds g start k entry before d stack f w in
       let parts = parts_follow g start k entry before d stack f w in
       let moved_sp = sp_moved (below d.regs.sp 2) (stack_written (below d.regs.sp 2) (n % 256) (stack_written (below d.regs.sp 1) (n / 256) d)).stack (below_small d.regs.sp 2) f in
-      push_pair_done g start k entry before (pushed_word n d) stack (known_pair w k) (parts_of w k.effect).word (parts_of w k.effect).high (parts_of w k.effect).low n pair parts none room moved_sp
+      push_pair_done g start k entry before (pushed_word n d) stack (known_pair w k) (known_parts_of w k.effect).word (known_parts_of w k.effect).high (known_parts_of w k.effect).low n pair parts none room moved_sp
 
-  -- a push, but that of a call that is not inline
+  -- a push, except that of a call that is not inline
   pub push_fits : (inline : Bool) (stack : List ℕ) (w : WordRegister) → (w ≡ words.Pc → inline ≡ true) → k.effect.slot ≡ None → length k.state.shape < 64 → Fits g start k entry before d stack
-      → Fits g start (after_move g inline (Push w) k) entry before (moved o (Push w) d) (stack ++ word_in w d ∷ [])
+      → Fits g start (after_move g inline (Push w) k) entry before (moved o (Push w) d) (stack ++ draft_word w d ∷ [])
   unfolding after_move moved
   push_fits inline stack words.Pc only none room f = rw (only refl) (pushed_done stack words.Pc none room f)
   push_fits inline stack w only none room f = pushed_done stack w none room f
@@ -242,8 +242,8 @@ module _ (g : Ground) (start : AbsState) (o : Outside) (k : Known) (entry : Entr
       let n = d.regs.pc in
       sp_moved (below d.regs.sp 2) (stack_written (below d.regs.sp 2) (n % 256) (stack_written (below d.regs.sp 1) (n / 256) d)).stack (below_small d.regs.sp 2) f
 
-  -- the word on top comes into a register, whatever the accesses
-  taken_done : (rest : List ℕ) (word : ℕ) (w : WordRegister) (e : Draft) → word < 65536 → word_read o e.has_read d.regs.sp ≡ word → Fits g start k entry before e (rest ++ word ∷ [])
+  -- the top word goes into a register, whatever the accesses
+  taken_done : (rest : List ℕ) (word : ℕ) (w : WordRegister) (e : DraftView) → word < 65536 → word_read o e.has_read d.regs.sp ≡ word → Fits g start k entry before e (rest ++ word ∷ [])
       → Fits g start (take_slot w k) entry before (read_word o w d.regs.sp e) (rest ++ word ∷ [])
   taken_done rest word w e small found f =
       let n = word_read o e.has_read d.regs.sp in
@@ -263,18 +263,18 @@ module _ (g : Ground) (start : AbsState) (o : Outside) (k : Known) (entry : Entr
       pop_pair_done g start (take_slot w k) entry before (read_word o w d.regs.sp e) rest word (taken_done rest word w e small found moved_sp)
 
   pub exchange_fits : (inline : Bool) (rest : List ℕ) (word : ℕ) (w : WordRegister) → word < 65536 → word_read o d.has_read d.regs.sp ≡ word → k.effect.slot ≡ None → Fits g start k entry before d (rest ++ word ∷ [])
-      → Fits g start (after_move g inline (ExchangeStack w) k) entry before (moved o (ExchangeStack w) d) (rest ++ word_in w d ∷ [])
+      → Fits g start (after_move g inline (ExchangeStack w) k) entry before (moved o (ExchangeStack w) d) (rest ++ draft_word w d ∷ [])
   unfolding after_move moved
   exchange_fits inline rest word w small found none f =
-      let n = word_in w d in
+      let n = draft_word w d in
       let e = stack_written (above d.regs.sp 1) (n / 256) (stack_written d.regs.sp (n % 256) d) in
       let written : Fits g start k entry before e (rest ++ word ∷ []) = rest_changed f d.has_read d.taken d.halts e.stack in
       let parts = slot_parts (length k.state.shape - 1) k.effect in
       let kept = take_keeps w (last_slot k.state.shape).pair parts.word parts.high parts.low k in
-      put_last_done g start (take_slot w k) entry before (read_word o w d.regs.sp e) rest word (known_pair w k) (parts_of w k.effect).word (parts_of w k.effect).high (parts_of w k.effect).low n
+      put_last_done g start (take_slot w k) entry before (read_word o w d.regs.sp e) rest word (known_pair w k) (known_parts_of w k.effect).word (known_parts_of w k.effect).high (known_parts_of w k.effect).low n
       (pair_holds g start k entry before d (rest ++ word ∷ []) f w) (parts_follow g start k entry before d (rest ++ word ∷ []) f w) (kept.1 ∙ none) (taken_done rest word w e small found written)
 
--- ---- a return with no word of its own on the stack
+-- ---- a return without a word of its own on the stack
 
 empty_popped : (slots : List Slot) (entry : Entry) → HoldsShape slots entry [] → HoldsShape (without_last slots) entry []
 empty_popped [] entry h = tt
@@ -284,7 +284,7 @@ nothing_known : (slots : List Slot) (entry : Entry) (n : ℕ) → n < 65536 → 
 nothing_known [] entry n small h = record { word = omega arith; high = omega arith; low = omega arith; origin = tt }
 nothing_known (s ∷ ss) entry n small h = absurd h
 
-pub return_fits : (g : Ground) (start : AbsState) (o : Outside) (inline : Bool) (k : Known) (entry : Entry) (before : Valuation) (d : Draft) → word_read o d.has_read d.regs.sp < 65536 → Fits g start k entry before d []
+pub return_fits : (g : GroundView) (start : AbsState) (o : Outside) (inline : Bool) (k : AbsDraft) (entry : Entry) (before : Valuation) (d : DraftView) → word_read o d.has_read d.regs.sp < 65536 → Fits g start k entry before d []
     → Fits g start (after_move g inline (Pop words.Pc) k) entry before (moved o (Pop words.Pc) d) []
 unfolding after_move moved
 return_fits g start o inline k entry before d small f =

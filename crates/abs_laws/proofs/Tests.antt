@@ -1,4 +1,4 @@
--- What a test leaves is true where the test came out so.
+-- What a test leaves is true for its actual outcome.
 use Rattle.std.proofs.Common.{◌≡◌, ◌-◌, ℕ, Bool, true, false, not, eqb, refl, sym, ap, List, [], Option, Some, None, IsSomeAnd, IfSome, rules, cond}
 use Rattle.std.specs.Prelude.{option_map, ◌&&◌}
 use Rattle.intervals.specs.Domain.{Entry}
@@ -11,7 +11,7 @@ use Rattle.z80_decode.specs.declared.kinds.Condition.{Condition}
 use Rattle.z80_decode.specs.declared.kinds.Condition.TheVariants as conditions
 use Rattle.z80_decode.specs.declared.operands.Register8.{Register8}
 use Rattle.z80_decode.specs.declared.operands.Register8.TheVariants as registers
-use Rattle.z80_draft.specs.Draft.{Draft, word_in, test_holds}
+use Rattle.z80_draft.specs.Draft.{DraftView, draft_word, test_holds}
 use Rattle.z80_moves.specs.declared.moves.Test.{Test}
 use Rattle.z80_moves.specs.declared.moves.Test.TheVariants as tests
 use Rattle.z80_moves.specs.declared.registers.WordRegister.TheVariants as words
@@ -21,11 +21,11 @@ use Rattle.abs_state.specs.Narrowing.{Cut, to_range, to_all_but, with_cut_pair, 
 use Rattle.abs_state.specs.declared.fact.FlagFact.{FlagFact}
 use Rattle.abs_state.specs.declared.fact.FlagFact.TheVariants.{Zero, Compared}
 use Rattle.abs_state.specs.declared.state.AbsState.{AbsState}
-use Rattle.abs_draft.specs.Ground.{Ground}
+use Rattle.abs_draft.specs.Ground.{GroundView}
 use Rattle.abs_draft.specs.Outcomes.{state_tested, tested}
-use Rattle.abs_draft.specs.declared.known.Known.{Known}
-use Rattle.abs_laws.specs.Fits.{Fits, seen_by}
-use Rattle.abs_laws.specs.Lists.{IsKept}
+use Rattle.abs_draft.specs.declared.draft.AbsDraft.{AbsDraft}
+use Rattle.abs_laws.specs.Fits.{Fits, seen_by_draft}
+use Rattle.abs_laws.specs.Lists.{KeepsEffectAndShape}
 use Rattle.abs_laws.proofs.Parts.{changed_so, held, rest_changed}
 
 -- ---- a cut keeps the mode, the armed cells and the shape
@@ -89,7 +89,7 @@ test_keeps tests.BcNotZero is s = word_is_keeps (not is) Bc 0 s
 test_keeps tests.SearchGoesOn true s = word_is_keeps false Bc 0 s
 test_keeps tests.SearchGoesOn false s = (refl, refl, refl)
 
--- ---- a test tells of the state
+-- ---- what a test says about the state
 
 turned : (t b : Bool) → not t ≡ b → not b ≡ t
 turned true b e = ap not (sym e)
@@ -99,50 +99,50 @@ not_zero : (t b : Bool) → (not t && b) ≡ true → false ≡ t
 not_zero false b e = refl
 not_zero true b e = absurd (search rules)
 
-abbrev HoldsIn : Entry → Draft → List ℕ → Option AbsState → Type 0
-HoldsIn entry d stack o = IsSomeAnd o (λ t. Holds t [] entry (seen_by d stack))
+abbrev HoldsIn : Entry → DraftView → List ℕ → Option AbsState → Type 0
+HoldsIn entry d stack o = IsSomeAnd o (λ t. Holds t [] entry (seen_by_draft d stack))
 
-test_told : (g : Ground) (start : AbsState) (k : Known) (entry : Entry) (before : Valuation) (d : Draft) (stack : List ℕ) (test : Test) (is : Bool) → test_holds test d ≡ is → Fits g start k entry before d stack
+test_told : (g : GroundView) (start : AbsState) (k : AbsDraft) (entry : Entry) (before : Valuation) (d : DraftView) (stack : List ℕ) (test : Test) (is : Bool) → test_holds test d ≡ is → Fits g start k entry before d stack
     → HoldsIn entry d stack (state_tested test is k.state)
-test_told g start k entry before d stack (tests.Flag cc) is e f = condition_known k.state [] entry (seen_by d stack) f.regs (held f) is cc (sym e)
-test_told g start k entry before d stack tests.BNotZero is e f = byte_known k.state [] entry (seen_by d stack) f.regs (held f) (not is) registers.B 0 (turned (eqb d.regs.main.b 0) is e)
-test_told g start k entry before d stack tests.BcNotZero is e f = word_known k.state [] entry (seen_by d stack) (held f) (not is) Bc 0 (turned (eqb (word_in words.Bc d) 0) is e)
-test_told g start k entry before d stack tests.SearchGoesOn true e f = word_known k.state [] entry (seen_by d stack) (held f) false Bc 0 (not_zero (eqb (word_in words.Bc d) 0) _ e)
+test_told g start k entry before d stack (tests.Flag cc) is e f = condition_known k.state [] entry (seen_by_draft d stack) f.regs (held f) is cc (sym e)
+test_told g start k entry before d stack tests.BNotZero is e f = byte_known k.state [] entry (seen_by_draft d stack) f.regs (held f) (not is) registers.B 0 (turned (eqb d.regs.main.b 0) is e)
+test_told g start k entry before d stack tests.BcNotZero is e f = word_known k.state [] entry (seen_by_draft d stack) (held f) (not is) Bc 0 (turned (eqb (draft_word words.Bc d) 0) is e)
+test_told g start k entry before d stack tests.SearchGoesOn true e f = word_known k.state [] entry (seen_by_draft d stack) (held f) false Bc 0 (not_zero (eqb (draft_word words.Bc d) 0) _ e)
 test_told g start k entry before d stack tests.SearchGoesOn false e f = held f
 
-state_fits : {g : Ground} {start : AbsState} {k : Known} {entry : Entry} {before : Valuation} {d : Draft} {stack : List ℕ} (t : AbsState) → Holds t [] entry (seen_by d stack) → t.mode ≡ k.state.mode → t.armed ≡ k.state.armed
+state_fits : {g : GroundView} {start : AbsState} {k : AbsDraft} {entry : Entry} {before : Valuation} {d : DraftView} {stack : List ℕ} (t : AbsState) → Holds t [] entry (seen_by_draft d stack) → t.mode ≡ k.state.mode → t.armed ≡ k.state.armed
     → Fits g start k entry before d stack → Fits g start (record k { state = t }) entry before d stack
 state_fits t h mode armed f = changed_so f (record { in_range = f.regs; pc = refl; holds = h; mode = mode; armed = armed; follows = f.follows })
 
-known_fits : (g : Ground) (start : AbsState) (k : Known) (entry : Entry) (before : Valuation) (d : Draft) (stack : List ℕ) (o : Option AbsState) → HoldsIn entry d stack o → Keeps k.state o → Fits g start k entry before d stack
-    → IsSomeAnd (option_map (λ s. let n : Known = record k { state = s } in n) o) (λ n. Fits g start n entry before d stack)
+known_fits : (g : GroundView) (start : AbsState) (k : AbsDraft) (entry : Entry) (before : Valuation) (d : DraftView) (stack : List ℕ) (o : Option AbsState) → HoldsIn entry d stack o → Keeps k.state o → Fits g start k entry before d stack
+    → IsSomeAnd (option_map (λ s. let n : AbsDraft = record k { state = s } in n) o) (λ n. Fits g start n entry before d stack)
 known_fits g start k entry before d stack None h kept f = h
 known_fits g start k entry before d stack (Some t) h kept f = state_fits t h kept.0 kept.1 f
 
-pub test_fits : (g : Ground) (start : AbsState) (test : Test) (is : Bool) (k : Known) (entry : Entry) (before : Valuation) (d : Draft) (stack : List ℕ) → test_holds test d ≡ is → Fits g start k entry before d stack
+pub test_fits : (g : GroundView) (start : AbsState) (test : Test) (is : Bool) (k : AbsDraft) (entry : Entry) (before : Valuation) (d : DraftView) (stack : List ℕ) → test_holds test d ≡ is → Fits g start k entry before d stack
     → IsSomeAnd (tested test is k) (λ n. Fits g start n entry before d stack)
 test_fits g start test is k entry before d stack e f = known_fits g start k entry before d stack (state_tested test is k.state) (test_told g start k entry before d stack test is e f) (test_keeps test is k.state) f
 
--- the draft tells of itself whether the test held
-pub taken_fits : (g : Ground) (start : AbsState) (k : Known) (entry : Entry) (before : Valuation) (d : Draft) (stack : List ℕ) (taken : Bool) → Fits g start k entry before d stack → Fits g start k entry before (record d { taken = taken }) stack
+-- the draft itself has the outcome of the test
+pub taken_fits : (g : GroundView) (start : AbsState) (k : AbsDraft) (entry : Entry) (before : Valuation) (d : DraftView) (stack : List ℕ) (taken : Bool) → Fits g start k entry before d stack → Fits g start k entry before (record d { taken = taken }) stack
 taken_fits g start k entry before d stack taken f = rest_changed f d.has_read taken d.halts d.stack
 
 pub each_some : {X : Type 0} (o : Option X) (P Q : X → Type 0) → ((x : X) → P x → Q x) → IsSomeAnd o P → IsSomeAnd o Q
 each_some None P Q h k = k
 each_some (Some x) P Q h k = h x k
 
-pub test_fits_taken : (g : Ground) (start : AbsState) (test : Test) (is taken : Bool) (k : Known) (entry : Entry) (before : Valuation) (d : Draft) (stack : List ℕ) → test_holds test d ≡ is → Fits g start k entry before d stack
+pub test_fits_taken : (g : GroundView) (start : AbsState) (test : Test) (is taken : Bool) (k : AbsDraft) (entry : Entry) (before : Valuation) (d : DraftView) (stack : List ℕ) → test_holds test d ≡ is → Fits g start k entry before d stack
     → IsSomeAnd (tested test is k) (λ n. Fits g start n entry before (record d { taken = taken }) stack)
 test_fits_taken g start test is taken k entry before d stack e f =
     each_some (tested test is k) (λ n. Fits g start n entry before d stack) (λ n. Fits g start n entry before (record d { taken = taken }) stack) (λ n h. taken_fits g start n entry before d stack taken h)
     (test_fits g start test is k entry before d stack e f)
 
 -- a test changes neither the effect nor the shape
-tells_the_same : (k : Known) (o : Option AbsState) → Keeps k.state o → IfSome (option_map (λ s. let n : Known = record k { state = s } in n) o) (IsKept k)
+tells_the_same : (k : AbsDraft) (o : Option AbsState) → Keeps k.state o → IfSome (option_map (λ s. let n : AbsDraft = record k { state = s } in n) o) (KeepsEffectAndShape k)
 tells_the_same k None h = tt
 tells_the_same k (Some t) h = (refl, h.2)
 
-pub test_tells_the_same : (test : Test) (is : Bool) (k : Known) → IfSome (tested test is k) (IsKept k)
+pub test_tells_the_same : (test : Test) (is : Bool) (k : AbsDraft) → IfSome (tested test is k) (KeepsEffectAndShape k)
 test_tells_the_same test is k = tells_the_same k (state_tested test is k.state) (test_keeps test is k.state)
 
 pub both_some : {X : Type 0} (o : Option X) (P Q : X → Type 0) → IsSomeAnd o P → IfSome o Q → IsSomeAnd o (λ x. P x × Q x)

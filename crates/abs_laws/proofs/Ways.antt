@@ -1,9 +1,9 @@
--- The two ways of a list of moves: where its test held, and where it did not.
+-- The two outcomes of a list of moves: its test held, or it did not.
 use Rattle.std.proofs.Common.{◌≡◌, ◌+◌, ◌≤◌, ℕ, Bool, true, false, cond, refl, sym, ◌∙◌, ap, subst, arith, List, [], ◌∷◌, length, Some, None, IsSomeAnd}
 use Rattle.intervals.specs.Domain.{Entry}
 use Rattle.loop_bounds.specs.Effect.{Valuation}
 use Rattle.z80_draft.proofs.DraftLemmas.{counts, drafted_on}
-use Rattle.z80_draft.specs.Draft.{Draft, drafted, moved, test_holds, with_byte, with_word}
+use Rattle.z80_draft.specs.Draft.{DraftView, drafted, moved, test_holds, with_byte, with_word}
 use Rattle.z80_draft.specs.Outside.{Outside}
 use Rattle.z80_draft.specs.Room.{accesses_in, writes_in}
 use Rattle.z80_moves.specs.declared.moves.Move.{Move}
@@ -14,25 +14,25 @@ use Rattle.z80_moves.specs.declared.registers.ByteRegister.TheVariants as bytes
 use Rattle.z80_moves.specs.declared.registers.WordRegister.{WordRegister}
 use Rattle.z80_moves.specs.declared.registers.WordRegister.TheVariants as words
 use Rattle.abs_state.specs.declared.state.AbsState.{AbsState}
-use Rattle.abs_draft.specs.Ground.{Ground}
+use Rattle.abs_draft.specs.Ground.{GroundView}
 use Rattle.abs_draft.specs.Outcomes.{after_moves, before_test, behind_test, test_in, test_of, tested}
-use Rattle.abs_draft.specs.declared.known.Known.{Known}
+use Rattle.abs_draft.specs.declared.draft.AbsDraft.{AbsDraft}
 use Rattle.abs_laws.specs.Fits.{Fits, ReadsFit}
-use Rattle.abs_laws.specs.Lists.{IsKept, MayRun, marked}
+use Rattle.abs_laws.specs.Lists.{KeepsEffectAndShape, MayRun, marked}
 use Rattle.abs_laws.proofs.Lists.{first_none, goes, list_fits, parts_of_list, second_none, with_test, without_test}
 use Rattle.abs_laws.proofs.Tests.{both_some, each_some, test_fits_taken, test_tells_the_same}
 
 -- ---- a move that is no test keeps the outcome
 
-byte_taken : (r : ByteRegister) (n : ℕ) (d : Draft) → (with_byte r n d).taken ≡ d.taken
+byte_taken : (r : ByteRegister) (n : ℕ) (d : DraftView) → (with_byte r n d).taken ≡ d.taken
 byte_taken bytes.A n d = refl
 byte_taken _ n d = refl
 
-word_taken : (w : WordRegister) (n : ℕ) (d : Draft) → (with_word w n d).taken ≡ d.taken
+word_taken : (w : WordRegister) (n : ℕ) (d : DraftView) → (with_word w n d).taken ≡ d.taken
 word_taken words.Af n d = refl
 word_taken _ n d = refl
 
-move_keeps_taken : (o : Outside) (m : Move) (d : Draft) → test_in m ≡ None → (moved o m d).taken ≡ d.taken
+move_keeps_taken : (o : Outside) (m : Move) (d : DraftView) → test_in m ≡ None → (moved o m d).taken ≡ d.taken
 unfolding moved
 move_keeps_taken o (SetByte r n) d e = byte_taken r _ d
 move_keeps_taken o (SetWord w nn) d e = word_taken w _ d
@@ -57,38 +57,38 @@ move_keeps_taken o (ResetBit b r) d e = byte_taken r _ d
 move_keeps_taken o (OnlyIf test) d e = absurd (cc)
 move_keeps_taken o _ d e = refl
 
-pub moves_keep_taken : (o : Outside) (ms : List Move) (d : Draft) → test_of ms ≡ None → (drafted o ms d).taken ≡ d.taken
+pub moves_keep_taken : (o : Outside) (ms : List Move) (d : DraftView) → test_of ms ≡ None → (drafted o ms d).taken ≡ d.taken
 unfolding drafted test_of
 moves_keep_taken o [] d e = refl
 moves_keep_taken o (m ∷ ms) d e =
     let here = first_none (test_in m) (test_of ms) e in
-    ap (λ (x : Draft). x.taken) (drafted_on o m ms d (goes m (moved o m d) here)) ∙ moves_keep_taken o ms (moved o m d) (second_none (test_in m) (test_of ms) e) ∙ move_keeps_taken o m d here
+    ap (λ (x : DraftView). x.taken) (drafted_on o m ms d (goes m (moved o m d) here)) ∙ moves_keep_taken o ms (moved o m d) (second_none (test_in m) (test_of ms) e) ∙ move_keeps_taken o m d here
 
--- the draft of a list with a test tells how the test came out
-pub taken_is : (o : Outside) (ms : List Move) (test : Test) (d : Draft) → test_of ms ≡ Some test → test_of (behind_test ms) ≡ None → (drafted o ms d).taken ≡ test_holds test (drafted o (before_test ms) d)
+-- the draft of a list with a test has the outcome of the test
+pub taken_is : (o : Outside) (ms : List Move) (test : Test) (d : DraftView) → test_of ms ≡ Some test → test_of (behind_test ms) ≡ None → (drafted o ms d).taken ≡ test_holds test (drafted o (before_test ms) d)
 taken_is o ms test d e none =
     let at = drafted o (before_test ms) d in
-    ap (λ (x : Draft). x.taken) (with_test o ms test d e) ∙ either (test_holds test at) (drafted o (behind_test ms) (marked test at)) (marked test at) (test_holds test at) (moves_keep_taken o (behind_test ms) (marked test at) none) refl
+    ap (λ (x : DraftView). x.taken) (with_test o ms test d e) ∙ either (test_holds test at) (drafted o (behind_test ms) (marked test at)) (marked test at) (test_holds test at) (moves_keep_taken o (behind_test ms) (marked test at) none) refl
   where
-    either : (b : Bool) (x y : Draft) (taken : Bool) → x.taken ≡ taken → y.taken ≡ taken → (cond b x y).taken ≡ taken
+    either : (b : Bool) (x y : DraftView) (taken : Bool) → x.taken ≡ taken → y.taken ≡ taken → (cond b x y).taken ≡ taken
     either true x y taken p q = p
     either false x y taken p q = q
 
 -- ---- data writes of a list
 
-moves_write : (o : Outside) (ms : List Move) (d : Draft) → test_of ms ≡ None → length (drafted o ms d).writes ≡ length d.writes + writes_in ms
+moves_write : (o : Outside) (ms : List Move) (d : DraftView) → test_of ms ≡ None → length (drafted o ms d).writes ≡ length d.writes + writes_in ms
 unfolding drafted test_of
 moves_write o [] d e = omega arith
 moves_write o (m ∷ ms) d e =
-    let on = ap (λ (x : Draft). length x.writes) (drafted_on o m ms d (goes m (moved o m d) (first_none (test_in m) (test_of ms) e))) in
+    let on = ap (λ (x : DraftView). length x.writes) (drafted_on o m ms d (goes m (moved o m d) (first_none (test_in m) (test_of ms) e))) in
     let rest = moves_write o ms (moved o m d) (second_none (test_in m) (test_of ms) e) in
     let one = (counts o m d).writes in
     omega arith
 
--- ---- containment
+-- ---- soundness
 
-module _ (g : Ground) (start : AbsState) (o : Outside) (inline : Bool) (ms : List Move) (k : Known) (entry : Entry) (before : Valuation) (d : Draft) (stack : List ℕ) (may : MayRun g o k d ms) (f : Fits g start k entry before d stack) where
-  -- at the test, and at the end where there is none
+module _ (g : GroundView) (start : AbsState) (o : Outside) (inline : Bool) (ms : List Move) (k : AbsDraft) (entry : Entry) (before : Valuation) (d : DraftView) (stack : List ℕ) (may : MayRun g o k d ms) (f : Fits g start k entry before d stack) where
+  -- at the test, or at the end without one
   pub test_met : accesses_in (before_test ms) ≡ 0 → Fits g start (after_moves g inline (before_test ms) k) entry before (drafted o (before_test ms) d) stack
   test_met calm =
       let parts = parts_of_list ms in
@@ -114,22 +114,22 @@ module _ (g : Ground) (start : AbsState) (o : Outside) (inline : Bool) (ms : Lis
         let at = drafted o (before_test ms) d in
         with_test o ms test d e ∙ ap (λ (t : Bool). cond t (drafted o (behind_test ms) (marked test at)) (marked test at)) (told b h)
 
-    -- where it did not hold
+    -- the test did not hold
     pub goes_left : accesses_in (before_test ms) ≡ 0 → (drafted o ms d).taken ≡ false → IsSomeAnd (tested test false (after_moves g inline (before_test ms) k)) (λ n. Fits g start n entry before (drafted o ms d) stack)
     goes_left calm h =
-        subst (λ (x : Draft). IsSomeAnd (tested test false (after_moves g inline (before_test ms) k)) (λ n. Fits g start n entry before x stack)) (sym (ends_so false h)) (narrowed calm false h)
+        subst (λ (x : DraftView). IsSomeAnd (tested test false (after_moves g inline (before_test ms) k)) (λ n. Fits g start n entry before x stack)) (sym (ends_so false h)) (narrowed calm false h)
 
-    -- where it held, before the moves behind it
+    -- the test held, before the moves after it
     pub goes_held : accesses_in (before_test ms) ≡ 0 → (drafted o ms d).taken ≡ true
-        → IsSomeAnd (tested test true (after_moves g inline (before_test ms) k)) (λ n. Fits g start n entry before (marked test (drafted o (before_test ms) d)) stack × IsKept (after_moves g inline (before_test ms) k) n)
+        → IsSomeAnd (tested test true (after_moves g inline (before_test ms) k)) (λ n. Fits g start n entry before (marked test (drafted o (before_test ms) d)) stack × KeepsEffectAndShape (after_moves g inline (before_test ms) k) n)
         × (drafted o ms d ≡ drafted o (behind_test ms) (marked test (drafted o (before_test ms) d)))
     goes_held calm h = (
-      both_some (tested test true (after_moves g inline (before_test ms) k)) (λ n. Fits g start n entry before (marked test (drafted o (before_test ms) d)) stack) (IsKept (after_moves g inline (before_test ms) k))
+      both_some (tested test true (after_moves g inline (before_test ms) k)) (λ n. Fits g start n entry before (marked test (drafted o (before_test ms) d)) stack) (KeepsEffectAndShape (after_moves g inline (before_test ms) k))
           (narrowed calm true h) (test_tells_the_same test true (after_moves g inline (before_test ms) k)),
       ends_so true h,
     )
 
-    -- and behind them
+    -- the test held, after those moves
     pub goes_taken : accesses_in ms ≡ 0 → (drafted o ms d).taken ≡ true → IsSomeAnd (tested test true (after_moves g inline (before_test ms) k)) (λ n. Fits g start (after_moves g inline (behind_test ms) n) entry before (drafted o ms d) stack)
     goes_taken calm h =
         let parts = parts_of_list ms in
@@ -139,7 +139,7 @@ module _ (g : Ground) (start : AbsState) (o : Outside) (inline : Bool) (ms : Lis
         let made : length at.writes ≡ length d.writes + writes_in (before_test ms) = moves_write o (before_test ms) d parts.before_has_none in
         let room : length d.writes + writes_in ms ≤ 2 = may.room in
         let reads : ReadsFit g o start.armed = subst (λ (n : ℕ). ReadsFit g o n) f.readable may.reads in
-        subst (λ (x : Draft). IsSomeAnd (tested test true (after_moves g inline (before_test ms) k)) (λ n. Fits g start (after_moves g inline (behind_test ms) n) entry before x stack)) (sym (ends_so true h))
+        subst (λ (x : DraftView). IsSomeAnd (tested test true (after_moves g inline (before_test ms) k)) (λ n. Fits g start (after_moves g inline (behind_test ms) n) entry before x stack)) (sym (ends_so true h))
         (each_some (tested test true (after_moves g inline (before_test ms) k)) (λ n. Fits g start n entry before (marked test at) stack) (λ n. Fits g start (after_moves g inline (behind_test ms) n) entry before (drafted o (behind_test ms) (marked test at)) stack)
         (λ n fits. list_fits g start o inline (behind_test ms) n entry before (marked test at) stack (omega arith) (parts.in_range may.in_range).1 may.once (omega arith) (subst (λ (m : ℕ). ReadsFit g o m) (sym fits.readable) reads) fits)
         (narrowed (omega arith) true h))

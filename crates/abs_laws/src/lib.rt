@@ -1,6 +1,6 @@
-// What is known while an instruction goes through its moves stays true of what the machine does (docs/CHECKER.md, "The
-// abstract step"): for each kind of move, the abstract one contains the machine's. Each law is the contract of a function
-// with an empty body.
+// Soundness of the abstract draft (docs/CHECKER.md, "The abstract step"): for each kind of move, what is known after
+// the abstract move describes the draft after the machine's move. Each law is the contract of a function with an empty
+// body.
 #![tactic(auto)]
 
 mod data_writes;

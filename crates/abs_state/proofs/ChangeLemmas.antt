@@ -1,8 +1,8 @@
--- A state that holds holds after a change of a register, where the register changes so.
+-- A state that holds still holds after the same change of a register in state and machine.
 use Rattle.std.proofs.Common.{◌≡◌, ◌<◌, ◌+◌, ◌*◌, ◌/◌, ◌%◌, ℕ, refl, sym, subst, arith, List, Option, Some, None}
 use Rattle.intervals.specs.Domain.{Entry}
 use Rattle.intervals.specs.Pair.{HoldsPair, written_bytes}
-use Rattle.intervals.specs.Range.{Interval, Within}
+use Rattle.intervals.specs.Range.{RangeView, Within}
 use Rattle.intervals.specs.declared.pair.Pair.{Pair}
 use Rattle.intervals.specs.declared.reg_pair.RegPair.{RegPair}
 use Rattle.intervals.specs.declared.reg_pair.RegPair.TheVariants.{Af, Bc, De, Hl, Ix, Iy, AlternateAf, AlternateBc, AlternateDe, AlternateHl}
@@ -17,15 +17,15 @@ use Rattle.abs_state.specs.Fact.{HoldsFact, fact_without}
 use Rattle.abs_state.specs.Holds.{Holds}
 use Rattle.abs_state.specs.Pairs.{HoldsPairs, pair_of, with_pair, word_in, entry_of}
 use Rattle.abs_state.specs.Registers.{with_byte_range, fact_behind, put_byte, put_pair}
-use Rattle.abs_state.specs.Seen.{Seen, with_byte, with_word}
+use Rattle.abs_state.specs.Seen.{Seen, regs_with_byte, regs_with_word}
 use Rattle.abs_state.specs.declared.cell.KeptCell.{KeptCell}
 use Rattle.abs_state.specs.declared.fact.FlagFact.{FlagFact}
 use Rattle.abs_state.specs.declared.fact.FlagFact.TheVariants.{Zero, Compared}
 use Rattle.abs_state.specs.declared.pairs.Pairs.{Pairs}
 use Rattle.abs_state.specs.declared.state.AbsState.{AbsState}
 
--- a fact outlives a write of another register
-pub fact_kept : (r : Register8) (n : ℕ) (fact : Option FlagFact) (regs : Regs) → HoldsFact fact regs → HoldsFact (fact_without r fact) (with_byte r n regs)
+-- a fact stays after a write to another register
+pub fact_kept : (r : Register8) (n : ℕ) (fact : Option FlagFact) (regs : Regs) → HoldsFact fact regs → HoldsFact (fact_without r fact) (regs_with_byte r n regs)
 fact_kept A n None regs h = tt
 fact_kept A n (Some (Zero A)) regs h = tt
 fact_kept A n (Some (Zero B)) regs h = h
@@ -90,7 +90,7 @@ fact_kept L n (Some (Zero H)) regs h = h
 fact_kept L n (Some (Zero L)) regs h = tt
 fact_kept L n (Some (Compared byte)) regs h = h
 
--- a fact speaks of the main set alone
+-- a fact depends only on the main set
 fact_of_main : (fact : Option FlagFact) (regs new : Regs) → new.main ≡ regs.main → HoldsFact fact regs → HoldsFact fact new
 fact_of_main None regs new e h = tt
 fact_of_main (Some (Compared byte)) regs new e h = rw e h
@@ -102,11 +102,11 @@ fact_of_main (Some (Zero E)) regs new e h = rw e h
 fact_of_main (Some (Zero H)) regs new e h = rw e h
 fact_of_main (Some (Zero L)) regs new e h = rw e h
 
-fact_kept_behind : (pair : RegPair) (word : ℕ) (fact : Option FlagFact) (regs : Regs) → HoldsFact fact regs → HoldsFact (fact_behind pair fact) (with_word pair word regs)
+fact_kept_behind : (pair : RegPair) (word : ℕ) (fact : Option FlagFact) (regs : Regs) → HoldsFact fact regs → HoldsFact (fact_behind pair fact) (regs_with_word pair word regs)
 fact_kept_behind Af word fact regs h = tt
-fact_kept_behind Bc word fact regs h = fact_kept B (word / 256) (fact_without C fact) (with_byte C (word % 256) regs) (fact_kept C (word % 256) fact regs h)
-fact_kept_behind De word fact regs h = fact_kept D (word / 256) (fact_without E fact) (with_byte E (word % 256) regs) (fact_kept E (word % 256) fact regs h)
-fact_kept_behind Hl word fact regs h = fact_kept H (word / 256) (fact_without L fact) (with_byte L (word % 256) regs) (fact_kept L (word % 256) fact regs h)
+fact_kept_behind Bc word fact regs h = fact_kept B (word / 256) (fact_without C fact) (regs_with_byte C (word % 256) regs) (fact_kept C (word % 256) fact regs h)
+fact_kept_behind De word fact regs h = fact_kept D (word / 256) (fact_without E fact) (regs_with_byte E (word % 256) regs) (fact_kept E (word % 256) fact regs h)
+fact_kept_behind Hl word fact regs h = fact_kept H (word / 256) (fact_without L fact) (regs_with_byte L (word % 256) regs) (fact_kept L (word % 256) fact regs h)
 fact_kept_behind Ix word fact regs h = fact_of_main fact regs _ refl h
 fact_kept_behind Iy word fact regs h = fact_of_main fact regs _ refl h
 fact_kept_behind AlternateAf word fact regs h = fact_of_main fact regs _ refl h
@@ -114,14 +114,14 @@ fact_kept_behind AlternateBc word fact regs h = fact_of_main fact regs _ refl h
 fact_kept_behind AlternateDe word fact regs h = fact_of_main fact regs _ refl h
 fact_kept_behind AlternateHl word fact regs h = fact_of_main fact regs _ refl h
 
--- a byte written
-high_put : (p : Pair) (range : Interval) (entry : Entry) (n x y : ℕ) → y < 256 → HoldsPair p entry (x * 256 + y) → Within range n → HoldsPair (written_bytes range p.low) entry (n * 256 + y)
+-- a byte is written
+high_put : (p : Pair) (range : RangeView) (entry : Entry) (n x y : ℕ) → y < 256 → HoldsPair p entry (x * 256 + y) → Within range n → HoldsPair (written_bytes range p.low) entry (n * 256 + y)
 high_put p range entry n x y small h w = let low = h.low in written_bytes_holds range p.low entry n y (omega arith) w (omega arith)
 
-low_put : (p : Pair) (range : Interval) (entry : Entry) (n x y : ℕ) → y < 256 → n < 256 → HoldsPair p entry (x * 256 + y) → Within range n → HoldsPair (written_bytes p.high range) entry (x * 256 + n)
+low_put : (p : Pair) (range : RangeView) (entry : Entry) (n x y : ℕ) → y < 256 → n < 256 → HoldsPair p entry (x * 256 + y) → Within range n → HoldsPair (written_bytes p.high range) entry (x * 256 + n)
 low_put p range entry n x y small new_small h w = let high = h.high in written_bytes_holds p.high range entry x n (omega arith) (omega arith) w
 
-pairs_put : (r : Register8) (range : Interval) (n : ℕ) (p : Pairs) (entry : Entry) (regs : Regs) → n < 256 → IsRegs regs → Within range n → HoldsPairs p entry regs → HoldsPairs (with_byte_range r range p) entry (with_byte r n regs)
+pairs_put : (r : Register8) (range : RangeView) (n : ℕ) (p : Pairs) (entry : Entry) (regs : Regs) → n < 256 → IsRegs regs → Within range n → HoldsPairs p entry regs → HoldsPairs (with_byte_range r range p) entry (regs_with_byte r n regs)
 pairs_put A range n q entry regs small i w p = record { af = high_put q.af range entry n regs.main.a regs.main.f i.main.f p.af w; bc = p.bc; de = p.de; hl = p.hl; ix = p.ix; iy = p.iy; alternate_af = p.alternate_af; alternate_bc = p.alternate_bc; alternate_de = p.alternate_de; alternate_hl = p.alternate_hl }
 pairs_put B range n q entry regs small i w p = record { af = p.af; bc = high_put q.bc range entry n regs.main.b regs.main.c i.main.c p.bc w; de = p.de; hl = p.hl; ix = p.ix; iy = p.iy; alternate_af = p.alternate_af; alternate_bc = p.alternate_bc; alternate_de = p.alternate_de; alternate_hl = p.alternate_hl }
 pairs_put C range n q entry regs small i w p = record { af = p.af; bc = low_put q.bc range entry n regs.main.b regs.main.c i.main.c small p.bc w; de = p.de; hl = p.hl; ix = p.ix; iy = p.iy; alternate_af = p.alternate_af; alternate_bc = p.alternate_bc; alternate_de = p.alternate_de; alternate_hl = p.alternate_hl }
@@ -130,7 +130,7 @@ pairs_put E range n q entry regs small i w p = record { af = p.af; bc = p.bc; de
 pairs_put H range n q entry regs small i w p = record { af = p.af; bc = p.bc; de = p.de; hl = high_put q.hl range entry n regs.main.h regs.main.l i.main.l p.hl w; ix = p.ix; iy = p.iy; alternate_af = p.alternate_af; alternate_bc = p.alternate_bc; alternate_de = p.alternate_de; alternate_hl = p.alternate_hl }
 pairs_put L range n q entry regs small i w p = record { af = p.af; bc = p.bc; de = p.de; hl = low_put q.hl range entry n regs.main.h regs.main.l i.main.l small p.hl w; ix = p.ix; iy = p.iy; alternate_af = p.alternate_af; alternate_bc = p.alternate_bc; alternate_de = p.alternate_de; alternate_hl = p.alternate_hl }
 
-pub byte_put : (r : Register8) (range : Interval) (n : ℕ) (s : AbsState) (cells : List KeptCell) (entry : Entry) (m : Seen) → n < 256 → IsRegs m.regs → Within range n → Holds s cells entry m → Holds (put_byte r range s) cells entry (record m { regs = with_byte r n m.regs })
+pub byte_put : (r : Register8) (range : RangeView) (n : ℕ) (s : AbsState) (cells : List KeptCell) (entry : Entry) (m : Seen) → n < 256 → IsRegs m.regs → Within range n → Holds s cells entry m → Holds (put_byte r range s) cells entry (record m { regs = regs_with_byte r n m.regs })
 byte_put r range n s cells entry m small i w h = record {
   mode = h.mode;
   cells_hold = h.cells_hold;
@@ -139,14 +139,14 @@ byte_put r range n s cells entry m small i w h = record {
   shape = h.shape;
 }
 
--- a word written
+-- a word is written
 whole : (word : ℕ) → word / 256 * 256 + word % 256 ≡ word
 whole word = omega arith
 
 parted : (p : Pair) (entry : Entry) (word : ℕ) → HoldsPair p entry word → HoldsPair p entry (word_of (word / 256) (word % 256))
 parted p entry word h = subst (λ (n : ℕ). HoldsPair p entry n) (sym (whole word)) h
 
-pairs_put_word : (r : RegPair) (new : Pair) (word : ℕ) (p : Pairs) (entry : Entry) (regs : Regs) → HoldsPair new entry word → HoldsPairs p entry regs → HoldsPairs (with_pair r new p) entry (with_word r word regs)
+pairs_put_word : (r : RegPair) (new : Pair) (word : ℕ) (p : Pairs) (entry : Entry) (regs : Regs) → HoldsPair new entry word → HoldsPairs p entry regs → HoldsPairs (with_pair r new p) entry (regs_with_word r word regs)
 pairs_put_word Af new word q entry regs k p = record { af = parted new entry word k; bc = p.bc; de = p.de; hl = p.hl; ix = p.ix; iy = p.iy; alternate_af = p.alternate_af; alternate_bc = p.alternate_bc; alternate_de = p.alternate_de; alternate_hl = p.alternate_hl }
 pairs_put_word Bc new word q entry regs k p = record { af = p.af; bc = parted new entry word k; de = p.de; hl = p.hl; ix = p.ix; iy = p.iy; alternate_af = p.alternate_af; alternate_bc = p.alternate_bc; alternate_de = p.alternate_de; alternate_hl = p.alternate_hl }
 pairs_put_word De new word q entry regs k p = record { af = p.af; bc = p.bc; de = parted new entry word k; hl = p.hl; ix = p.ix; iy = p.iy; alternate_af = p.alternate_af; alternate_bc = p.alternate_bc; alternate_de = p.alternate_de; alternate_hl = p.alternate_hl }
@@ -158,7 +158,7 @@ pairs_put_word AlternateBc new word q entry regs k p = record { af = p.af; bc = 
 pairs_put_word AlternateDe new word q entry regs k p = record { af = p.af; bc = p.bc; de = p.de; hl = p.hl; ix = p.ix; iy = p.iy; alternate_af = p.alternate_af; alternate_bc = p.alternate_bc; alternate_de = parted new entry word k; alternate_hl = p.alternate_hl }
 pairs_put_word AlternateHl new word q entry regs k p = record { af = p.af; bc = p.bc; de = p.de; hl = p.hl; ix = p.ix; iy = p.iy; alternate_af = p.alternate_af; alternate_bc = p.alternate_bc; alternate_de = p.alternate_de; alternate_hl = parted new entry word k }
 
-pub pair_put : (r : RegPair) (new : Pair) (word : ℕ) (s : AbsState) (cells : List KeptCell) (entry : Entry) (m : Seen) → HoldsPair new entry word → Holds s cells entry m → Holds (put_pair r new s) cells entry (record m { regs = with_word r word m.regs })
+pub pair_put : (r : RegPair) (new : Pair) (word : ℕ) (s : AbsState) (cells : List KeptCell) (entry : Entry) (m : Seen) → HoldsPair new entry word → Holds s cells entry m → Holds (put_pair r new s) cells entry (record m { regs = regs_with_word r word m.regs })
 pair_put r new word s cells entry m k h = record {
   mode = h.mode;
   cells_hold = h.cells_hold;
@@ -169,7 +169,7 @@ pair_put r new word s cells entry m k h = record {
 
 -- ---- after a call
 
--- each pair of those that hold
+-- each pair holds
 pub held_of : (p : Pairs) (entry : Entry) (regs : Regs) → HoldsPairs p entry regs → (r : RegPair) → HoldsPair (pair_of r p) entry (word_in r regs)
 held_of p entry regs h Af = h.af
 held_of p entry regs h Bc = h.bc

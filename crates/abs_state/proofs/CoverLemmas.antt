@@ -1,4 +1,4 @@
--- Covering of states widens, and a join covers both.
+-- Covering of states, and a join covers both.
 use Rattle.std.proofs.Common.{◌≡◌, ◌≤◌, ℕ, Bool, true, refl, sym, ap, ◌∙◌, zero, suc, arith, rules, List, [], ◌∷◌, length, Option, Some, None, inl, inr, ◌⊎◌, cond, eqb, subst}
 use Rattle.std.proofs.lemmas.Bool.{cases_Bool, eqb-true}
 use Rattle.intervals.specs.Domain.{Entry}
@@ -12,7 +12,7 @@ use Rattle.abs_state.specs.Covers.{CoversState, hull_in}
 use Rattle.abs_state.specs.Fact.{HoldsFact, place_of_byte, is_same_byte, is_same_fact, covers_fact, hull_of_facts}
 use Rattle.abs_state.specs.Holds.{Holds, HoldsMode}
 use Rattle.abs_state.specs.Mode.{covers_mode, hull_of_modes}
-use Rattle.abs_state.specs.Pairs.{HoldsPairs, CoversPairs, hull_of_pairs}
+use Rattle.abs_state.specs.Pairs.{HoldsPairs, CoversPairs, join_of_pairs}
 use Rattle.abs_state.specs.Seen.{Seen}
 use Rattle.abs_state.specs.declared.cell.KeptCell.{KeptCell}
 use Rattle.abs_state.specs.declared.fact.FlagFact.{FlagFact}
@@ -116,7 +116,7 @@ same_fact (Zero r) (Compared m) e = absurd (search rules)
 same_fact (Compared n) (Zero s) e = absurd (search rules)
 same_fact (Compared n) (Compared m) e = ap Compared (eqb-true _ _ e)
 
--- a fact that covers another is that fact, or none
+-- a fact that covers another is the same, or none
 fact_is : (f : FlagFact) (b : Option FlagFact) → covers_fact (Some f) b ≡ true → Some f ≡ b
 fact_is f None e = absurd (search rules)
 fact_is f (Some g) e = ap Some (same_fact f g e)
@@ -162,10 +162,10 @@ pairs_cover_along p q r h k = let hm = h.0 in let ha = h.1 in let km = k.0 in le
 pairs_wider : (p q : Pairs) (entry : Entry) (regs : Regs) → CoversPairs p q → HoldsPairs q entry regs → HoldsPairs p entry regs
 pairs_wider p q entry regs c h = let cm = c.0 in let ca = c.1 in record { af = holds_wider p.af q.af entry _ cm.af h.af; bc = holds_wider p.bc q.bc entry _ cm.bc h.bc; de = holds_wider p.de q.de entry _ cm.de h.de; hl = holds_wider p.hl q.hl entry _ cm.hl h.hl; ix = holds_wider p.ix q.ix entry _ cm.ix h.ix; iy = holds_wider p.iy q.iy entry _ cm.iy h.iy; alternate_af = holds_wider p.alternate_af q.alternate_af entry _ ca.alternate_af h.alternate_af; alternate_bc = holds_wider p.alternate_bc q.alternate_bc entry _ ca.alternate_bc h.alternate_bc; alternate_de = holds_wider p.alternate_de q.alternate_de entry _ ca.alternate_de h.alternate_de; alternate_hl = holds_wider p.alternate_hl q.alternate_hl entry _ ca.alternate_hl h.alternate_hl }
 
-hull_covers_first_pairs : (p q : Pairs) → CoversPairs (hull_of_pairs p q) p
+hull_covers_first_pairs : (p q : Pairs) → CoversPairs (join_of_pairs p q) p
 hull_covers_first_pairs p q = (record { af = hull_covers_first p.af q.af; bc = hull_covers_first p.bc q.bc; de = hull_covers_first p.de q.de; hl = hull_covers_first p.hl q.hl; ix = hull_covers_first p.ix q.ix; iy = hull_covers_first p.iy q.iy }, record { alternate_af = hull_covers_first p.alternate_af q.alternate_af; alternate_bc = hull_covers_first p.alternate_bc q.alternate_bc; alternate_de = hull_covers_first p.alternate_de q.alternate_de; alternate_hl = hull_covers_first p.alternate_hl q.alternate_hl })
 
-hull_covers_second_pairs : (p q : Pairs) → CoversPairs (hull_of_pairs p q) q
+hull_covers_second_pairs : (p q : Pairs) → CoversPairs (join_of_pairs p q) q
 hull_covers_second_pairs p q = (record { af = hull_covers_second p.af q.af; bc = hull_covers_second p.bc q.bc; de = hull_covers_second p.de q.de; hl = hull_covers_second p.hl q.hl; ix = hull_covers_second p.ix q.ix; iy = hull_covers_second p.iy q.iy }, record { alternate_af = hull_covers_second p.alternate_af q.alternate_af; alternate_bc = hull_covers_second p.alternate_bc q.alternate_bc; alternate_de = hull_covers_second p.alternate_de q.alternate_de; alternate_hl = hull_covers_second p.alternate_hl q.alternate_hl })
 
 -- ---- states

@@ -1,4 +1,4 @@
--- Cells of work RAM that hold bytes of a range (docs/CHECKER.md, "Kept cells").
+-- Kept cells (docs/CHECKER.md, "What a row knows").
 use Rattle.std.specs.Prelude.{ℕ, List, take}
 use Rattle.std.specs.List.{AllZip}
 use Rattle.intervals.specs.Domain.{Entry}
@@ -15,6 +15,6 @@ CoversCell a b = Covers a.range b.range
 abbrev pub hull_of_cells : KeptCell → KeptCell → KeptCell
 hull_of_cells a b = record a { range = hull a.range b.range }
 
--- each of the first so many cells holds a byte of its range
+-- each of the first `armed` cells holds a byte of its range
 abbrev pub HoldsCells : ℕ → List KeptCell → List ℕ → Type 0
 HoldsCells armed cells bytes = AllZip (λ (cell : KeptCell) byte. Within cell.range byte) (take armed cells) (take armed bytes)

@@ -1,11 +1,11 @@
--- Laws: a state that holds does so after a cut that leaves what is there. They are those of `Tightenable`, and what stands
--- below them.
+-- Laws of cuts: a state that holds still holds after a cut that keeps the actual value. They are the laws of
+-- `Tightenable` and the lemmas for them.
 use Rattle.std.proofs.Common.{◌≡◌, ◌≢◌, ◌<◌, ◌≤◌, ◌+◌, ◌-◌, ◌*◌, ◌/◌, ◌%◌, ℕ, zero, suc, Bool, true, false, cond, not, eqb, ltb, refl, sym, ◌∙◌, ap, subst, arith, rules, List, [], ◌∷◌, length, set, get_or, Option, Some, None, IsSomeAnd, inl, inr}
 use Rattle.std.specs.Prelude.{option_map, nat_lt, slice_index}
 use Rattle.std.proofs.lemmas.Bool.{cases_Bool, eqb-true}
 use Rattle.intervals.specs.Domain.{Entry}
 use Rattle.intervals.specs.Pair.{HoldsPair, full_pair}
-use Rattle.intervals.specs.Range.{Interval, Within, single}
+use Rattle.intervals.specs.Range.{RangeView, Within, single}
 use Rattle.intervals.specs.declared.pair.Pair.{Pair}
 use Rattle.intervals.specs.declared.reg_pair.RegPair.{RegPair}
 use Rattle.intervals.specs.declared.reg_pair.RegPair.TheVariants.{Af, Bc, De, Hl, Ix, Iy, AlternateAf, AlternateBc, AlternateDe, AlternateHl}
@@ -43,7 +43,7 @@ part_lies Word p entry word h = h.word
 part_lies High p entry word h = h.high
 part_lies Low p entry word h = h.low
 
-part_cut : (part : Part) (to : Interval) (p : Pair) (entry : Entry) (word : ℕ) → HoldsPair p entry word → Within to (part_of part word) → IsSomeAnd (cut_part part to p) (λ q. HoldsPair q entry word)
+part_cut : (part : Part) (to : RangeView) (p : Pair) (entry : Entry) (word : ℕ) → HoldsPair p entry word → Within to (part_of part word) → IsSomeAnd (cut_part part to p) (λ q. HoldsPair q entry word)
 part_cut Word to p entry word h w = word_cut_keeps p entry word h _ (intersection_keeps p.word word h.word to w)
 part_cut High to p entry word h w = high_cut_keeps p entry word h _ (intersection_keeps p.high (word / 256) h.high to w)
 part_cut Low to p entry word h w = low_cut_keeps p entry word h _ (intersection_keeps p.low (word % 256) h.low to w)
@@ -114,7 +114,7 @@ module _ (s : AbsState) (cells : List KeptCell) (entry : Entry) (m : Seen) (h : 
   pub word_cut : (pair : RegPair) (cut : Cut) → IsSomeAnd (cut (pair_of pair s.pairs).word) (λ range. Within range (word_in pair m.regs)) → HoldsIn cells entry m (cut_word pair cut s)
   word_cut pair cut w = pair_put pair _ (word_cut_keeps (pair_of pair s.pairs) entry _ (pair_held pair) _ w)
 
-  pub word_cut_to : (pair : RegPair) (to : Interval) → Within to (word_in pair m.regs) → HoldsIn cells entry m (cut_word pair (to_range to) s)
+  pub word_cut_to : (pair : RegPair) (to : RangeView) → Within to (word_in pair m.regs) → HoldsIn cells entry m (cut_word pair (to_range to) s)
   word_cut_to pair to w = word_cut pair (to_range to) (intersection_keeps (pair_of pair s.pairs).word (word_in pair m.regs) (pair_held pair).word to w)
 
   pub word_known : (is : Bool) (pair : RegPair) (n : ℕ) → is ≡ eqb (word_in pair m.regs) n → HoldsIn cells entry m (word_is is pair n s)
@@ -126,7 +126,7 @@ module _ (s : AbsState) (cells : List KeptCell) (entry : Entry) (m : Seen) (h : 
   slot_lies : (n : ℕ) (part : Part) → Within (part_range part (get_or s.shape n full_slot).pair) (part_of part (slice_index m.words n))
   slot_lies n part = part_lies part _ entry _ (slot_held s.shape entry m.words n h.shape)
 
-  slot_cut : (n : ℕ) (part : Part) (to : Interval) → Within to (part_of part (slice_index m.words n)) → HoldsIn cells entry m (cut_slot n part to s)
+  slot_cut : (n : ℕ) (part : Part) (to : RangeView) → Within to (part_of part (slice_index m.words n)) → HoldsIn cells entry m (cut_slot n part to s)
   slot_cut n part to w =
       let put : (cut : Option Pair) → IsSomeAnd cut (λ q. HoldsPair q entry (slice_index m.words n)) → HoldsIn cells entry m (option_map (with_slot n s) cut) = elim [
         | None ↦ λ k. k
@@ -156,10 +156,10 @@ module _ (s : AbsState) (cells : List KeptCell) (entry : Entry) (m : Seen) (r : 
   byte_cut H cut w = pair_put s cells entry m h Hl _ (high_cut_keeps s.pairs.hl entry _ h.pairs.hl _ (subst (λ (n : ℕ). IsSomeAnd (cut s.pairs.hl.high) (λ range. Within range n)) (sym (high_again m.regs.main.h m.regs.main.l r.main.l)) w))
   byte_cut L cut w = pair_put s cells entry m h Hl _ (low_cut_keeps s.pairs.hl entry _ h.pairs.hl _ (subst (λ (n : ℕ). IsSomeAnd (cut s.pairs.hl.low) (λ range. Within range n)) (sym (low_again m.regs.main.h m.regs.main.l r.main.l)) w))
 
-  pub byte_cut_to : (register : Register8) (to : Interval) → Within to (byte_in register m.regs) → HoldsIn cells entry m (cut_byte register (to_range to) s)
+  pub byte_cut_to : (register : Register8) (to : RangeView) → Within to (byte_in register m.regs) → HoldsIn cells entry m (cut_byte register (to_range to) s)
   byte_cut_to register to w = byte_cut register (to_range to) (intersection_keeps (byte_of register s.pairs) (byte_in register m.regs) (byte_lies register) to w)
 
-  -- ---- what a test tells
+  -- ---- what a test says
 
   pub byte_known : (is : Bool) (register : Register8) (n : ℕ) → is ≡ eqb (byte_in register m.regs) n → HoldsIn cells entry m (byte_is is register n s)
   byte_known true register n e = let same : byte_in register m.regs ≡ n = eqb-true _ _ (sym e) in byte_cut_to register (single n) (omega arith)
@@ -170,7 +170,7 @@ module _ (s : AbsState) (cells : List KeptCell) (entry : Entry) (m : Seen) (r : 
   below_known : (is : Bool) (n : ℕ) → is ≡ ltb m.regs.main.a n → HoldsIn cells entry m (a_is_below is n s)
   below_known true n e =
       let below : m.regs.main.a < n = search rules in
-      let at : (t : Bool) → eqb n 0 ≡ t → HoldsIn cells entry m (cond t None (cut_byte A (to_range (let range : Interval = record { low = 0; high = n - 1 } in range)) s)) =
+      let at : (t : Bool) → eqb n 0 ≡ t → HoldsIn cells entry m (cond t None (cut_byte A (to_range (let range : RangeView = record { low = 0; high = n - 1 } in range)) s)) =
       elim [
         | true ↦ λ q. let zero : n ≡ 0 = eqb-true _ _ q in absurd (omega arith)
         | false ↦ λ q. byte_cut_to A (record { low = 0; high = n - 1 }) (omega arith)
@@ -217,7 +217,7 @@ module _ (s : AbsState) (cells : List KeptCell) (entry : Entry) (m : Seen) (r : 
   variable_lies variables.Iy = h.pairs.iy.word
   variable_lies (variables.Slot n part) = slot_lies s cells entry m h n part
 
-  pub variable_cut : (v : Variable) (to : Interval) → Within to (value_in m v) → HoldsIn cells entry m (cut_to s v to)
+  pub variable_cut : (v : Variable) (to : RangeView) → Within to (value_in m v) → HoldsIn cells entry m (cut_to s v to)
   variable_cut variables.A to w = byte_cut_to A to w
   variable_cut variables.B to w = byte_cut_to B to w
   variable_cut variables.C to w = byte_cut_to C to w
@@ -235,7 +235,7 @@ module _ (s : AbsState) (cells : List KeptCell) (entry : Entry) (m : Seen) (r : 
 pub values_lie_in : (s : AbsState) (x : Variable → ℕ) (v : Variable) → HoldsValues s x → Within (range_of s v) (x v)
 values_lie_in s x v h = subst (λ (n : ℕ). Within (range_of s v) n) (sym (h.values v)) (variable_lies s h.cells h.entry h.seen h.regs h.holds v)
 
-pub cut_keeps_values : (s : AbsState) (x : Variable → ℕ) (v : Variable) (to : Interval) → HoldsValues s x → Within to (x v) → IsSomeAnd (cut_to s v to) (λ t. HoldsValues t x)
+pub cut_keeps_values : (s : AbsState) (x : Variable → ℕ) (v : Variable) (to : RangeView) → HoldsValues s x → Within to (x v) → IsSomeAnd (cut_to s v to) (λ t. HoldsValues t x)
 cut_keeps_values s x v to h w =
     held (cut_to s v to) (variable_cut s h.cells h.entry h.seen h.regs h.holds v to (subst (λ (n : ℕ). Within to n) (h.values v) w))
   where

@@ -1,4 +1,4 @@
--- The states at entries, and after a call (docs/CHECKER.md, "Entries and returns").
+-- States at entries and after a call (docs/CHECKER.md, "What a row knows").
 use Rattle.std.specs.Prelude.{ℕ, [], Some, None}
 use Rattle.intervals.specs.declared.pair.Pair.{Pair}
 use Rattle.abs_state.specs.Pairs.{pair_of, full_pairs, own_pairs}
@@ -6,19 +6,19 @@ use Rattle.abs_state.specs.declared.mode.Mode.TheVariants.{Unset, Nmi}
 use Rattle.abs_state.specs.declared.pairs.Pairs.{Pairs}
 use Rattle.abs_state.specs.declared.state.AbsState.{AbsState}
 
--- where main code begins
+-- the entry of main code
 abbrev pub main_entry : AbsState
 main_entry = record { mode = Unset; armed = 0; pairs = full_pairs; flag = None; shape = [] }
 
--- where the NMI routine begins, with so many kept cells
+-- the entry of the NMI routine, with this many kept cells
 abbrev pub nmi_entry : ℕ → AbsState
 nmi_entry cells = record { mode = Nmi; armed = cells; pairs = own_pairs full_pairs; flag = None; shape = [] }
 
--- where a callee begins, from its caller at the call
+-- the entry of a callee, from its caller's state at the call
 abbrev pub callee_entry : AbsState → AbsState
 callee_entry s = record s { pairs = own_pairs s.pairs; flag = None; shape = [] }
 
--- a pair after a call, from the exit's: the caller's pair that is its origin, or the exit's ranges alone
+-- a pair after a call, from the exit's pair: the caller's pair that is its origin, or the exit's ranges
 abbrev pub returned_pair : Pairs → Pair → Pair
 returned_pair caller exit = elim exit.origin as (λ _. Pair) [ Some r ↦ pair_of r caller | None ↦ exit ]
 
@@ -36,7 +36,7 @@ returned_pairs caller exit = record {
   alternate_hl = returned_pair caller exit.alternate_hl;
 }
 
--- after a call, from the caller at the call and an exit of the callee
+-- the state after a call, from the caller's state at the call and an exit of the callee
 abbrev pub after_call : AbsState → AbsState → AbsState
 after_call caller exit = record {
   mode = exit.mode;

@@ -17,13 +17,13 @@ pub record IsQuiet (enable line latched : Bool) : Type 0 where
   pub no_line : line ≡ false
   pub no_latch : latched ≡ false
 
--- in a mode in which no NMI comes they are
+-- in a mode in which no NMI comes, they are clear
 abbrev pub HoldsMode : Mode → Bool → Bool → Bool → Type 0
 HoldsMode Unset enable line latched = IsQuiet enable line latched
 HoldsMode Set enable line latched = IsQuiet enable line latched
 HoldsMode Nmi enable line latched = Unit {0}
 
--- the state holds of what an activation sees, given the kept cells and what each pair was at the activation's entry
+-- the state holds of what an activation sees, given the kept cells and the values of the pairs at its entry
 pub record Holds (s : AbsState) (cells : List KeptCell) (entry : Entry) (m : Seen) : Type 0 where
   pub mode : HoldsMode s.mode m.enable m.line m.latched
   pub cells_hold : HoldsCells s.armed cells m.cells

@@ -1,15 +1,15 @@
--- Modes of rows: which one covers which (docs/CHECKER.md, "Rows").
+-- Modes of rows, and which covers which (docs/CHECKER.md, "Rows").
 use Rattle.std.specs.Prelude.{Bool, true, false, Option, Some, None}
 use Rattle.abs_state.specs.declared.mode.Mode.{Mode}
 use Rattle.abs_state.specs.declared.mode.Mode.TheVariants.{Unset, Set, Nmi}
 
--- whether SP may not be set
+-- SP may be unset
 abbrev pub is_unset : Mode → Bool
 is_unset Unset = true
 is_unset Set = false
 is_unset Nmi = false
 
--- whether a row of the first mode covers a state of the second
+-- a row of the first mode covers a state of the second
 abbrev pub covers_mode : Mode → Mode → Bool
 covers_mode Unset Unset = true
 covers_mode Unset Set = true

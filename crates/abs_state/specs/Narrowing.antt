@@ -1,7 +1,7 @@
--- Cuts of an abstract state, and what a condition tells of it (docs/CHECKER.md, "Narrowing").
+-- Narrowing: cuts of an abstract state, and what a condition says (docs/CHECKER.md, "What a row knows").
 use Rattle.std.specs.Prelude.{ℕ, ◌-◌, ◌==◌, Bool, true, false, not, if◌then◌else◌, Option, Some, None, option_map}
 use Rattle.intervals.specs.Pair.{with_word_cut, with_high_cut, with_low_cut}
-use Rattle.intervals.specs.Range.{Interval, single, intersection, without}
+use Rattle.intervals.specs.Range.{RangeView, single, intersection, without}
 use Rattle.intervals.specs.declared.pair.Pair.{Pair}
 use Rattle.intervals.specs.declared.reg_pair.RegPair.{RegPair}
 use Rattle.intervals.specs.declared.reg_pair.RegPair.TheVariants.{Af, Bc, De, Hl}
@@ -14,23 +14,23 @@ use Rattle.abs_state.specs.declared.fact.FlagFact.{FlagFact}
 use Rattle.abs_state.specs.declared.fact.FlagFact.TheVariants.{Zero, Compared}
 use Rattle.abs_state.specs.declared.state.AbsState.{AbsState}
 
--- a change of a range, if anything is left
+-- a cut of a range, if anything is left
 abbrev pub Cut : Type 0
-Cut = Interval → Option Interval
+Cut = RangeView → Option RangeView
 
--- to another range
-abbrev pub to_range : Interval → Cut
+-- the cut to another range
+abbrev pub to_range : RangeView → Cut
 to_range to range = intersection range to
 
--- one value less, where it is an end
+-- the cut of one value from the ends
 abbrev pub to_all_but : ℕ → Cut
 to_all_but value range = without range value
 
--- a pair cut, if anything is left; it keeps its origin and its flag facts
+-- A pair is cut, if anything is left. The origin and the flag fact stay.
 abbrev pub with_cut_pair : RegPair → Option Pair → AbsState → Option AbsState
 with_cut_pair r cut s = option_map (λ pair. record s { pairs = with_pair r pair s.pairs }) cut
 
--- a register cut
+-- a register is cut
 abbrev pub cut_byte : Register8 → Cut → AbsState → Option AbsState
 cut_byte A cut s = with_cut_pair Af (with_high_cut s.pairs.af (cut s.pairs.af.high)) s
 cut_byte B cut s = with_cut_pair Bc (with_high_cut s.pairs.bc (cut s.pairs.bc.high)) s
@@ -40,7 +40,7 @@ cut_byte E cut s = with_cut_pair De (with_low_cut s.pairs.de (cut s.pairs.de.low
 cut_byte H cut s = with_cut_pair Hl (with_high_cut s.pairs.hl (cut s.pairs.hl.high)) s
 cut_byte L cut s = with_cut_pair Hl (with_low_cut s.pairs.hl (cut s.pairs.hl.low)) s
 
--- the word of a pair cut
+-- the word of a pair is cut
 abbrev pub cut_word : RegPair → Cut → AbsState → Option AbsState
 cut_word r cut s = with_cut_pair r (with_word_cut (pair_of r s.pairs) (cut (pair_of r s.pairs).word)) s
 
@@ -54,7 +54,7 @@ abbrev pub word_is : Bool → RegPair → ℕ → AbsState → Option AbsState
 word_is true r word s = cut_word r (to_range (single word)) s
 word_is false r word s = cut_word r (to_all_but word) s
 
--- A is below a byte, or it is not; nothing is below 0
+-- A is below a byte, or it is not. Nothing is below 0.
 abbrev pub a_is_below : Bool → ℕ → AbsState → Option AbsState
 a_is_below true byte s = if byte == 0 then None else cut_byte A (to_range (record { low = 0; high = byte - 1 })) s
 a_is_below false byte s = cut_byte A (to_range (record { low = byte; high = 255 })) s
@@ -71,7 +71,7 @@ carry_is set None s = Some s
 carry_is set (Some (Zero r)) s = Some s
 carry_is set (Some (Compared byte)) s = a_is_below set byte s
 
--- a condition holds, or it does not: the flag fact tells of a register
+-- a condition holds, or it does not; the flag fact narrows its register
 abbrev pub condition_is : Bool → Condition → AbsState → Option AbsState
 condition_is met conditions.Zero s = zero_is met s.flag s
 condition_is met conditions.NotZero s = zero_is (not met) s.flag s

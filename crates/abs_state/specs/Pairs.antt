@@ -1,4 +1,4 @@
--- The ten pairs of registers (docs/CHECKER.md, "What a row knows").
+-- The ten register pairs (docs/CHECKER.md, "What a row knows").
 use Rattle.std.specs.Prelude.{ℕ, ◌≡◌, Some, IfSome}
 use Rattle.z80_alu.specs.Word.{word_of}
 use Rattle.z80_alu.specs.declared.regs.Regs.{Regs}
@@ -22,7 +22,7 @@ pair_of AlternateBc p = p.alternate_bc
 pair_of AlternateDe p = p.alternate_de
 pair_of AlternateHl p = p.alternate_hl
 
--- one pair in the place of another
+-- one pair is replaced
 abbrev pub with_pair : RegPair → Pair → Pairs → Pairs
 with_pair Af x p = record p { af = x }
 with_pair Bc x p = record p { bc = x }
@@ -35,7 +35,7 @@ with_pair AlternateBc x p = record p { alternate_bc = x }
 with_pair AlternateDe x p = record p { alternate_de = x }
 with_pair AlternateHl x p = record p { alternate_hl = x }
 
--- the word that a pair of registers holds
+-- the word in a register pair
 abbrev pub word_in : RegPair → Regs → ℕ
 word_in Af regs = word_of regs.main.a regs.main.f
 word_in Bc regs = word_of regs.main.b regs.main.c
@@ -48,7 +48,7 @@ word_in AlternateBc regs = word_of regs.alternate.b regs.alternate.c
 word_in AlternateDe regs = word_of regs.alternate.d regs.alternate.e
 word_in AlternateHl regs = word_of regs.alternate.h regs.alternate.l
 
--- each pair holds of what its registers hold
+-- each pair holds of the word in its registers
 pub record HoldsPairs (p : Pairs) (entry : Entry) (regs : Regs) : Type 0 where
   pub af : HoldsPair p.af entry (word_in Af regs)
   pub bc : HoldsPair p.bc entry (word_in Bc regs)
@@ -61,8 +61,8 @@ pub record HoldsPairs (p : Pairs) (entry : Entry) (regs : Regs) : Type 0 where
   pub alternate_de : HoldsPair p.alternate_de entry (word_in AlternateDe regs)
   pub alternate_hl : HoldsPair p.alternate_hl entry (word_in AlternateHl regs)
 
--- each pair of the main set, and each index register, covers the other's
-pub record CoversMain (p q : Pairs) : Type 0 where
+-- each pair of the main set and each index register covers the other's
+pub record CoversMainSet (p q : Pairs) : Type 0 where
   pub af : CoversPair p.af q.af
   pub bc : CoversPair p.bc q.bc
   pub de : CoversPair p.de q.de
@@ -79,9 +79,9 @@ pub record CoversAlternate (p q : Pairs) : Type 0 where
 
 -- each pair covers the other's
 abbrev pub CoversPairs : Pairs → Pairs → Type 0
-CoversPairs p q = CoversMain p q × CoversAlternate p q
+CoversPairs p q = CoversMainSet p q × CoversAlternate p q
 
--- an origin that the first pair tells is the second's
+-- the origin of the first pair, if it has one, is the second's
 abbrev pub KeepsPair : Pair → Pair → Type 0
 KeepsPair p q = IfSome p.origin (λ of. q.origin ≡ Some of)
 
@@ -111,9 +111,9 @@ pub record MeetsPairs (p q : Pairs) : Type 0 where
   pub alternate_de : MeetsPair p.alternate_de q.alternate_de
   pub alternate_hl : MeetsPair p.alternate_hl q.alternate_hl
 
--- the join of each pair with the other's
-abbrev pub hull_of_pairs : Pairs → Pairs → Pairs
-hull_of_pairs p q = record {
+-- the joins, pair by pair
+abbrev pub join_of_pairs : Pairs → Pairs → Pairs
+join_of_pairs p q = record {
   af = hull_of_two p.af q.af;
   bc = hull_of_two p.bc q.bc;
   de = hull_of_two p.de q.de;
@@ -141,7 +141,7 @@ full_pairs = record {
   alternate_hl = full_pair;
 }
 
--- the same ranges, each pair with itself as its origin
+-- the same ranges, with each pair as its own origin
 abbrev pub own_pairs : Pairs → Pairs
 own_pairs p = record {
   af = record p.af { origin = Some Af };
@@ -156,6 +156,6 @@ own_pairs p = record {
   alternate_hl = record p.alternate_hl { origin = Some AlternateHl };
 }
 
--- what each pair holds now, as the entry of an activation that begins now
+-- the values of the pairs at the entry of an activation that begins with these registers
 abbrev pub entry_of : Regs → Entry
 entry_of regs = λ r. word_in r regs

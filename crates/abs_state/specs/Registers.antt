@@ -1,7 +1,7 @@
--- What writes and exchanges of registers leave of an abstract state (docs/CHECKER.md, "Changes of a state").
+-- Writes and exchanges of registers on an abstract state (docs/CHECKER.md, "What a row knows").
 use Rattle.std.specs.Prelude.{Option, None}
 use Rattle.intervals.specs.Pair.{written_word, written_bytes}
-use Rattle.intervals.specs.Range.{Interval, full}
+use Rattle.intervals.specs.Range.{RangeView, full}
 use Rattle.intervals.specs.declared.pair.Pair.{Pair}
 use Rattle.intervals.specs.declared.reg_pair.RegPair.{RegPair}
 use Rattle.intervals.specs.declared.reg_pair.RegPair.TheVariants.{Af, Bc, De, Hl, Ix, Iy, AlternateAf, AlternateBc, AlternateDe, AlternateHl}
@@ -14,7 +14,7 @@ use Rattle.abs_state.specs.declared.pairs.Pairs.{Pairs}
 use Rattle.abs_state.specs.declared.state.AbsState.{AbsState}
 
 -- the range of a register
-abbrev pub byte_of : Register8 → Pairs → Interval
+abbrev pub byte_of : Register8 → Pairs → RangeView
 byte_of A p = p.af.high
 byte_of B p = p.bc.high
 byte_of C p = p.bc.low
@@ -23,8 +23,8 @@ byte_of E p = p.de.low
 byte_of H p = p.hl.high
 byte_of L p = p.hl.low
 
--- a written byte makes the word of its pair from the bytes, and drops the pair's origin
-abbrev pub with_byte_range : Register8 → Interval → Pairs → Pairs
+-- a written byte: the word of its pair is made of the bytes, and the pair loses its origin
+abbrev pub with_byte_range : Register8 → RangeView → Pairs → Pairs
 with_byte_range A range p = record p { af = written_bytes range p.af.low }
 with_byte_range B range p = record p { bc = written_bytes range p.bc.low }
 with_byte_range C range p = record p { bc = written_bytes p.bc.high range }
@@ -33,7 +33,7 @@ with_byte_range E range p = record p { de = written_bytes p.de.high range }
 with_byte_range H range p = record p { hl = written_bytes range p.hl.low }
 with_byte_range L range p = record p { hl = written_bytes p.hl.high range }
 
--- what is left of a flag fact after a pair was written: none where the pair has the flags
+-- the flag fact after a write to a pair; none for AF
 abbrev pub fact_behind : RegPair → Option FlagFact → Option FlagFact
 fact_behind Af fact = None
 fact_behind Bc fact = fact_without B (fact_without C fact)
@@ -47,18 +47,18 @@ fact_behind AlternateDe fact = fact
 fact_behind AlternateHl fact = fact
 
 -- a register is written
-abbrev pub put_byte : Register8 → Interval → AbsState → AbsState
+abbrev pub put_byte : Register8 → RangeView → AbsState → AbsState
 put_byte r range s = record s { pairs = with_byte_range r range s.pairs; flag = fact_without r s.flag }
 
--- a pair becomes another one: a whole move, ranges and origin with it
+-- a pair is replaced: ranges and origin
 abbrev pub put_pair : RegPair → Pair → AbsState → AbsState
 put_pair r pair s = record s { pairs = with_pair r pair s.pairs; flag = fact_behind r s.flag }
 
 -- a word is written to a pair
-abbrev pub put_word : RegPair → Interval → AbsState → AbsState
+abbrev pub put_word : RegPair → RangeView → AbsState → AbsState
 put_word r range s = put_pair r (written_word range) s
 
--- the flags change: F is full, and the fact is the one that the change gives
+-- the flags change: F is full, and the fact is the given one
 abbrev pub put_flags : Option FlagFact → AbsState → AbsState
 put_flags fact s = record s { pairs = record s.pairs { af = written_bytes s.pairs.af.high (full 256) }; flag = fact }
 

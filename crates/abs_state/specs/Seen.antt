@@ -1,4 +1,4 @@
--- The machine as an activation sees it: what an abstract state speaks of.
+-- The machine as an activation sees it, which is what an abstract state describes.
 use Rattle.std.specs.Prelude.{ℕ, List, Bool}
 use Rattle.z80_alu.specs.Word.{high_of, low_of}
 use Rattle.z80_alu.specs.declared.regs.Regs.{Regs}
@@ -10,7 +10,7 @@ use Rattle.intervals.specs.declared.reg_pair.RegPair.TheVariants.{Af, Bc, De, Hl
 -- what an activation sees of the machine
 pub record Seen : Type 0 where
   pub regs : Regs
-  -- the words that the activation has on the stack, first pushed first
+  -- the words of the activation on the stack, first pushed first
   pub words : List ℕ
   -- the bytes of the kept cells, in the order of the cells
   pub cells : List ℕ
@@ -18,32 +18,32 @@ pub record Seen : Type 0 where
   pub line : Bool
   pub latched : Bool
 
--- the registers after a byte was written to one
-abbrev pub with_byte : Register8 → ℕ → Regs → Regs
-with_byte A n regs = record regs { main = record regs.main { a = n } }
-with_byte B n regs = record regs { main = record regs.main { b = n } }
-with_byte C n regs = record regs { main = record regs.main { c = n } }
-with_byte D n regs = record regs { main = record regs.main { d = n } }
-with_byte E n regs = record regs { main = record regs.main { e = n } }
-with_byte H n regs = record regs { main = record regs.main { h = n } }
-with_byte L n regs = record regs { main = record regs.main { l = n } }
+-- the registers after a write of a byte to one of them
+abbrev pub regs_with_byte : Register8 → ℕ → Regs → Regs
+regs_with_byte A n regs = record regs { main = record regs.main { a = n } }
+regs_with_byte B n regs = record regs { main = record regs.main { b = n } }
+regs_with_byte C n regs = record regs { main = record regs.main { c = n } }
+regs_with_byte D n regs = record regs { main = record regs.main { d = n } }
+regs_with_byte E n regs = record regs { main = record regs.main { e = n } }
+regs_with_byte H n regs = record regs { main = record regs.main { h = n } }
+regs_with_byte L n regs = record regs { main = record regs.main { l = n } }
 
 -- the registers after the flags changed
-abbrev pub with_flags : ℕ → Regs → Regs
-with_flags n regs = record regs { main = record regs.main { f = n } }
+abbrev pub regs_with_flags : ℕ → Regs → Regs
+regs_with_flags n regs = record regs { main = record regs.main { f = n } }
 
--- the registers after a word was written to a pair
-abbrev pub with_word : RegPair → ℕ → Regs → Regs
-with_word Af v regs = record regs { main = record regs.main { a = high_of v; f = low_of v } }
-with_word Bc v regs = record regs { main = record regs.main { b = high_of v; c = low_of v } }
-with_word De v regs = record regs { main = record regs.main { d = high_of v; e = low_of v } }
-with_word Hl v regs = record regs { main = record regs.main { h = high_of v; l = low_of v } }
-with_word Ix v regs = record regs { ix = v }
-with_word Iy v regs = record regs { iy = v }
-with_word AlternateAf v regs = record regs { alternate = record regs.alternate { a = high_of v; f = low_of v } }
-with_word AlternateBc v regs = record regs { alternate = record regs.alternate { b = high_of v; c = low_of v } }
-with_word AlternateDe v regs = record regs { alternate = record regs.alternate { d = high_of v; e = low_of v } }
-with_word AlternateHl v regs = record regs { alternate = record regs.alternate { h = high_of v; l = low_of v } }
+-- the registers after a write of a word to a pair
+abbrev pub regs_with_word : RegPair → ℕ → Regs → Regs
+regs_with_word Af v regs = record regs { main = record regs.main { a = high_of v; f = low_of v } }
+regs_with_word Bc v regs = record regs { main = record regs.main { b = high_of v; c = low_of v } }
+regs_with_word De v regs = record regs { main = record regs.main { d = high_of v; e = low_of v } }
+regs_with_word Hl v regs = record regs { main = record regs.main { h = high_of v; l = low_of v } }
+regs_with_word Ix v regs = record regs { ix = v }
+regs_with_word Iy v regs = record regs { iy = v }
+regs_with_word AlternateAf v regs = record regs { alternate = record regs.alternate { a = high_of v; f = low_of v } }
+regs_with_word AlternateBc v regs = record regs { alternate = record regs.alternate { b = high_of v; c = low_of v } }
+regs_with_word AlternateDe v regs = record regs { alternate = record regs.alternate { d = high_of v; e = low_of v } }
+regs_with_word AlternateHl v regs = record regs { alternate = record regs.alternate { h = high_of v; l = low_of v } }
 
 -- EX DE,HL
 abbrev pub with_de_hl_exchanged : Regs → Regs

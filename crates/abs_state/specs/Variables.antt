@@ -1,9 +1,9 @@
--- The variables of linears in an abstract state: their ranges, their cuts and their values (docs/CHECKER.md, "Linear
--- bounds, effects and tightening").
+-- The variables of linears in an abstract state: ranges, cuts and values (docs/CHECKER.md, "Linear bounds, effects and
+-- tightening").
 use Rattle.std.specs.Prelude.{ℕ, ◌/◌, ◌%◌, ◌≡◌, nat_lt, if◌then◌else◌, List, length, get_or, slice_set, slice_index, Option, Some, option_map}
 use Rattle.intervals.specs.Domain.{Entry}
 use Rattle.intervals.specs.Pair.{full_pair, with_word_cut, with_high_cut, with_low_cut}
-use Rattle.intervals.specs.Range.{Interval}
+use Rattle.intervals.specs.Range.{RangeView}
 use Rattle.intervals.specs.declared.pair.Pair.{Pair}
 use Rattle.intervals.specs.declared.reg_pair.RegPair.TheVariants as pairs
 use Rattle.loop_bounds.specs.declared.variable.Part.{Part}
@@ -23,17 +23,17 @@ use Rattle.abs_state.specs.declared.cell.KeptCell.{KeptCell}
 use Rattle.abs_state.specs.declared.state.AbsState.{AbsState}
 
 -- the range of a part of a pair
-abbrev pub part_range : Part → Pair → Interval
+abbrev pub part_range : Part → Pair → RangeView
 part_range Word p = p.word
 part_range High p = p.high
 part_range Low p = p.low
 
--- a slot of which nothing is known: what stands behind the shape
+-- a slot about which nothing is known, as past the shape
 abbrev pub full_slot : ShapeSlot
 full_slot = record { pair = full_pair }
 
--- the range of a variable; of a slot behind the shape it is full
-abbrev pub range_of : AbsState → Variable → Interval
+-- the range of a variable; full for a slot past the shape
+abbrev pub range_of : AbsState → Variable → RangeView
 range_of s A = byte_of registers.A s.pairs
 range_of s B = byte_of registers.B s.pairs
 range_of s C = byte_of registers.C s.pairs
@@ -48,24 +48,24 @@ range_of s Ix = s.pairs.ix.word
 range_of s Iy = s.pairs.iy.word
 range_of s (Slot number part) = part_range part (get_or s.shape number full_slot).pair
 
--- a part of a pair cut to a range
-abbrev pub cut_part : Part → Interval → Pair → Option Pair
+-- a part of a pair is cut to a range
+abbrev pub cut_part : Part → RangeView → Pair → Option Pair
 cut_part Word to p = with_word_cut p (to_range to p.word)
 cut_part High to p = with_high_cut p (to_range to p.high)
 cut_part Low to p = with_low_cut p (to_range to p.low)
 
--- a slot in the place of another
+-- a slot is replaced
 abbrev pub with_slot : ℕ → AbsState → Pair → AbsState
 with_slot number s pair = record s { shape = slice_set s.shape number (record { pair = pair }) }
 
--- a slot cut to a range; there is nothing to cut behind the shape
-abbrev pub cut_slot : ℕ → Part → Interval → AbsState → Option AbsState
+-- A slot is cut to a range. Past the shape there is nothing to cut.
+abbrev pub cut_slot : ℕ → Part → RangeView → AbsState → Option AbsState
 cut_slot number part to s =
     if nat_lt number (length s.shape) then option_map (with_slot number s) (cut_part part to (get_or s.shape number full_slot).pair)
     else Some s
 
--- a variable cut to a range, if anything is left
-abbrev pub cut_to : AbsState → Variable → Interval → Option AbsState
+-- a variable is cut to a range, if anything is left
+abbrev pub cut_to : AbsState → Variable → RangeView → Option AbsState
 cut_to s A to = cut_byte registers.A (to_range to) s
 cut_to s B to = cut_byte registers.B (to_range to) s
 cut_to s C to = cut_byte registers.C (to_range to) s
@@ -86,7 +86,7 @@ part_of Word word = word
 part_of High word = word / 256
 part_of Low word = word % 256
 
--- what a variable is; a slot behind the words is 0
+-- the value of a variable; 0 for a slot past the words
 abbrev pub value_in : Seen → Variable → ℕ
 value_in m A = byte_in registers.A m.regs
 value_in m B = byte_in registers.B m.regs
@@ -102,7 +102,7 @@ value_in m Ix = word_in pairs.Ix m.regs
 value_in m Iy = word_in pairs.Iy m.regs
 value_in m (Slot number part) = part_of part (slice_index m.words number)
 
--- the values are those of some machine of which the state holds
+-- the values of some machine that the state describes
 pub record HoldsValues (s : AbsState) (x : Variable → ℕ) : Type 0 where
   pub cells : List KeptCell
   pub entry : Entry

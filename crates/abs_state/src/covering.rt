@@ -14,14 +14,16 @@ use crate::state::AbsState;
 use stack_shape::Slot;
 
 impl AbsState {
-    /// Whether this state covers the other one: its mode covers the other's, no more cells are armed, each pair and each
-    /// slot of the shape covers the other's, and its flag fact is the other's, or it has none. Covering is a preorder, and
-    /// this state then holds of all that the other holds of.
+    /// Whether this state covers the other: its mode covers the other's, it has no more armed cells, each pair and each
+    /// slot covers the other's, and its flag fact is the other's or none. Covering is a preorder. A state that covers
+    /// another holds of every machine that the other holds of.
     pub fn covers(&self, other: &AbsState) -> bool
         ensures exact { IsTrue result ↔ CoversState self.now other.now }
         ensures reflexive { self.now ≡ other.now → IsTrue result }
-        ensures transitive { IsTrue result → (third : State) → CoversState other.now third → CoversState self.now third }
-        ensures widens { IsTrue result → (cells : List KeptCell) (entry : Entry) (m : Seen) → Holds other.now cells entry m
+        ensures transitive { IsTrue result → (third : State) → CoversState other.now third
+            → CoversState self.now third }
+        ensures widens { IsTrue result → (cells : List KeptCell) (entry : Entry) (m : Seen)
+            → Holds other.now cells entry m
             → Holds self.now cells entry m }
     {
         self.covers_each(other)
@@ -37,8 +39,8 @@ impl AbsState {
             && self.shape.covers(&other.shape)
     }
 
-    /// Whether each origin that this state tells, of a pair or of a slot, is the other's, and its flag fact is the other's, or it
-    /// has none. The shapes have one length then; ranges, mode and cells are not asked.
+    /// Whether each origin of this state, of a pair or of a slot, is the other's, and its flag fact is the other's or
+    /// none. The shapes have one length then. Ranges, mode and cells are not compared.
     pub fn keeps(&self, other: &AbsState) -> bool
         ensures { IsTrue result ↔ KeepsState self.now other.now }
     {
@@ -47,18 +49,19 @@ impl AbsState {
             && keeps_slots(self.shape.slots(), other.shape.slots())
     }
 
-    /// Whether the shapes have one length and, pair by pair and slot by slot, the ranges share a value.
+    /// Whether the shapes have one length and all pairs and slots meet: their ranges share a value each.
     pub fn meets(&self, other: &AbsState) -> bool
         ensures { IsTrue result ↔ MeetsState self.now other.now }
     {
         self.pairs.meets(&other.pairs) && self.shape.meets(&other.shape)
     }
 
-    /// The state that covers both with the least ranges; None where the shapes have two lengths or one mode is `u` and the
-    /// other `n`. It holds of all that either holds of.
+    /// The join: the mode that covers both, the smaller number of armed cells, and the hull of each range. None if the
+    /// shapes have different lengths, or one mode is `u` and the other `n`. The join covers both states.
     pub fn join(&self, other: &AbsState) -> Option<AbsState>
         ensures exact { result ≡ hull_of_states self.now other.now }
-        ensures covers { IfSome result (λ both. CoversState both self.now × CoversState both other.now) }
+        ensures covers { IfSome result (λ both. CoversState both self.now
+            × CoversState both other.now) }
         ensures holds { IfSome result (λ both. (cells : List KeptCell) (entry : Entry) (m : Seen)
             → Holds self.now cells entry m ⊎ Holds other.now cells entry m → Holds both cells entry m) }
     {
@@ -74,7 +77,8 @@ impl AbsState {
     }
 }
 
-/// Whether there are as many slots, and each origin that one of the first tells is that of the slot in its place of the second.
+/// Whether there are as many slots, and each origin in the first list is also that of the slot at its place in the
+/// second.
 pub fn keeps_slots(mine: &[Slot], theirs: &[Slot]) -> bool
     ensures { IsTrue result ↔ AllZip KeepsSlot mine.now theirs.now }
 {

@@ -1,4 +1,4 @@
-// The states at entries, and after a call.
+// States at entries and after a call.
 ghost use Rattle.std.specs.Prelude.{◌≡◌, List, [], length};
 ghost use Rattle.intervals.specs.Domain.{Entry};
 ghost use Rattle.abs_state.specs.Cell.{HoldsCells};
@@ -16,10 +16,11 @@ use intervals::Pair;
 use stack_shape::Shape;
 
 impl AbsState {
-    /// Where main code begins: nothing is known but that no NMI comes.
+    /// The state at the entry of main code: nothing is known, and no NMI comes.
     pub fn of_main() -> AbsState
         ensures exact { result ≡ main_entry }
-        ensures holds { (cells : List KeptCell) (entry : Entry) (m : Seen) → IsRegs m.regs → IsQuiet m.enable m.line m.latched → m.words ≡ []
+        ensures holds { (cells : List KeptCell) (entry : Entry) (m : Seen) → IsRegs m.regs
+            → IsQuiet m.enable m.line m.latched → m.words ≡ []
             → Holds result cells entry m }
     {
         AbsState {
@@ -31,11 +32,12 @@ impl AbsState {
         }
     }
 
-    /// Where the NMI routine begins, with so many kept cells, 0 to 256: each pair is what it was when the routine was
-    /// entered, and each cell is armed.
+    /// The state at the entry of the NMI routine with `cells` kept cells, 0 to 256: each pair is its own origin, and
+    /// each cell is armed.
     pub fn of_nmi(cells: u16) -> AbsState
         ensures exact { result ≡ nmi_entry cells }
-        ensures holds { (kept : List KeptCell) (m : Seen) → IsRegs m.regs → m.words ≡ [] → HoldsCells cells kept m.cells
+        ensures holds { (kept : List KeptCell) (m : Seen) → IsRegs m.regs → m.words ≡ []
+            → HoldsCells cells kept m.cells
             → Holds result kept (entry_of m.regs) m }
     {
         AbsState {
@@ -47,11 +49,12 @@ impl AbsState {
         }
     }
 
-    /// Where a callee begins, from this state of its caller at the call: the caller's ranges, each pair with itself as its
-    /// origin, and no word on the stack.
+    /// The state at the entry of a callee, from the caller's state at the call: the caller's mode, cells and ranges,
+    /// each pair its own origin, and an empty shape.
     pub fn callee(&self) -> AbsState
         ensures exact { result ≡ callee_entry self.now }
-        ensures holds { (cells : List KeptCell) (entry : Entry) (m : Seen) → Holds self.now cells entry m
+        ensures holds { (cells : List KeptCell) (entry : Entry) (m : Seen)
+            → Holds self.now cells entry m
             → Holds result cells (entry_of m.regs) (record m { words = [] }) }
     {
         AbsState {
@@ -63,11 +66,13 @@ impl AbsState {
         }
     }
 
-    /// After a call, from this state of the caller at the call and an exit of the callee: a pair whose origin is another
-    /// one is the caller's pair of that name, any other has the exit's ranges, and the shape is the caller's.
+    /// The state after a call, from the caller's state at the call and an exit of the callee. A pair with an origin at
+    /// the exit is the caller's pair of that name; any other has the exit's ranges. Mode and cells are the exit's, the
+    /// shape is the caller's.
     pub fn after_call(&self, exit: &AbsState) -> AbsState
         ensures exact { result ≡ after_call self.now exit.now }
-        ensures holds { (cells : List KeptCell) (entry : Entry) (caller m : Seen) → Holds self.now cells entry caller
+        ensures holds { (cells : List KeptCell) (entry : Entry) (caller m : Seen)
+            → Holds self.now cells entry caller
             → Holds exit.now cells (entry_of caller.regs) m
             → Holds result cells entry (record m { words = caller.words }) }
     {

@@ -12,30 +12,33 @@ use intervals::RegPair;
 use std::mem::swap;
 
 impl AbsState {
-    /// EX DE,HL. Ranges and origins go with the words; flag facts of the four registers end.
+    /// EX DE,HL. Ranges and origins move with the words; flag facts of the four registers end.
     pub fn exchange_de_hl(&mut self)
         ensures exact { self.new ≡ exchange_de_hl self.old }
-        ensures holds { (cells : List KeptCell) (entry : Entry) (m : Seen) → Holds self.old cells entry m
+        ensures holds { (cells : List KeptCell) (entry : Entry) (m : Seen)
+            → Holds self.old cells entry m
             → Holds self.new cells entry (record m { regs = with_de_hl_exchanged m.regs }) }
     {
         swap(&mut self.pairs.de, &mut self.pairs.hl);
         self.flag = fact_behind(RegPair::De, fact_behind(RegPair::Hl, self.flag));
     }
 
-    /// EX AF,AF'. It changes the flags, so that each flag fact ends.
+    /// EX AF,AF'. It changes the flags, so every flag fact ends.
     pub fn exchange_af(&mut self)
         ensures exact { self.new ≡ exchange_af self.old }
-        ensures holds { (cells : List KeptCell) (entry : Entry) (m : Seen) → Holds self.old cells entry m
+        ensures holds { (cells : List KeptCell) (entry : Entry) (m : Seen)
+            → Holds self.old cells entry m
             → Holds self.new cells entry (record m { regs = with_af_exchanged m.regs }) }
     {
         swap(&mut self.pairs.af, &mut self.pairs.alternate_af);
         self.flag = None;
     }
 
-    /// EXX. Ranges and origins go with the words; flag facts of the six registers end.
+    /// EXX. Ranges and origins move with the words; flag facts of the six registers end.
     pub fn exchange_sets(&mut self)
         ensures exact { self.new ≡ exchange_sets self.old }
-        ensures holds { (cells : List KeptCell) (entry : Entry) (m : Seen) → Holds self.old cells entry m
+        ensures holds { (cells : List KeptCell) (entry : Entry) (m : Seen)
+            → Holds self.old cells entry m
             → Holds self.new cells entry (record m { regs = with_sets_exchanged m.regs }) }
     {
         let pairs = &mut self.pairs;

@@ -1,19 +1,19 @@
-// Flag facts: what the flags tell of a byte.
+// Flag facts: what the flags say about a register.
 ghost use Rattle.std.specs.Prelude.{◌≡◌, ◌<◌};
 ghost use Rattle.abs_state.specs.Fact.{place_of_byte, is_same_byte, is_same_fact, fact_without, covers_fact, hull_of_facts};
 
 use z80_decode::Register8;
 
-/// What the flags tell of a byte (docs/CHECKER.md, "Flag facts").
+/// What the flags say about a register (docs/CHECKER.md, "What a row knows").
 #[derive(Clone, Copy)]
 pub enum FlagFact {
     /// Z is set exactly if the register is 0.
     Zero(Register8),
-    /// C is set exactly if A is below the byte, and Z exactly if A is the byte.
+    /// C is set exactly if A is below the byte, and Z exactly if A is that byte.
     Compared(u8),
 }
 
-/// The place of a register in the order of its code: B C D E H L, and A as 7.
+/// The code of a register: B C D E H L are 0 to 5, and A is 7.
 fn place_of_byte(register: Register8) -> u8
     ensures value { result ≡ place_of_byte register }
     ensures within { result < 8 }
@@ -45,8 +45,7 @@ fn is_same_fact(fact: FlagFact, other: FlagFact) -> bool
     }
 }
 
-/// What is left of a fact after a register was written: a fact of that register ends, and so does one that compares A
-/// where A is written.
+/// The fact after a write to a register. A fact of that register ends; after a write to A so does one that compares A.
 pub(crate) fn fact_without(register: Register8, fact: Option<FlagFact>) -> Option<FlagFact>
     ensures { result ≡ fact_without register fact }
 {
@@ -57,7 +56,7 @@ pub(crate) fn fact_without(register: Register8, fact: Option<FlagFact>) -> Optio
     }
 }
 
-/// Whether a row's fact is that of a state, or there is none in the row.
+/// Whether a row's fact is the state's, or the row has none.
 pub fn covers_fact(fact: Option<FlagFact>, other: Option<FlagFact>) -> bool
     ensures { result ≡ covers_fact fact other }
 {
@@ -68,7 +67,7 @@ pub fn covers_fact(fact: Option<FlagFact>, other: Option<FlagFact>) -> bool
     }
 }
 
-/// The fact that both have.
+/// The fact if both have the same, else None.
 pub(crate) fn hull_of_facts(fact: Option<FlagFact>, other: Option<FlagFact>) -> Option<FlagFact>
     ensures { result ≡ hull_of_facts fact other }
 {

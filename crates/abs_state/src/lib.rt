@@ -1,4 +1,4 @@
-// What is known of the machine at an instruction of one procedure: abstract states, how they change, and when they hold
+// Abstract states: what is known of the machine at an instruction of one procedure, how it changes, and when it holds
 // (docs/CHECKER.md, "What a row knows").
 #![tactic(auto)]
 

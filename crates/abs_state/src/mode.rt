@@ -1,11 +1,11 @@
-// Modes: whether SP is set, and whether an NMI may come.
+// Modes of rows.
 ghost use Rattle.std.specs.Prelude.{◌≡◌};
 ghost use Rattle.abs_state.specs.Mode.{covers_mode, hull_of_modes};
 
 /// Whether SP is set, and whether an NMI may come (docs/CHECKER.md, "Rows").
 #[derive(Clone, Copy, PartialEq, Eq)]
 pub enum Mode {
-    /// `u`: SP may not be set, and no NMI comes.
+    /// `u`: SP may be unset, and no NMI comes.
     Unset,
     /// `s`: SP is set, and no NMI comes.
     Set,
@@ -14,8 +14,8 @@ pub enum Mode {
 }
 
 impl Mode {
-    /// Whether a row of this mode covers a state of the other: `u` covers `u` and `s`, `s` covers `s`, and `n` covers `s`
-    /// and `n`.
+    /// Whether a row of this mode covers a state of the other mode: `u` covers `u` and `s`, `s` covers `s`, and `n`
+    /// covers `s` and `n`.
     pub fn covers(self, other: Mode) -> bool
         ensures { result ≡ covers_mode self other }
     {
@@ -27,7 +27,7 @@ impl Mode {
         }
     }
 
-    /// The mode that covers both; None for `u` and `n`, which no mode covers.
+    /// The mode that covers both, or None for `u` and `n`.
     pub fn join(self, other: Mode) -> Option<Mode>
         ensures { result ≡ hull_of_modes self other }
     {

@@ -1,4 +1,4 @@
-// Cuts of registers, and what a condition tells of them.
+// Narrowing: cuts of registers, and what a condition says about them.
 ghost use Rattle.std.specs.Prelude.{◌≡◌, ◌≢◌, Some, None, Option, IsTrue, MatchBool, List, ◌==◌, Bool};
 ghost use Rattle.std.specs.Bool.{OnFalse};
 ghost use Rattle.intervals.specs.Domain.{Entry};
@@ -18,10 +18,11 @@ use crate::state::AbsState;
 use intervals::{ByteRange, Pair, RegPair, WordRange};
 use z80_decode::{Condition, Register8};
 
-/// Each of these tells whether anything is left; where nothing is, the state stays as it was.
+/// Each cut answers whether anything is left. If nothing is, the state stays as it was.
 impl AbsState {
     fn put_cut(&mut self, of: RegPair, cut: Option<Pair>) -> bool
-        ensures exact { MatchBool result (with_cut_pair of cut self.old ≡ Some self.new) (with_cut_pair of cut self.old ≡ None) }
+        ensures exact { MatchBool result (with_cut_pair of cut self.old
+            ≡ Some self.new) (with_cut_pair of cut self.old ≡ None) }
         ensures unchanged { OnFalse result (self.new ≡ self.old) }
     {
         match cut {
@@ -33,11 +34,13 @@ impl AbsState {
         }
     }
 
-    /// Cuts a register to a range. Its pair keeps its origin.
+    /// Cuts a register to a range. The origin of its pair stays.
     pub fn cut_byte(&mut self, register: Register8, to: ByteRange) -> bool
-        ensures exact { MatchBool result (cut_byte register (to_range to) self.old ≡ Some self.new) (cut_byte register (to_range to) self.old ≡ None) }
+        ensures exact { MatchBool result (cut_byte register (to_range to) self.old
+            ≡ Some self.new) (cut_byte register (to_range to) self.old ≡ None) }
         ensures unchanged { OnFalse result (self.new ≡ self.old) }
-        ensures holds { (cells : List KeptCell) (entry : Entry) (m : Seen) → IsRegs m.regs → Holds self.old cells entry m
+        ensures holds { (cells : List KeptCell) (entry : Entry) (m : Seen) → IsRegs m.regs
+            → Holds self.old cells entry m
             → Within to (byte_in register m.regs) → IsTrue result × Holds self.new cells entry m }
     {
         match register {
@@ -51,9 +54,10 @@ impl AbsState {
         }
     }
 
-    /// Cuts one byte from the ends of a register's range. Its pair keeps its origin.
+    /// Cuts one byte from the ends of a register's range. The origin of its pair stays.
     fn exclude_byte(&mut self, register: Register8, byte: u8) -> bool
-        ensures exact { MatchBool result (cut_byte register (to_all_but byte) self.old ≡ Some self.new) (cut_byte register (to_all_but byte) self.old ≡ None) }
+        ensures exact { MatchBool result (cut_byte register (to_all_but byte) self.old
+            ≡ Some self.new) (cut_byte register (to_all_but byte) self.old ≡ None) }
         ensures unchanged { OnFalse result (self.new ≡ self.old) }
     {
         match register {
@@ -67,21 +71,25 @@ impl AbsState {
         }
     }
 
-    /// Cuts the word of a pair to a range. It keeps its origin.
+    /// Cuts the word of a pair to a range. The origin stays.
     pub fn cut_word(&mut self, of: RegPair, to: WordRange) -> bool
-        ensures exact { MatchBool result (cut_word of (to_range to) self.old ≡ Some self.new) (cut_word of (to_range to) self.old ≡ None) }
+        ensures exact { MatchBool result (cut_word of (to_range to) self.old
+            ≡ Some self.new) (cut_word of (to_range to) self.old ≡ None) }
         ensures unchanged { OnFalse result (self.new ≡ self.old) }
-        ensures holds { (cells : List KeptCell) (entry : Entry) (m : Seen) → Holds self.old cells entry m
+        ensures holds { (cells : List KeptCell) (entry : Entry) (m : Seen)
+            → Holds self.old cells entry m
             → Within to (word_in of m.regs) → IsTrue result × Holds self.new cells entry m }
     {
         self.put_cut(of, self.pair(of).cut_word(to))
     }
 
-    /// Narrows a register to one byte, or to all but that byte.
+    /// Narrows a register to one byte if `is`, else to all but that byte.
     pub fn narrow_byte(&mut self, is: bool, register: Register8, byte: u8) -> bool
-        ensures exact { MatchBool result (byte_is is register byte self.old ≡ Some self.new) (byte_is is register byte self.old ≡ None) }
+        ensures exact { MatchBool result (byte_is is register byte self.old
+            ≡ Some self.new) (byte_is is register byte self.old ≡ None) }
         ensures unchanged { OnFalse result (self.new ≡ self.old) }
-        ensures holds { (cells : List KeptCell) (entry : Entry) (m : Seen) → IsRegs m.regs → Holds self.old cells entry m
+        ensures holds { (cells : List KeptCell) (entry : Entry) (m : Seen) → IsRegs m.regs
+            → Holds self.old cells entry m
             → is ≡ (byte_in register m.regs == byte) → IsTrue result × Holds self.new cells entry m }
     {
         if is {
@@ -91,11 +99,13 @@ impl AbsState {
         }
     }
 
-    /// Narrows a pair to one word, or to all but that word.
+    /// Narrows a pair to one word if `is`, else to all but that word.
     pub fn narrow_word(&mut self, is: bool, of: RegPair, word: u16) -> bool
-        ensures exact { MatchBool result (word_is is of word self.old ≡ Some self.new) (word_is is of word self.old ≡ None) }
+        ensures exact { MatchBool result (word_is is of word self.old
+            ≡ Some self.new) (word_is is of word self.old ≡ None) }
         ensures unchanged { OnFalse result (self.new ≡ self.old) }
-        ensures holds { (cells : List KeptCell) (entry : Entry) (m : Seen) → Holds self.old cells entry m
+        ensures holds { (cells : List KeptCell) (entry : Entry) (m : Seen)
+            → Holds self.old cells entry m
             → is ≡ (word_in of m.regs == word) → IsTrue result × Holds self.new cells entry m }
     {
         if is {
@@ -105,9 +115,10 @@ impl AbsState {
         }
     }
 
-    /// Narrows A to the bytes below one, or to those that are not.
+    /// Narrows A to the bytes below `byte` if `is`, else to the others.
     fn narrow_below(&mut self, is: bool, byte: u8) -> bool
-        ensures exact { MatchBool result (a_is_below is byte self.old ≡ Some self.new) (a_is_below is byte self.old ≡ None) }
+        ensures exact { MatchBool result (a_is_below is byte self.old
+            ≡ Some self.new) (a_is_below is byte self.old ≡ None) }
         ensures unchanged { OnFalse result (self.new ≡ self.old) }
     {
         if !is {
@@ -120,7 +131,8 @@ impl AbsState {
     }
 
     fn narrow_zero(&mut self, set: bool) -> bool
-        ensures exact { MatchBool result (zero_is set self.old.flag self.old ≡ Some self.new) (zero_is set self.old.flag self.old ≡ None) }
+        ensures exact { MatchBool result (zero_is set self.old.flag self.old
+            ≡ Some self.new) (zero_is set self.old.flag self.old ≡ None) }
         ensures unchanged { OnFalse result (self.new ≡ self.old) }
     {
         match self.flag {
@@ -131,7 +143,8 @@ impl AbsState {
     }
 
     fn narrow_carry(&mut self, set: bool) -> bool
-        ensures exact { MatchBool result (carry_is set self.old.flag self.old ≡ Some self.new) (carry_is set self.old.flag self.old ≡ None) }
+        ensures exact { MatchBool result (carry_is set self.old.flag self.old
+            ≡ Some self.new) (carry_is set self.old.flag self.old ≡ None) }
         ensures unchanged { OnFalse result (self.new ≡ self.old) }
     {
         match self.flag {
@@ -140,11 +153,13 @@ impl AbsState {
         }
     }
 
-    /// Narrows what the flag fact tells of to where a condition is met, or to where it is not.
+    /// Narrows the register of the flag fact to where a condition holds if `met`, else to where it does not.
     pub fn narrow(&mut self, met: bool, condition: Condition) -> bool
-        ensures exact { MatchBool result (condition_is met condition self.old ≡ Some self.new) (condition_is met condition self.old ≡ None) }
+        ensures exact { MatchBool result (condition_is met condition self.old
+            ≡ Some self.new) (condition_is met condition self.old ≡ None) }
         ensures unchanged { OnFalse result (self.new ≡ self.old) }
-        ensures holds { (cells : List KeptCell) (entry : Entry) (m : Seen) → IsRegs m.regs → Holds self.old cells entry m
+        ensures holds { (cells : List KeptCell) (entry : Entry) (m : Seen) → IsRegs m.regs
+            → Holds self.old cells entry m
             → met ≡ holds condition (flags_of m.regs.main.f) → IsTrue result × Holds self.new cells entry m }
     {
         match condition {

@@ -1,10 +1,10 @@
-// The ten pairs of registers, each with what is known of it.
+// The ten register pairs of a state.
 ghost use Rattle.std.specs.Prelude.{◌≡◌, ◌↔◌, IsTrue, Some};
-ghost use Rattle.abs_state.specs.Pairs.{pair_of, with_pair, full_pairs, own_pairs, CoversMain, CoversAlternate, CoversPairs, KeepsPair, KeepsPairs, MeetsPairs, hull_of_pairs};
+ghost use Rattle.abs_state.specs.Pairs.{pair_of, with_pair, full_pairs, own_pairs, CoversMainSet, CoversAlternate, CoversPairs, KeepsPair, KeepsPairs, MeetsPairs, join_of_pairs};
 
 use intervals::{Domain, Pair, RegPair};
 
-/// What is known of the ten pairs.
+/// What is known of the ten register pairs.
 #[derive(Clone, Copy)]
 pub struct Pairs {
     pub af: Pair,
@@ -38,7 +38,7 @@ impl Pairs {
         }
     }
 
-    /// The same ranges, and each pair has itself as its origin.
+    /// The same ranges, with each pair as its own origin.
     pub fn own(&self) -> Pairs
         ensures { result ≡ own_pairs self.now }
     {
@@ -74,7 +74,7 @@ impl Pairs {
         }
     }
 
-    /// Puts what is known of one pair in the place of what was.
+    /// Replaces what is known of one pair.
     pub fn set(&mut self, of: RegPair, pair: Pair)
         ensures { self.new ≡ with_pair of pair self.old }
     {
@@ -100,7 +100,7 @@ impl Pairs {
     }
 
     fn covers_main(&self, other: &Pairs) -> bool
-        ensures { IsTrue result ↔ CoversMain self.now other.now }
+        ensures { IsTrue result ↔ CoversMainSet self.now other.now }
     {
         self.af.covers(&other.af)
             && self.bc.covers(&other.bc)
@@ -119,7 +119,7 @@ impl Pairs {
             && self.alternate_hl.covers(&other.alternate_hl)
     }
 
-    /// Whether each origin that these pairs tell is that of the other's.
+    /// Whether each origin of these pairs is the other's.
     pub fn keeps(&self, other: &Pairs) -> bool
         ensures { IsTrue result ↔ KeepsPairs self.now other.now }
     {
@@ -135,7 +135,7 @@ impl Pairs {
             && keeps_pair(self.alternate_hl, other.alternate_hl)
     }
 
-    /// Whether each pair meets the other's: whether their ranges share a value.
+    /// Whether each pair meets the other's: their ranges share a value each.
     pub fn meets(&self, other: &Pairs) -> bool
         ensures { IsTrue result ↔ MeetsPairs self.now other.now }
     {
@@ -153,7 +153,7 @@ impl Pairs {
 
     /// The join of each pair with the other's.
     pub(crate) fn join(&self, other: &Pairs) -> Pairs
-        ensures { result ≡ hull_of_pairs self.now other.now }
+        ensures { result ≡ join_of_pairs self.now other.now }
     {
         Pairs {
             af: self.af.join(&other.af),
@@ -170,7 +170,7 @@ impl Pairs {
     }
 }
 
-/// A pair with an origin in the place of the one that it has.
+/// A pair with another origin.
 fn own(pair: Pair, origin: RegPair) -> Pair
     ensures { result ≡ record pair { origin = Some origin } }
 {
@@ -180,7 +180,7 @@ fn own(pair: Pair, origin: RegPair) -> Pair
     }
 }
 
-/// Whether an origin that a pair tells is the other's.
+/// Whether the origin of a pair, if it has one, is the other's.
 pub(crate) fn keeps_pair(pair: Pair, other: Pair) -> bool
     ensures { IsTrue result ↔ KeepsPair pair other }
 {

@@ -8,7 +8,7 @@ ghost use Rattle.abs_state.specs.Fact.{HoldsFact, byte_in};
 ghost use Rattle.abs_state.specs.Holds.{Holds};
 ghost use Rattle.abs_state.specs.Pairs.{pair_of, word_in};
 ghost use Rattle.abs_state.specs.Registers.{byte_of, with_byte_range, fact_behind, put_byte, put_pair, put_word, put_flags};
-ghost use Rattle.abs_state.specs.Seen.{Seen, with_byte, with_flags, with_word};
+ghost use Rattle.abs_state.specs.Seen.{Seen, regs_with_byte, regs_with_flags, regs_with_word};
 ghost use Rattle.abs_state.specs.declared.cell.KeptCell.{KeptCell};
 
 use crate::fact::{FlagFact, fact_without};
@@ -48,7 +48,7 @@ impl Pairs {
     }
 }
 
-/// What is left of a flag fact after a pair was written.
+/// The flag fact after a write to a pair.
 pub(crate) fn fact_behind(pair: RegPair, fact: Option<FlagFact>) -> Option<FlagFact>
     ensures { result ≡ fact_behind pair fact }
 {
@@ -62,10 +62,11 @@ pub(crate) fn fact_behind(pair: RegPair, fact: Option<FlagFact>) -> Option<FlagF
 }
 
 impl AbsState {
-    /// The range of a register, 0 to 255.
+    /// The range of a register.
     pub fn byte(&self, register: Register8) -> ByteRange
         ensures exact { result ≡ byte_of register self.now.pairs }
-        ensures holds { (cells : List KeptCell) (entry : Entry) (m : Seen) → IsRegs m.regs → Holds self.now cells entry m
+        ensures holds { (cells : List KeptCell) (entry : Entry) (m : Seen) → IsRegs m.regs
+            → Holds self.now cells entry m
             → Within result (byte_in register m.regs) }
     {
         self.pairs.byte(register)
@@ -74,47 +75,53 @@ impl AbsState {
     /// What is known of a pair.
     pub fn pair(&self, of: RegPair) -> Pair
         ensures exact { result ≡ pair_of of self.now.pairs }
-        ensures holds { (cells : List KeptCell) (entry : Entry) (m : Seen) → Holds self.now cells entry m
+        ensures holds { (cells : List KeptCell) (entry : Entry) (m : Seen)
+            → Holds self.now cells entry m
             → HoldsPair result entry (word_in of m.regs) }
     {
         self.pairs.pair(of)
     }
 
-    /// A register is written with a byte of a range: its pair has no origin then, and a flag fact of the register ends.
+    /// Writes a byte of a range to a register. Its pair loses its origin, and a flag fact of the register ends.
     pub fn put_byte(&mut self, register: Register8, range: ByteRange)
         ensures exact { self.new ≡ put_byte register range self.old }
-        ensures holds { (cells : List KeptCell) (entry : Entry) (m : Seen) (byte : ℕ) → IsRegs m.regs → Holds self.old cells entry m
-            → Within range byte → Holds self.new cells entry (record m { regs = with_byte register byte m.regs }) }
+        ensures holds { (cells : List KeptCell) (entry : Entry) (m : Seen) (byte : ℕ)
+            → IsRegs m.regs → Holds self.old cells entry m
+            → Within range byte → Holds self.new cells entry (record m { regs = regs_with_byte register byte m.regs }) }
     {
         self.pairs.set_byte(register, range);
         self.flag = fact_without(register, self.flag);
     }
 
-    /// A pair becomes another one, ranges and origin with it. Flag facts of its registers end, and with AF each.
+    /// Replaces a pair, ranges and origin. Flag facts of its registers end; for AF every fact ends.
     pub fn put_pair(&mut self, of: RegPair, pair: Pair)
         ensures exact { self.new ≡ put_pair of pair self.old }
-        ensures holds { (cells : List KeptCell) (entry : Entry) (m : Seen) (word : ℕ) → Holds self.old cells entry m
-            → HoldsPair pair entry word → Holds self.new cells entry (record m { regs = with_word of word m.regs }) }
+        ensures holds { (cells : List KeptCell) (entry : Entry) (m : Seen) (word : ℕ)
+            → Holds self.old cells entry m
+            → HoldsPair pair entry word → Holds self.new cells entry (record m { regs = regs_with_word of word m.regs }) }
     {
         self.pairs.set(of, pair);
         self.flag = fact_behind(of, self.flag);
     }
 
-    /// A pair is written with a word of a range. It has no origin then; flag facts of its registers end, and with AF each.
+    /// Writes a word of a range to a pair. It loses its origin. Flag facts of its registers end; for AF every fact
+    /// ends.
     pub fn put_word(&mut self, of: RegPair, range: WordRange)
         ensures exact { self.new ≡ put_word of range self.old }
-        ensures holds { (cells : List KeptCell) (entry : Entry) (m : Seen) (word : ℕ) → Holds self.old cells entry m
-            → Within range word → Holds self.new cells entry (record m { regs = with_word of word m.regs }) }
+        ensures holds { (cells : List KeptCell) (entry : Entry) (m : Seen) (word : ℕ)
+            → Holds self.old cells entry m
+            → Within range word → Holds self.new cells entry (record m { regs = regs_with_word of word m.regs }) }
     {
         self.put_pair(of, Pair::of_word(range));
     }
 
-    /// The flags change: F may be any byte, AF has no origin, and the fact is the one that the change gives.
+    /// Changes the flags: F may be any byte, AF loses its origin, and `fact` replaces the flag fact.
     pub fn put_flags(&mut self, fact: Option<FlagFact>)
         ensures exact { self.new ≡ put_flags fact self.old }
-        ensures holds { (cells : List KeptCell) (entry : Entry) (m : Seen) (byte : ℕ) → IsRegs m.regs → Holds self.old cells entry m
-            → byte ≤ 255 → HoldsFact fact (with_flags byte m.regs)
-            → Holds self.new cells entry (record m { regs = with_flags byte m.regs }) }
+        ensures holds { (cells : List KeptCell) (entry : Entry) (m : Seen) (byte : ℕ)
+            → IsRegs m.regs → Holds self.old cells entry m
+            → byte ≤ 255 → HoldsFact fact (regs_with_flags byte m.regs)
+            → Holds self.new cells entry (record m { regs = regs_with_flags byte m.regs }) }
     {
         self.pairs.af = self.pairs.af.with_low(ByteRange::full());
         self.flag = fact;

@@ -10,7 +10,7 @@ use stack_shape::Shape;
 #[derive(Drop)]
 pub struct AbsState {
     pub mode: Mode,
-    /// How many kept cells, from the first on, hold a byte of their range.
+    /// The number of armed cells: the first of the kept cells, each with a byte of its range.
     pub armed: u16,
     pub pairs: Pairs,
     pub flag: Option<FlagFact>,
@@ -18,7 +18,7 @@ pub struct AbsState {
 }
 
 impl AbsState {
-    /// The same state again. It takes no memory.
+    /// A copy. It takes no memory.
     pub fn copied(&self) -> AbsState
         ensures { result ≡ self.now }
     {

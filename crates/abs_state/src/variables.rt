@@ -1,4 +1,4 @@
-// The variables of linears in a state: their ranges, and cuts of one at a time.
+// The variables of linears in a state: their ranges and cuts.
 ghost use Rattle.std.specs.Prelude.{◌≡◌, Some, None, Option, IsTrue, MatchBool, List, get_or, pos};
 ghost use Rattle.std.specs.Bool.{OnFalse};
 ghost use Rattle.intervals.specs.Domain.{Entry};
@@ -19,14 +19,14 @@ use loop_bounds::{Linear, Part, Ranges, SlotNumber, Tightenable, Variable, tight
 use stack_shape::Slot;
 use z80_decode::Register8;
 
-/// A range of bytes as one of words.
+/// A byte range as a word range.
 fn widened(range: ByteRange) -> WordRange
     ensures { result ≡ range }
 {
     WordRange::new(u16::from(range.low()), u16::from(range.high())).unwrap_or(WordRange::full())
 }
 
-/// The bytes of a range that lie in a range of words, or None where none does.
+/// The bytes of a range that lie in a word range, or None if there are none.
 fn shared_bytes(range: ByteRange, to: WordRange) -> Option<ByteRange>
     ensures { result ≡ intersection range to }
 {
@@ -60,7 +60,7 @@ fn cut_part(pair: Pair, part: Part, to: WordRange) -> Option<Pair>
 }
 
 impl AbsState {
-    /// The slot of a number; behind the shape one of which nothing is known.
+    /// The slot with a number; past the shape one about which nothing is known.
     fn slot(&self, number: SlotNumber) -> Slot
         ensures { result ≡ get_or self.now.shape number full_slot }
     {
@@ -71,7 +71,8 @@ impl AbsState {
     }
 
     fn cut_register(&mut self, register: Register8, to: WordRange) -> bool
-        ensures exact { MatchBool result (cut_byte register (to_range to) self.old ≡ Some self.new) (cut_byte register (to_range to) self.old ≡ None) }
+        ensures exact { MatchBool result (cut_byte register (to_range to) self.old
+            ≡ Some self.new) (cut_byte register (to_range to) self.old ≡ None) }
         ensures unchanged { OnFalse result (self.new ≡ self.old) }
     {
         match shared_bytes(self.byte(register), to) {
@@ -81,7 +82,8 @@ impl AbsState {
     }
 
     fn cut_slot(&mut self, number: SlotNumber, part: Part, to: WordRange) -> bool
-        ensures exact { MatchBool result (cut_slot number part to self.old ≡ Some self.new) (cut_slot number part to self.old ≡ None) }
+        ensures exact { MatchBool result (cut_slot number part to self.old
+            ≡ Some self.new) (cut_slot number part to self.old ≡ None) }
         ensures unchanged { OnFalse result (self.new ≡ self.old) }
     {
         let place = usize::from(number.number());
@@ -97,13 +99,16 @@ impl AbsState {
         }
     }
 
-    /// Cuts each variable of a fact that is 0 to what the ranges of the others leave, in the order of its terms, each cut
-    /// seen by the next, and rounded inwards. Tells whether anything is left; where nothing is, the state keeps the cuts
-    /// before the one that left nothing.
+    /// Tightens the state by a fact: cuts each variable, in the order of the terms, to what the ranges of the others
+    /// leave, rounded inwards. Each cut sees the ones before it. Answers whether anything is left. If nothing is, the
+    /// state has the cuts made before the one that failed.
     pub fn tighten(&mut self, fact: &Linear) -> bool
-        ensures exact { MatchBool result (tightened range_of cut_to fact.now self.old ≡ Some self.new) (tightened range_of cut_to fact.now self.old ≡ None) }
-        ensures stopped { OnFalse result (self.new ≡ after_last_cut range_of cut_to fact.now self.old) }
-        ensures holds { (cells : List KeptCell) (entry : Entry) (m : Seen) → IsRegs m.regs → Holds self.old cells entry m
+        ensures exact { MatchBool result (tightened range_of cut_to fact.now self.old
+            ≡ Some self.new) (tightened range_of cut_to fact.now self.old ≡ None) }
+        ensures stopped { OnFalse result (self.new
+            ≡ after_last_cut range_of cut_to fact.now self.old) }
+        ensures holds { (cells : List KeptCell) (entry : Entry) (m : Seen) → IsRegs m.regs
+            → Holds self.old cells entry m
             → value (whole (value_in m)) fact.now ≡ pos 0 → IsTrue result × Holds self.new cells entry m }
     {
         fact.terms().is_empty() || tighten(fact, self)
@@ -143,7 +148,7 @@ impl Tightenable for AbsState {
 
     ghost keeps = { cut_keeps_values };
 
-    /// Cuts a variable; a slot behind the shape has nothing to cut.
+    /// Cuts a variable. Past the shape there is nothing to cut.
     fn cut(&mut self, variable: Variable, to: WordRange) -> bool {
         match variable {
             Variable::A => self.cut_register(Register8::A, to),

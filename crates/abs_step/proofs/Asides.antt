@@ -1,5 +1,5 @@
--- How an instruction goes on that does not use the stack: what is known at its end is true of its draft, and is that of one of
--- its ways on.
+-- An instruction that does not use the stack: what is known at its end holds of its draft and is that of one of its
+-- successors.
 use Rattle.std.proofs.Common.{inl, inr, ◌≡◌, ◌≢◌, ◌+◌, ◌∙◌, ℕ, Bool, true, false, not, List, ◌++◌, length, Option, Some, None, Ok, IsSomeAnd, refl, sym, ap, subst, arith}
 use Rattle.std.specs.Prelude.{◌||◌, ◌&&◌, option_map, if◌then◌else◌}
 use Rattle.std.specs.List.{Contains}
@@ -15,20 +15,21 @@ use Rattle.z80_draft.specs.Draft.{draft_on, past}
 use Rattle.z80_draft.specs.Room.{accesses_in}
 use Rattle.z80_moves.specs.Moves.{moves_of}
 use Rattle.z80_moves.specs.declared.moves.Test.{Test}
-use Rattle.board_step.specs.Context.{Context}
+use Rattle.board_step.specs.Context.{ContextView}
 use Rattle.board_step.specs.Reads.{outside_of}
 use Rattle.board_step.specs.Step.{instr_draft, t_of}
 use Rattle.abs_state.specs.declared.state.AbsState.{AbsState}
-use Rattle.abs_draft.specs.Ground.{Ground}
+use Rattle.abs_draft.specs.Ground.{GroundView}
 use Rattle.abs_draft.specs.Outcomes.{after_moves, before_test, behind_test, known_before, state_tested, test_of, tested}
 use Rattle.abs_draft.specs.declared.data_write.DataWrite.{DataWrite}
-use Rattle.abs_draft.specs.declared.known.Known.{Known}
+use Rattle.abs_draft.specs.declared.draft.AbsDraft.{AbsDraft}
 use Rattle.abs_laws.specs.Fits.{Fits}
 use Rattle.abs_laws.specs.Lists.{MayRun}
 use Rattle.abs_laws.proofs.Lists.{parts_of_list}
 use Rattle.abs_laws.proofs.Short.{short}
 use Rattle.abs_laws.proofs.Ways.{goes_left, goes_straight, goes_taken}
-use Rattle.abs_step.specs.Successors.{is_call, is_empty, is_pop, is_push, is_return, kind_of, next_of, uses_stack, way_on, ways_on, writes_of}
+use Rattle.z80_actions.specs.Known.{returns_if_taken}
+use Rattle.abs_step.specs.Successors.{is_call, is_empty, pops_word, pushes_word, next_kind_of, next_of, uses_stack, way_on, ways_on, writes_of}
 use Rattle.abs_step.specs.declared.next.Next.{Next}
 use Rattle.abs_step.specs.declared.next.NextKind.{NextKind}
 use Rattle.abs_step.specs.declared.next.NextKind.TheVariants as kinds
@@ -37,9 +38,9 @@ use Rattle.abs_step.proofs.OneCost.{one_cost}
 use Rattle.abs_step.proofs.TameInstructions.{IsTame}
 use Rattle.abs_step.proofs.TameMoves.{IsOne, are_tame, moves_pc, tame}
 
--- what is known at the end of an instruction, true of its draft, and the way on that has it
-pub record End (g : Ground) (c : Context) (a : AbsState) (instr : Instr) (main : Bool) (kind : NextKind) (entry : Entry) (before : Valuation) (words : List ℕ) (ws : List DataWrite) (nexts : List Next) : Type 0 where
-  pub known : Known
+-- what is known at the end of an instruction, which holds of its draft, and the successor made of it
+pub record End (g : GroundView) (c : ContextView) (a : AbsState) (instr : Instr) (main : Bool) (kind : NextKind) (entry : Entry) (before : Valuation) (words : List ℕ) (ws : List DataWrite) (nexts : List Next) : Type 0 where
+  pub known : AbsDraft
   pub fits : Fits g a known entry before (instr_draft c instr) words
   pub taken : Bool
   pub listed : Contains nexts (next_of main instr taken kind known)
@@ -50,28 +51,28 @@ pub record End (g : Ground) (c : Context) (a : AbsState) (instr : Instr) (main :
 
 -- ---- small facts
 
-pub record Some_of (o : Option Known) (P : Known → Type 0) : Type 0 where
-  pub known : Known
+pub record Some_of (o : Option AbsDraft) (P : AbsDraft → Type 0) : Type 0 where
+  pub known : AbsDraft
   pub is : o ≡ Some known
   pub holds : P known
 
-pub some_of : (o : Option Known) (P : Known → Type 0) → IsSomeAnd o P → Some_of o P
+pub some_of : (o : Option AbsDraft) (P : AbsDraft → Type 0) → IsSomeAnd o P → Some_of o P
 some_of None P h = absurd h
 some_of (Some n) P h = record { known = n; is = refl; holds = h }
 
--- a test leaves the program counter and the data writes
-pub record Left (old new : Known) : Type 0 where
+-- a test changes neither the program counter nor the data writes
+pub record Left (old new : AbsDraft) : Type 0 where
   pub pc : new.pc ≡ old.pc
   pub writes : new.writes ≡ old.writes
 
-left_by : (o : Option AbsState) (k n : Known) → option_map (λ s. record k { state = s }) o ≡ Some n → Left k n
+left_by : (o : Option AbsState) (k n : AbsDraft) → option_map (λ s. record k { state = s }) o ≡ Some n → Left k n
 left_by None k n e = absurd (cc)
 left_by (Some s) k n e =
-    let some : Option Known → Known = λ o. elim o as (λ _. Known) [ Some x ↦ x | None ↦ n ] in
+    let some : Option AbsDraft → AbsDraft = λ o. elim o as (λ _. AbsDraft) [ Some x ↦ x | None ↦ n ] in
     let is : record k { state = s } ≡ n = ap some e in
-    record { pc = sym (ap (λ (x : Known). x.pc) is); writes = sym (ap (λ (x : Known). x.writes) is) }
+    record { pc = sym (ap (λ (x : AbsDraft). x.pc) is); writes = sym (ap (λ (x : AbsDraft). x.writes) is) }
 
-pub tested_leaves : (test : Test) (held : Bool) (k n : Known) → tested test held k ≡ Some n → Left k n
+pub tested_leaves : (test : Test) (held : Bool) (k n : AbsDraft) → tested test held k ≡ Some n → Left k n
 tested_leaves test held k n e = left_by (state_tested test held k.state) k n e
 
 or_false : (x y : Bool) → (x || y) ≡ false → (x ≡ false) × (y ≡ false)
@@ -81,33 +82,33 @@ or_false false y e = (refl, e)
 jumps : (x y : Bool) (z : NextKind) → x ≡ false → y ≡ false → (inline empty : Bool) → (if (x && not inline) then kinds.Call else if (y && empty) then kinds.Exit else z) ≡ z
 jumps x y z p q inline empty = rw p (rw q refl)
 
--- an instruction that does not use the stack jumps
-pub jump_kind : (inline : Bool) (instr : Instr) (shape : List Slot) → uses_stack instr ≡ false → kind_of inline instr shape ≡ kinds.Jump
+-- the successor of an instruction that does not use the stack is a jump
+pub jump_kind : (inline : Bool) (instr : Instr) (shape : List Slot) → uses_stack instr ≡ false → next_kind_of inline instr shape ≡ kinds.Jump
 jump_kind inline instr shape u =
-    let p = or_false (is_call instr || is_return instr) (is_push instr || is_pop instr) u in
-    let q = or_false (is_call instr) (is_return instr) p.0 in
-    jumps (is_call instr) (is_return instr) kinds.Jump q.0 q.1 inline (is_empty shape)
+    let p = or_false (is_call instr || returns_if_taken instr) (pushes_word instr || pops_word instr) u in
+    let q = or_false (is_call instr) (returns_if_taken instr) p.0 in
+    jumps (is_call instr) (returns_if_taken instr) kinds.Jump q.0 q.1 inline (is_empty shape)
 
--- the first and the last of two ways on
-pub first_way : (n : Known) (o : Option Known) (f h : Known → Next) → Contains (way_on (Some n) f ++ way_on o h) (f n)
+-- the first and the last of two successors
+pub first_way : (n : AbsDraft) (o : Option AbsDraft) (f h : AbsDraft → Next) → Contains (way_on (Some n) f ++ way_on o h) (f n)
 first_way n o f h = (0, omega arith, refl)
 
-pub last_way : (n : Known) (o : Option Known) (f h : Known → Next) → Contains (way_on o f ++ way_on (Some n) h) (h n)
+pub last_way : (n : AbsDraft) (o : Option AbsDraft) (f h : AbsDraft → Next) → Contains (way_on o f ++ way_on (Some n) h) (h n)
 last_way n None f h = (0, omega arith, refl)
 last_way n (Some m) f h = (1, omega arith, refl)
 
--- ---- the ways on
+-- ---- the successors
 
-module _ (g : Ground) (c : Context) (a : AbsState) (instr : Instr) (main inline : Bool) (entry : Entry) (before : Valuation) (words : List ℕ) (address : ℕ) (io : is_io instr ≡ false) (start : Fits g a (known_before address instr a) entry before (draft_on (past (length (spelling instr)) c.state.regs)) words) (run : MayRun g (outside_of c) (known_before address instr a) (draft_on (past (length (spelling instr)) c.state.regs)) (moves_of instr)) where
+module _ (g : GroundView) (c : ContextView) (a : AbsState) (instr : Instr) (main inline : Bool) (entry : Entry) (before : Valuation) (words : List ℕ) (address : ℕ) (io : is_io instr ≡ false) (start : Fits g a (known_before address instr a) entry before (draft_on (past (length (spelling instr)) c.state.regs)) words) (run : MayRun g (outside_of c) (known_before address instr a) (draft_on (past (length (spelling instr)) c.state.regs)) (moves_of instr)) where
   abbrev Ends : NextKind → Type 0
   Ends kind = End g c a instr main kind entry before words (writes_of g address a (Ok instr)) (ways_on g main inline instr kind (test_of (moves_of instr)) (after_moves g inline (before_test (moves_of instr)) (known_before address instr a)))
 
-  abbrev at_test : Known
+  abbrev at_test : AbsDraft
   at_test = after_moves g inline (before_test (moves_of instr)) (known_before address instr a)
 
-  -- the data writes are those that are known at the test
+  -- the data writes are those known at the test
   writes_at : (alike : at_test ≡ after_moves g true (before_test (moves_of instr)) (known_before address instr a)) → at_test.writes.items ≡ writes_of g address a (Ok instr)
-  writes_at alike = rw io (ap (λ (k : Known). k.writes.items) alike)
+  writes_at alike = rw io (ap (λ (k : AbsDraft). k.writes.items) alike)
 
   pub straight_end : (kind : NextKind) → accesses_in (moves_of instr) ≡ 0 → test_of (moves_of instr) ≡ None → IsOne at_test.pc → at_test ≡ after_moves g true (before_test (moves_of instr)) (known_before address instr a) → Ends kind
   straight_end kind accesses none one alike = record {
@@ -120,7 +121,7 @@ module _ (g : Ground) (c : Context) (a : AbsState) (instr : Instr) (main inline 
     writes = writes_at alike;
   }
 
-  -- the list of a test's two ways
+  -- the list of a test's two successors
   with_test : (kind : NextKind) (test : Test) (n : Next) → test_of (moves_of instr) ≡ Some test → Contains (ways_on g main inline instr kind (Some test) at_test) n
       → Contains (ways_on g main inline instr kind (test_of (moves_of instr)) at_test) n
   with_test kind test n is h = subst (λ (o : Option Test). Contains (ways_on g main inline instr kind o at_test) n) (sym is) h
@@ -129,33 +130,33 @@ module _ (g : Ground) (c : Context) (a : AbsState) (instr : Instr) (main inline 
   pub left_end : (kind : NextKind) (test : Test) → test_of (moves_of instr) ≡ Some test → accesses_in (before_test (moves_of instr)) ≡ 0 → IsOne at_test.pc → at_test ≡ after_moves g true (before_test (moves_of instr)) (known_before address instr a)
       → (instr_draft c instr).taken ≡ false → End g c a instr main kinds.Jump entry before words (writes_of g address a (Ok instr)) (ways_on g main inline instr kind (test_of (moves_of instr)) at_test)
   left_end kind test is accesses one alike out =
-      let held_way : Known → Next = λ taken. next_of main instr true kind (after_moves g inline (behind_test (moves_of instr)) taken) in
-      let left_way : Known → Next = λ left. next_of main instr false kinds.Jump left in
+      let held_way : AbsDraft → Next = λ taken. next_of main instr true kind (after_moves g inline (behind_test (moves_of instr)) taken) in
+      let left_way : AbsDraft → Next = λ left. next_of main instr false kinds.Jump left in
       let n = some_of _ _ (goes_left g a (outside_of c) inline (moves_of instr) (known_before address instr a) entry before _ words run start test is accesses out) in
       let rest = tested_leaves test false at_test n.known n.is in
       record {
         known = n.known;
         fits = n.holds;
         taken = false;
-        listed = with_test kind test _ is (subst (λ (o : Option Known). Contains (way_on (tested test true at_test) held_way ++ way_on o left_way) (next_of main instr false kinds.Jump n.known)) (sym n.is) (last_way n.known (tested test true at_test) held_way left_way));
+        listed = with_test kind test _ is (subst (λ (o : Option AbsDraft). Contains (way_on (tested test true at_test) held_way ++ way_on o left_way) (next_of main instr false kinds.Jump n.known)) (sym n.is) (last_way n.known (tested test true at_test) held_way left_way));
         cost = ap (cost_of instr) out;
         one = λ on. subst IsOne (sym rest.pc) one;
         writes = ap (λ w. w.items) rest.writes ∙ writes_at alike;
       }
 
-  -- where it held
+  -- where the test held
   pub taken_end : (kind : NextKind) (test : Test) → test_of (moves_of instr) ≡ Some test → accesses_in (moves_of instr) ≡ 0 → are_tame (behind_test (moves_of instr)) ≡ true → IsOne at_test.pc → at_test ≡ after_moves g true (before_test (moves_of instr)) (known_before address instr a)
       → (instr_draft c instr).taken ≡ true → Ends kind
   taken_end kind test is accesses behind one alike out =
-      let held_way : Known → Next = λ taken. next_of main instr true kind (after_moves g inline (behind_test (moves_of instr)) taken) in
-      let left_way : Known → Next = λ left. next_of main instr false kinds.Jump left in
+      let held_way : AbsDraft → Next = λ taken. next_of main instr true kind (after_moves g inline (behind_test (moves_of instr)) taken) in
+      let left_way : AbsDraft → Next = λ left. next_of main instr false kinds.Jump left in
       let n = some_of _ _ (goes_taken g a (outside_of c) inline (moves_of instr) (known_before address instr a) entry before _ words run start test is accesses out) in
       let rest = tested_leaves test true at_test n.known n.is in
       record {
         known = after_moves g inline (behind_test (moves_of instr)) n.known;
         fits = n.holds;
         taken = true;
-        listed = with_test kind test _ is (subst (λ (o : Option Known). Contains (way_on o held_way ++ way_on (tested test false at_test) left_way) (next_of main instr true kind (after_moves g inline (behind_test (moves_of instr)) n.known))) (sym n.is) (first_way n.known (tested test false at_test) held_way left_way));
+        listed = with_test kind test _ is (subst (λ (o : Option AbsDraft). Contains (way_on o held_way ++ way_on (tested test false at_test) left_way) (next_of main instr true kind (after_moves g inline (behind_test (moves_of instr)) n.known))) (sym n.is) (first_way n.known (tested test false at_test) held_way left_way));
         cost = ap (cost_of instr) out;
         one = λ on. moves_pc g inline (behind_test (moves_of instr)) n.known behind (subst IsOne (sym rest.pc) one);
         writes = ap (λ w. w.items) (moves_writes g inline (behind_test (moves_of instr)) n.known (short instr).writes_first ∙ rest.writes) ∙ writes_at alike;

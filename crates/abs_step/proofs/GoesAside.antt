@@ -1,29 +1,29 @@
--- An instruction that leaves SP and the stack alone goes on as its way on says.
+-- An instruction that leaves SP and the stack alone does what its successor says.
 use Rattle.std.proofs.Common.{◌≡◌, ◌≢◌, ◌≤◌, ◌∙◌, ℕ, Bool, true, false, List, [], ◌∷◌, sym, ap, subst}
 use Rattle.intervals.specs.Domain.{Entry}
 use Rattle.stack_shape.specs.Shape.{HoldsShape}
 use Rattle.stack_shape.specs.declared.slot.Slot.{Slot}
 use Rattle.z80_decode.specs.declared.instr.Instr.{Instr}
 use Rattle.z80_draft.specs.declared.access.Write.{Write}
-use Rattle.address_map.specs.AddressMap.{AddressMap}
+use Rattle.address_map.specs.AddressMap.{MapView}
 use Rattle.address_map.specs.declared.region.Region.{Region}
-use Rattle.board_step.specs.State.{State}
+use Rattle.board_step.specs.State.{BoardView}
 use Rattle.board_step.specs.Step.{done, instr_draft}
 use Rattle.board_step.specs.declared.env.Env.{Env}
-use Rattle.stack_words.specs.Board.{HasWords}
-use Rattle.stack_words.specs.Region.{Misses, used}
-use Rattle.stack_words.specs.Uses.{is_aside, sets_sp}
-use Rattle.stack_words.specs.Words.{on_top}
-use Rattle.stack_words.proofs.Bytes.{unused_missed, used_missed}
-use Rattle.stack_words.proofs.EachInstruction.{aside_done}
-use Rattle.stack_words.proofs.EachUse.{told_apart}
-use Rattle.stack_words.proofs.Laid.{placed}
+use Rattle.board_laws.specs.Board.{HasWords}
+use Rattle.board_laws.specs.Region.{Misses, used}
+use Rattle.board_laws.specs.Uses.{is_aside, sets_sp}
+use Rattle.board_laws.specs.Words.{on_top}
+use Rattle.board_laws.proofs.Bytes.{unused_missed, used_missed}
+use Rattle.board_laws.proofs.EachInstruction.{aside_done}
+use Rattle.board_laws.proofs.EachUse.{told_apart}
+use Rattle.board_laws.proofs.Laid.{placed}
 use Rattle.abs_state.specs.Cell.{HoldsCells}
 use Rattle.abs_state.specs.Holds.{Holds, HoldsMode}
 use Rattle.abs_state.specs.Variables.{value_in}
 use Rattle.abs_state.specs.declared.mode.Mode.TheVariants.{Unset, Nmi}
 use Rattle.abs_state.specs.declared.state.AbsState.{AbsState}
-use Rattle.abs_draft.specs.Ground.{Ground}
+use Rattle.abs_draft.specs.Ground.{GroundView}
 use Rattle.abs_draft.specs.declared.data_write.DataWrite.{DataWrite}
 use Rattle.abs_laws.specs.Cells.{bytes_of_cells}
 use Rattle.abs_laws.specs.Fits.{state_after_writes}
@@ -35,8 +35,8 @@ use Rattle.abs_step.proofs.Asides.{End}
 use Rattle.abs_step.proofs.Here.{address_after, armed_after_all, here, holds_after, through_after}
 use Rattle.abs_step.proofs.Uses.{no_exchange, no_pop, no_push, stack_same}
 
--- what the known data writes leave of the mode and of the cells holds of the board
-pub record KeepsBoard (g : Ground) (a : AbsState) (ws : List DataWrite) (new : State) : Type 0 where
+-- the mode and the armed cells after the known data writes hold of the board
+pub record KeepsBoard (g : GroundView) (a : AbsState) (ws : List DataWrite) (new : BoardView) : Type 0 where
   pub mode : HoldsMode (state_after_writes g ws a).mode new.enable new.line new.latched
   pub cells : HoldsCells (state_after_writes g ws a).armed g.cells (bytes_of_cells g.cells new)
   pub unset : a.mode ≡ Unset → (state_after_writes g ws a).mode ≡ Unset
@@ -44,10 +44,10 @@ pub record KeepsBoard (g : Ground) (a : AbsState) (ws : List DataWrite) (new : S
 
 -- ---- the part of the region that is in use
 
-in_region : (map : AddressMap) (region : Region) (s : State) (words : List ℕ) → HasWords map region s words → region.low ≤ s.regs.sp
+in_region : (map : MapView) (region : Region) (s : BoardView) (words : List ℕ) → HasWords map region s words → region.low ≤ s.regs.sp
 in_region map region s words h = (placed map region s s.regs.sp words h.is_region h.room h.laid).low
 
-pub misses_used : (map : AddressMap) (region : Region) (s : State) (ws : List Write) (main : Bool) (shape : List Slot) (entry : Entry) (words under : List ℕ) → HasWords map region s (on_top words under) → HoldsShape shape entry words → IsUnder main under
+pub misses_used : (map : MapView) (region : Region) (s : BoardView) (ws : List Write) (main : Bool) (shape : List Slot) (entry : Entry) (words under : List ℕ) → HasWords map region s (on_top words under) → HoldsShape shape entry words → IsUnder main under
     → ((main ≡ true → shape ≢ []) → Misses map region ws) → Misses map (used region s) ws
 unfolding on_top
 misses_used map region s ws false shape entry words under h holds low m = used_missed map region ws s (in_region map region s _ h) (m (λ e. absurd (cc)))
@@ -58,7 +58,7 @@ misses_used map region s ws true [] entry (word ∷ words) under h holds low m =
 
 -- ---- how it goes
 
-module _ (g : Ground) (s : State) (env : Env) (a : AbsState) (instr : Instr) (main : Bool) (region : Region) (running : Running) (ws : List DataWrite) (nexts : List Next) (words : List ℕ) (sets : sets_sp instr ≡ false) (k : KeepsBoard g a ws (done (here g s env) instr)) (keeps : (a.mode ≢ Unset) → HasWords g.map region (done (here g s env) instr) (on_top words running.under)) where
+module _ (g : GroundView) (s : BoardView) (env : Env) (a : AbsState) (instr : Instr) (main : Bool) (region : Region) (running : Running) (ws : List DataWrite) (nexts : List Next) (words : List ℕ) (sets : sets_sp instr ≡ false) (k : KeepsBoard g a ws (done (here g s env) instr)) (keeps : (a.mode ≢ Unset) → HasWords g.map region (done (here g s env) instr) (on_top words running.under)) where
   pub goes_on : End g (here g s env) a instr main kinds.Jump running.entry (value_in (seen_of g.cells running.words s)) words ws nexts → Goes g.cells region running a instr nexts (here g s env)
   goes_on e =
       let f = e.fits in
@@ -84,7 +84,7 @@ module _ (g : Ground) (s : State) (env : Env) (a : AbsState) (instr : Instr) (ma
       }
 
 -- an instruction that leaves the stack alone keeps the words
-pub aside_keeps : (g : Ground) (s : State) (env : Env) (a : AbsState) (instr : Instr) (region : Region) (running : Running) → uses_stack instr ≡ false → sets_sp instr ≡ false
+pub aside_keeps : (g : GroundView) (s : BoardView) (env : Env) (a : AbsState) (instr : Instr) (region : Region) (running : Running) → uses_stack instr ≡ false → sets_sp instr ≡ false
     → HoldsShape a.shape running.entry running.words → IsUnder running.main running.under
     → ((running.main ≡ true → a.shape ≢ []) → Misses g.map region (instr_draft (here g s env) instr).writes)
     → HasWords g.map region s (on_top running.words running.under) → HasWords g.map region (done (here g s env) instr) (on_top running.words running.under)

@@ -1,4 +1,4 @@
--- How PUSH, POP and EX (SP) go on, and what calls and returns leave of what is known.
+-- The successors of PUSH, POP and EX (SP), and what calls and returns leave of what is known.
 use Rattle.std.proofs.Common.{◌≡◌, ◌≢◌, ◌≤◌, ◌<◌, ◌+◌, ◌∙◌, ℕ, suc, Bool, true, false, List, [], ◌∷◌, ◌++◌, length, Option, None, Ok, refl, sym, ap, subst, arith}
 use Rattle.std.specs.List.{Contains}
 use Rattle.std.specs.Prelude.{◌*◌, IsSomeAnd}
@@ -7,8 +7,8 @@ use Rattle.intervals.specs.Logic.{is_single}
 use Rattle.z80_decode.specs.Kinds.{restart}
 use Rattle.z80_decode.specs.declared.kinds.Condition.{Condition}
 use Rattle.z80_decode.specs.declared.kinds.RestartAddress.{RestartAddress}
-use Rattle.abs_draft.specs.Known.{last_slot}
-use Rattle.abs_laws.specs.Lists.{IsKept, MayRun, marked}
+use Rattle.abs_draft.specs.AbsDraft.{last_slot}
+use Rattle.abs_laws.specs.Lists.{KeepsEffectAndShape, MayRun, marked}
 use Rattle.abs_laws.proofs.Ways.{goes_held}
 use Rattle.abs_step.specs.declared.next.NextKind.{NextKind}
 use Rattle.z80_moves.specs.declared.moves.Test.TheVariants as tests
@@ -24,7 +24,7 @@ use Rattle.z80_decode.specs.declared.operands.Pointer.{Pointer}
 use Rattle.z80_decode.specs.declared.operands.Pointer.TheVariants as pointers
 use Rattle.z80_decode.specs.declared.operands.StackPair.{StackPair}
 use Rattle.z80_decode.specs.declared.operands.StackPair.TheVariants as stack_pairs
-use Rattle.z80_draft.specs.Draft.{Draft, draft_on, drafted, moved, past, word_in, word_read}
+use Rattle.z80_draft.specs.Draft.{DraftView, draft_on, drafted, moved, past, draft_word, word_read}
 use Rattle.z80_draft.specs.Outside.{Outside}
 use Rattle.z80_moves.specs.Moves.{moves_of}
 use Rattle.z80_moves.specs.Operands.{pointer_register, stack_register}
@@ -32,14 +32,14 @@ use Rattle.z80_moves.specs.declared.registers.WordRegister.{WordRegister}
 use Rattle.z80_moves.specs.declared.registers.WordRegister.TheVariants as registers
 use Rattle.z80_moves.specs.declared.moves.Move.{Move}
 use Rattle.z80_moves.specs.declared.moves.Move.TheVariants as moves
-use Rattle.board_step.specs.Context.{Context}
+use Rattle.board_step.specs.Context.{ContextView}
 use Rattle.board_step.specs.Reads.{outside_of}
 use Rattle.board_step.specs.Step.{instr_draft}
 use Rattle.abs_state.specs.declared.state.AbsState.{AbsState}
-use Rattle.abs_draft.specs.Ground.{Ground}
+use Rattle.abs_draft.specs.Ground.{GroundView}
 use Rattle.abs_draft.specs.AfterMove.{after_move}
 use Rattle.abs_draft.specs.Outcomes.{after_moves, before_test, behind_test, known_before, test_of, tested}
-use Rattle.abs_draft.specs.declared.known.Known.{Known}
+use Rattle.abs_draft.specs.declared.draft.AbsDraft.{AbsDraft}
 use Rattle.abs_laws.specs.Fits.{Fits, ReadsFit}
 use Rattle.abs_laws.proofs.CalmMoves.{calm_fits}
 use Rattle.abs_laws.proofs.StackMoves.{call_fits, exchange_fits, pop_fits, push_fits}
@@ -52,7 +52,7 @@ use Rattle.abs_step.proofs.TameMoves.{IsOne, exchange_pc, is_pc, pop_pc, push_pc
 
 -- ---- words
 
--- a list with a word in it ends in one
+-- a list that is not empty ends in a word
 pub record EndsIn (words : List ℕ) : Type 0 where
   pub rest : List ℕ
   pub word : ℕ
@@ -62,7 +62,7 @@ pub last_word : (word : ℕ) (words : List ℕ) → EndsIn (word ∷ words)
 last_word w [] = record { rest = []; word = w; is = refl }
 last_word w (v ∷ ws) = let e = last_word v ws in record { rest = w ∷ e.rest; word = e.word; is = ap (λ (xs : List ℕ). w ∷ xs) e.is }
 
--- the words of a shape that is not empty do
+-- the words of a shape that is not empty end in a word
 pub ends_in : (shape : List Slot) (entry : Entry) (words : List ℕ) → is_empty shape ≡ false → HoldsShape shape entry words → EndsIn words
 ends_in [] entry words e h = absurd (cc)
 ends_in (slot ∷ slots) entry [] e h = absurd h
@@ -98,14 +98,14 @@ apart w P h e = let same : is_pc w ≡ true = ap is_pc e in absurd (cc)
 
 -- ---- PUSH, POP and EX (SP)
 
-module _ (g : Ground) (c : Context) (a : AbsState) (main inline : Bool) (entry : Entry) (before : Valuation) (words : List ℕ) (address : ℕ) where
-  abbrev begin : Instr → Draft
+module _ (g : GroundView) (c : ContextView) (a : AbsState) (main inline : Bool) (entry : Entry) (before : Valuation) (words : List ℕ) (address : ℕ) where
+  abbrev begin : Instr → DraftView
   begin instr = draft_on (past (length (spelling instr)) c.state.regs)
 
   abbrev Ending : Instr → List ℕ → Type 0
   Ending instr after = End g c a instr main kinds.Jump entry before after (writes_of g address a (Ok instr)) (ways_on g main inline instr kinds.Jump (test_of (moves_of instr)) (after_moves g inline (before_test (moves_of instr)) (known_before address instr a)))
 
-  pub push_end : (qq : StackPair) → length a.shape < 64 → Fits g a (known_before address (instrs.Push qq) a) entry before (begin (instrs.Push qq)) words → Ending (instrs.Push qq) (words ++ word_in (stack_register qq) (begin (instrs.Push qq)) ∷ [])
+  pub push_end : (qq : StackPair) → length a.shape < 64 → Fits g a (known_before address (instrs.Push qq) a) entry before (begin (instrs.Push qq)) words → Ending (instrs.Push qq) (words ++ draft_word (stack_register qq) (begin (instrs.Push qq)) ∷ [])
   unfolding drafted test_of before_test after_moves
   push_end qq room f =
       let w = stack_register qq in
@@ -136,7 +136,7 @@ module _ (g : Ground) (c : Context) (a : AbsState) (main inline : Bool) (entry :
       }
 
   pub exchange_end : (p : Pointer) (rest : List ℕ) (word : ℕ) → word < 65536 → word_read (outside_of c) false c.state.regs.sp ≡ word → Fits g a (known_before address (instrs.ExchangeStack p) a) entry before (begin (instrs.ExchangeStack p)) (rest ++ word ∷ [])
-      → Ending (instrs.ExchangeStack p) (rest ++ word_in (pointer_register p) (begin (instrs.ExchangeStack p)) ∷ [])
+      → Ending (instrs.ExchangeStack p) (rest ++ draft_word (pointer_register p) (begin (instrs.ExchangeStack p)) ∷ [])
   unfolding drafted test_of before_test after_moves
   exchange_end p rest word small found f =
       let w = pointer_register p in
@@ -153,21 +153,21 @@ module _ (g : Ground) (c : Context) (a : AbsState) (main inline : Bool) (entry :
 
 -- ---- calls
 
--- a call's two moves: the word behind it is pushed, and the program counter is the callee's
+-- a call's two moves: it pushes its return address and sets the program counter to the callee
 abbrev pub call_moves : ℕ → List Move
 call_moves nn = moves.Push registers.Pc ∷ moves.SetWord registers.Pc nn ∷ []
 
-still_few : (o : Outside) (d : Draft) → length d.writes ≤ 2 → length (moved o (moves.Push registers.Pc) d).writes + 0 ≤ 2
+still_few : (o : Outside) (d : DraftView) → length d.writes ≤ 2 → length (moved o (moves.Push registers.Pc) d).writes + 0 ≤ 2
 unfolding moved
 still_few o d h = omega (arith, h)
 
-module _ (g : Ground) (a : AbsState) (o : Outside) (k : Known) (entry : Entry) (before : Valuation) (d : Draft) (stack : List ℕ) (nn : ℕ) (small : nn < 65536) (room : length d.writes ≤ 2) (reads : ReadsFit g o k.readable) (f : Fits g a k entry before d stack) where
+module _ (g : GroundView) (a : AbsState) (o : Outside) (k : AbsDraft) (entry : Entry) (before : Valuation) (d : DraftView) (stack : List ℕ) (nn : ℕ) (small : nn < 65536) (room : length d.writes ≤ 2) (reads : ReadsFit g o k.readable) (f : Fits g a k entry before d stack) where
   -- not inline: the words stay
   pub called_fits : Fits g a (after_moves g false (call_moves nn) k) entry before (drafted o (call_moves nn) d) stack
   unfolding after_moves after_move drafted moved
   called_fits = calm_fits g a o false (after_move g false (moves.Push registers.Pc) k) entry before (moved o (moves.Push registers.Pc) d) stack reads (call_fits g a o k entry before d stack f) (moves.SetWord registers.Pc nn) refl small (omega (arith, room))
 
-  -- inline: the word behind the call is the activation's
+  -- Inline: the return address is a word of the activation
   pub inlined_fits : k.effect.slot ≡ None → length k.state.shape < 64 → Fits g a (after_moves g true (call_moves nn) k) entry before (drafted o (call_moves nn) d) (stack ++ d.regs.pc ∷ [])
   unfolding after_moves drafted
   inlined_fits none fits =
@@ -175,19 +175,19 @@ module _ (g : Ground) (a : AbsState) (o : Outside) (k : Known) (entry : Entry) (
       let same : k.readable ≡ (after_move g true (moves.Push registers.Pc) k).readable = f.readable ∙ sym pushed.readable in
       calm_fits g a o true (after_move g true (moves.Push registers.Pc) k) entry before (moved o (moves.Push registers.Pc) d) (stack ++ d.regs.pc ∷ []) (subst (ReadsFit g o) same reads) pushed (moves.SetWord registers.Pc nn) refl small (still_few o d room)
 
--- where the outcome of a test has left something
-both : (o : Option Known) (P Q : Known → Type 0) → IsSomeAnd o (λ n. P n × Q n) → Some_of o (λ n. P n × Q n)
+-- where the outcome of a test is feasible
+both : (o : Option AbsDraft) (P Q : AbsDraft → Type 0) → IsSomeAnd o (λ n. P n × Q n) → Some_of o (λ n. P n × Q n)
 both o P Q h = some_of o _ h
 
--- the word of the last slot is one
+-- the last slot has one word
 slot_one : (shape other : List Slot) → other ≡ shape → is_single (last_slot shape).pair.word ≡ true → IsOne (last_slot other).pair.word
 slot_one shape other e h = subst (λ (x : List Slot). IsOne (last_slot x).pair.word) (sym e) (eqb-true _ _ h)
 
-module _ (g : Ground) (c : Context) (a : AbsState) (main inline : Bool) (entry : Entry) (before : Valuation) (words : List ℕ) (address : ℕ) where
-  abbrev first : Instr → Draft
+module _ (g : GroundView) (c : ContextView) (a : AbsState) (main inline : Bool) (entry : Entry) (before : Valuation) (words : List ℕ) (address : ℕ) where
+  abbrev first : Instr → DraftView
   first instr = draft_on (past (length (spelling instr)) c.state.regs)
 
-  abbrev Known_of : Instr → Known
+  abbrev Known_of : Instr → AbsDraft
   Known_of instr = known_before address instr a
 
   abbrev Out : Instr → NextKind → List ℕ → Type 0
@@ -211,9 +211,9 @@ module _ (g : Ground) (c : Context) (a : AbsState) (main inline : Bool) (entry :
   restart_end p kind after f =
       record { known = after_moves g inline (call_moves (8 * restart p)) (Known_of (instrs.Restart p)); fits = f; taken = true; listed = (0, omega arith, refl); cost = refl; one = λ on. refl; writes = ap (λ ws. ws.items) (push_writes g inline registers.Pc (Known_of (instrs.Restart p)) ∙ sym (push_writes g true registers.Pc (Known_of (instrs.Restart p)))) }
 
-  -- CALL cc that is taken
+  -- CALL cc, taken
   pub call_if_end : (condition : Condition) (nn : ℕ) (kind : NextKind) (after : List ℕ) → Runs (instrs.CallIf condition nn) → Begun (instrs.CallIf condition nn) → (instr_draft c (instrs.CallIf condition nn)).taken ≡ true
-      → ((n : Known) → n.readable ≡ a.armed → IsKept (Known_of (instrs.CallIf condition nn)) n → Fits g a n entry before (marked (tests.Flag condition) (first (instrs.CallIf condition nn))) words
+      → ((n : AbsDraft) → n.readable ≡ a.armed → KeepsEffectAndShape (Known_of (instrs.CallIf condition nn)) n → Fits g a n entry before (marked (tests.Flag condition) (first (instrs.CallIf condition nn))) words
       → Fits g a (after_moves g inline (call_moves nn) n) entry before (drafted (outside_of c) (call_moves nn) (marked (tests.Flag condition) (first (instrs.CallIf condition nn)))) after)
       → Out (instrs.CallIf condition nn) kind after
   unfolding test_of before_test behind_test after_moves after_move drafted
@@ -222,13 +222,13 @@ module _ (g : Ground) (c : Context) (a : AbsState) (main inline : Bool) (entry :
       let h = goes_held g a (outside_of c) inline (moves_of instr) (Known_of instr) entry before (first instr) words run start (tests.Flag condition) refl refl out in
       let n = some_of _ _ h.0 in
       let rest = tested_leaves (tests.Flag condition) true (Known_of instr) n.known n.is in
-      let held_way : Known → Next = λ taken. next_of main instr true kind (after_moves g inline (call_moves nn) taken) in
-      let left_way : Known → Next = λ left. next_of main instr false kinds.Jump left in
+      let held_way : AbsDraft → Next = λ taken. next_of main instr true kind (after_moves g inline (call_moves nn) taken) in
+      let left_way : AbsDraft → Next = λ left. next_of main instr false kinds.Jump left in
       record {
         known = after_moves g inline (call_moves nn) n.known;
-        fits = subst (λ (x : Draft). Fits g a (after_moves g inline (call_moves nn) n.known) entry before x after) (sym h.1) (go n.known n.holds.0.readable n.holds.1 n.holds.0);
+        fits = subst (λ (x : DraftView). Fits g a (after_moves g inline (call_moves nn) n.known) entry before x after) (sym h.1) (go n.known n.holds.0.readable n.holds.1 n.holds.0);
         taken = true;
-        listed = subst (λ (o : Option Known). Contains (way_on o held_way ++ way_on (tested (tests.Flag condition) false (Known_of instr)) left_way) (next_of main instr true kind (after_moves g inline (call_moves nn) n.known))) (sym n.is) (first_way n.known (tested (tests.Flag condition) false (Known_of instr)) held_way left_way);
+        listed = subst (λ (o : Option AbsDraft). Contains (way_on o held_way ++ way_on (tested (tests.Flag condition) false (Known_of instr)) left_way) (next_of main instr true kind (after_moves g inline (call_moves nn) n.known))) (sym n.is) (first_way n.known (tested (tests.Flag condition) false (Known_of instr)) held_way left_way);
         cost = ap (cost_of instr) out;
         one = λ on. refl;
         writes = ap (λ ws. ws.items) (moves_writes g inline (call_moves nn) n.known refl ∙ rest.writes);
@@ -251,9 +251,9 @@ module _ (g : Ground) (c : Context) (a : AbsState) (main inline : Bool) (entry :
   from_non_maskable_end kind after f one =
       record { known = after_move g inline (moves.Pop registers.Pc) (Known_of instrs.ReturnFromNonMaskable); fits = f; taken = true; listed = (0, omega arith, refl); cost = refl; one = one; writes = refl }
 
-  -- RET cc that is taken
+  -- RET cc, taken
   pub return_if_end : (condition : Condition) (kind : NextKind) (after : List ℕ) → Runs (instrs.ReturnIf condition) → Begun (instrs.ReturnIf condition) → (instr_draft c (instrs.ReturnIf condition)).taken ≡ true
-      → ((n : Known) → Fits g a n entry before (marked (tests.Flag condition) (first (instrs.ReturnIf condition))) words
+      → ((n : AbsDraft) → Fits g a n entry before (marked (tests.Flag condition) (first (instrs.ReturnIf condition))) words
       → Fits g a (after_move g inline (moves.Pop registers.Pc) n) entry before (drafted (outside_of c) (moves.Pop registers.Pc ∷ []) (marked (tests.Flag condition) (first (instrs.ReturnIf condition)))) after)
       → ((kind ≢ kinds.Exit) → is_single (last_slot a.shape).pair.word ≡ true)
       → Out (instrs.ReturnIf condition) kind after
@@ -263,13 +263,13 @@ module _ (g : Ground) (c : Context) (a : AbsState) (main inline : Bool) (entry :
       let h = goes_held g a (outside_of c) inline (moves_of instr) (Known_of instr) entry before (first instr) words run start (tests.Flag condition) refl refl out in
       let n = some_of _ _ h.0 in
       let rest = tested_leaves (tests.Flag condition) true (Known_of instr) n.known n.is in
-      let held_way : Known → Next = λ taken. next_of main instr true kind (after_move g inline (moves.Pop registers.Pc) taken) in
-      let left_way : Known → Next = λ left. next_of main instr false kinds.Jump left in
+      let held_way : AbsDraft → Next = λ taken. next_of main instr true kind (after_move g inline (moves.Pop registers.Pc) taken) in
+      let left_way : AbsDraft → Next = λ left. next_of main instr false kinds.Jump left in
       record {
         known = after_move g inline (moves.Pop registers.Pc) n.known;
-        fits = subst (λ (x : Draft). Fits g a (after_move g inline (moves.Pop registers.Pc) n.known) entry before x after) (sym h.1) (go n.known n.holds.0);
+        fits = subst (λ (x : DraftView). Fits g a (after_move g inline (moves.Pop registers.Pc) n.known) entry before x after) (sym h.1) (go n.known n.holds.0);
         taken = true;
-        listed = subst (λ (o : Option Known). Contains (way_on o held_way ++ way_on (tested (tests.Flag condition) false (Known_of instr)) left_way) (next_of main instr true kind (after_move g inline (moves.Pop registers.Pc) n.known))) (sym n.is) (first_way n.known (tested (tests.Flag condition) false (Known_of instr)) held_way left_way);
+        listed = subst (λ (o : Option AbsDraft). Contains (way_on o held_way ++ way_on (tested (tests.Flag condition) false (Known_of instr)) left_way) (next_of main instr true kind (after_move g inline (moves.Pop registers.Pc) n.known))) (sym n.is) (first_way n.known (tested (tests.Flag condition) false (Known_of instr)) held_way left_way);
         cost = ap (cost_of instr) out;
         one = λ on. slot_one a.shape n.known.state.shape n.holds.1.1 (single on);
         writes = ap (λ ws. ws.items) (move_writes g inline (moves.Pop registers.Pc) n.known refl ∙ rest.writes);

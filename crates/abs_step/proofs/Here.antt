@@ -1,4 +1,4 @@
--- An instruction at a row that holds of the board: what is known before its first move, and what a way on keeps.
+-- A row that holds of the board: what is known before the first move, and what a successor keeps.
 use Rattle.std.proofs.Common.{◌≡◌, ◌≤◌, ◌+◌, ℕ, Bool, true, false, cond, List, [], ◌∷◌, length, Ok, refl, sym, ap, subst, arith}
 use Rattle.intervals.specs.Range.{Within}
 use Rattle.loop_bounds.specs.Effect.{change_of}
@@ -8,14 +8,14 @@ use Rattle.z80_decode.specs.declared.instr.Instr.{Instr}
 use Rattle.z80_draft.specs.Draft.{draft_on, past}
 use Rattle.z80_moves.specs.Moves.{moves_of}
 use Rattle.address_map.specs.declared.region.Region.{Region}
-use Rattle.board_step.specs.Context.{Context, context_of}
-use Rattle.rom_fetch.specs.Decoded.{StandsAt}
+use Rattle.board_step.specs.Context.{ContextView, context_of}
+use Rattle.board_fetch.specs.Decoded.{StandsAt}
 use Rattle.board_step.specs.Hardware.{hardware_of}
 use Rattle.board_step.specs.Reads.{outside_of}
-use Rattle.board_step.specs.State.{State}
+use Rattle.board_step.specs.State.{BoardView}
 use Rattle.board_step.specs.Step.{done, instr_draft}
 use Rattle.board_step.specs.declared.env.Env.{Env}
-use Rattle.stack_words.proofs.Brought.{reaches}
+use Rattle.board_laws.proofs.Brought.{reaches}
 use Rattle.abs_state.specs.Cell.{HoldsCells}
 use Rattle.abs_state.specs.Fact.{HoldsFact}
 use Rattle.abs_state.specs.Holds.{Holds, HoldsMode}
@@ -23,13 +23,13 @@ use Rattle.abs_state.specs.Pairs.{HoldsPairs}
 use Rattle.abs_state.specs.Variables.{value_in}
 use Rattle.abs_state.specs.declared.mode.Mode.{Mode}
 use Rattle.abs_state.specs.declared.state.AbsState.{AbsState}
-use Rattle.abs_draft.specs.Ground.{Ground}
-use Rattle.abs_draft.specs.Known.{written_state}
+use Rattle.abs_draft.specs.Ground.{GroundView}
+use Rattle.abs_draft.specs.AbsDraft.{written_state}
 use Rattle.abs_draft.specs.declared.data_write.DataWrite.{DataWrite}
 use Rattle.abs_draft.specs.Outcomes.{known_before, settled}
-use Rattle.abs_draft.specs.declared.known.Known.{Known}
+use Rattle.abs_draft.specs.declared.draft.AbsDraft.{AbsDraft}
 use Rattle.abs_laws.specs.Cells.{bytes_of_cells}
-use Rattle.abs_laws.specs.Fits.{Fits, Follows, IsThere, ReadsFit, seen_by, state_after_writes}
+use Rattle.abs_laws.specs.Fits.{Fits, FollowsChange, IsThere, ReadsFit, seen_by_draft, state_after_writes}
 use Rattle.abs_laws.specs.Lists.{MayRun}
 use Rattle.abs_laws.proofs.FirstKnown.{first_fits}
 use Rattle.abs_laws.proofs.Ranges.{instruction_in_range}
@@ -40,12 +40,12 @@ use Rattle.abs_step.specs.Contained.{Before, Running, seen_of}
 use Rattle.abs_step.proofs.TameMoves.{IsOne}
 use Rattle.abs_step.proofs.Uses.{value_same}
 
--- the board and the environment, on the hardware that a row speaks of
-abbrev pub here : Ground → State → Env → Context
+-- the board and the environment, on the hardware of the row
+abbrev pub here : GroundView → BoardView → Env → ContextView
 here g s env = context_of (hardware_of g.rom g.map) s env
 
--- the state of a known way on, once the stack is set where it was, holds of the board where its mode and its cells do
-pub holds_after : (g : Ground) (s : State) (env : Env) (a : AbsState) (instr : Instr) (running : Running) (k : Known) (before : Variable → ℕ) (words : List ℕ)
+-- the state of a finished successor holds of the board if its mode and its armed cells do
+pub holds_after : (g : GroundView) (s : BoardView) (env : Env) (a : AbsState) (instr : Instr) (running : Running) (k : AbsDraft) (before : Variable → ℕ) (words : List ℕ)
     → Fits g a k running.entry before (instr_draft (here g s env) instr) words
     → HoldsMode (state_after_writes g k.writes.items a).mode (done (here g s env) instr).enable (done (here g s env) instr).line (done (here g s env) instr).latched
     → HoldsCells (state_after_writes g k.writes.items a).armed g.cells (bytes_of_cells g.cells (done (here g s env) instr))
@@ -61,16 +61,16 @@ holds_after g s env a instr running k before words f mode cells =
     }
 
 -- its variables come from those before
-pub through_after : (g : Ground) (s : State) (env : Env) (a : AbsState) (instr : Instr) (running : Running) (k : Known) (words : List ℕ)
+pub through_after : (g : GroundView) (s : BoardView) (env : Env) (a : AbsState) (instr : Instr) (running : Running) (k : AbsDraft) (words : List ℕ)
     → Fits g a k running.entry (value_in (seen_of g.cells running.words s)) (instr_draft (here g s env) instr) words
-    → (v : Variable) → IsThere (length words) v → Follows (change_of (settled k.state k.effect) v) (value_in (seen_of g.cells running.words s)) (value_in (seen_of g.cells words (done (here g s env) instr)) v)
+    → (v : Variable) → IsThere (length words) v → FollowsChange (change_of (settled k.state k.effect) v) (value_in (seen_of g.cells running.words s)) (value_in (seen_of g.cells words (done (here g s env) instr)) v)
 through_after g s env a instr running k words f v there =
     let r = reaches g.map (instr_draft (here g s env) instr) s in
-    let same : value_in (seen_by (instr_draft (here g s env) instr) words) v ≡ value_in (seen_of g.cells words (done (here g s env) instr)) v = value_same (seen_by (instr_draft (here g s env) instr) words) (seen_of g.cells words (done (here g s env) instr)) (sym r.regs) refl v in
-    subst (λ (n : ℕ). Follows (change_of (settled k.state k.effect) v) (value_in (seen_of g.cells running.words s)) n) same (settled_follows g a k running.entry _ _ words f v there)
+    let same : value_in (seen_by_draft (instr_draft (here g s env) instr) words) v ≡ value_in (seen_of g.cells words (done (here g s env) instr)) v = value_same (seen_by_draft (instr_draft (here g s env) instr) words) (seen_of g.cells words (done (here g s env) instr)) (sym r.regs) refl v in
+    subst (λ (n : ℕ). FollowsChange (change_of (settled k.state k.effect) v) (value_in (seen_of g.cells running.words s)) n) same (settled_follows g a k running.entry _ _ words f v there)
 
--- its address is where the program counter is
-pub address_after : (g : Ground) (s : State) (env : Env) (a : AbsState) (instr : Instr) (running : Running) (k : Known) (before : Variable → ℕ) (words : List ℕ)
+-- its address is the program counter
+pub address_after : (g : GroundView) (s : BoardView) (env : Env) (a : AbsState) (instr : Instr) (running : Running) (k : AbsDraft) (before : Variable → ℕ) (words : List ℕ)
     → Fits g a k running.entry before (instr_draft (here g s env) instr) words → IsOne k.pc → (done (here g s env) instr).regs.pc ≡ k.pc.low
 address_after g s env a instr running k before words f one =
     let r = reaches g.map (instr_draft (here g s env) instr) s in
@@ -79,12 +79,12 @@ address_after g s env a instr running k before words f one =
     let same : k.pc.low ≡ k.pc.high = one in
     omega arith
 
--- what is known before the first move is true, and the list may run
-pub record IsBegun (g : Ground) (address : ℕ) (a : AbsState) (instr : Instr) (running : Running) (s : State) (env : Env) : Type 0 where
+-- what is known before the first move holds, and the moves may run
+pub record IsBegun (g : GroundView) (address : ℕ) (a : AbsState) (instr : Instr) (running : Running) (s : BoardView) (env : Env) : Type 0 where
   pub start : Fits g a (known_before address instr a) running.entry (value_in (seen_of g.cells running.words s)) (draft_on (past (length (spelling instr)) s.regs)) running.words
   pub run : MayRun g (outside_of (here g s env)) (known_before address instr a) (draft_on (past (length (spelling instr)) s.regs)) (moves_of instr)
 
-pub begun : (g : Ground) (address : ℕ) (a : AbsState) (instr : Instr) (region : Region) (running : Running) (s : State) (env : Env)
+pub begun : (g : GroundView) (address : ℕ) (a : AbsState) (instr : Instr) (region : Region) (running : Running) (s : BoardView) (env : Env)
     → s.regs.pc ≡ address → StandsAt g.rom address (Ok instr) → Before g.cells region running a (here g s env) → IsBegun g address a instr running s env
 begun g address a instr region running s env at stands b =
     let reads : ReadsFit g (outside_of (here g s env)) a.armed = outside_fits g (here g s env) a.armed refl refl b.is_region.is_map b.rom_len b.rom b.numbers b.env b.holds.cells_hold in
@@ -94,18 +94,18 @@ begun g address a instr region running s env at stands b =
       run = record { in_range = instruction_in_range g.rom address instr b.rom stands; room = omega (arith, few.writes); once = few.once; reads = reads };
     }
 
--- cells that are armed stay so
+-- armed cells stay armed
 one_armed : (b : Bool) (n : ℕ) → n ≤ cond b (n + 1) n
 one_armed true n = omega arith
 one_armed false n = omega arith
 
-pub armed_stays : (g : Ground) (ws : List DataWrite) (a : AbsState) → a.armed ≤ (state_after_writes g ws a).armed
+pub armed_stays : (g : GroundView) (ws : List DataWrite) (a : AbsState) → a.armed ≤ (state_after_writes g ws a).armed
 armed_stays g [] a = omega arith
 armed_stays g (w ∷ ws) a =
     let one : a.armed ≤ (written_state g w a).armed = one_armed _ a.armed in
     let rest = armed_stays g ws (written_state g w a) in
     omega arith
 
--- and so in a known way on
-pub armed_after_all : (g : Ground) (a : AbsState) (k : Known) → k.state.armed ≡ (state_after_writes g k.writes.items a).armed → a.armed ≤ k.state.armed
+-- and so in a finished successor
+pub armed_after_all : (g : GroundView) (a : AbsState) (k : AbsDraft) → k.state.armed ≡ (state_after_writes g k.writes.items a).armed → a.armed ≤ k.state.armed
 armed_after_all g a k e = let h = armed_stays g k.writes.items a in omega arith

@@ -1,6 +1,7 @@
--- The instruction at a row keeps what the row says.
-use Rattle.std.proofs.Common.{◌≡◌, ◌≢◌, ◌≤◌, ◌∙◌, ℕ, Bool, true, false, cond, List, length, Option, Some, None, Ok, refl, sym, ap, subst, inl, inr}
+-- The instruction at a row does what `After` says.
+use Rattle.std.proofs.Common.{◌≡◌, ◌≢◌, ◌≤◌, ◌∙◌, ℕ, Bool, true, false, cond, List, [], length, Option, Some, None, Ok, refl, sym, ap, subst, inl, inr}
 use Rattle.std.specs.Prelude.{◌&&◌}
+use Rattle.std.specs.List.{AllZip}
 use Rattle.std.proofs.lemmas.Bool.{cases_Bool}
 use Rattle.z80_decode.specs.Spelling.{spelling}
 use Rattle.z80_decode.specs.declared.instr.Instr.{Instr}
@@ -8,36 +9,44 @@ use Rattle.z80_decode.specs.declared.instr.Instr.TheVariants as instrs
 use Rattle.z80_decode.specs.declared.operands.Pointer.TheVariants as pointers
 use Rattle.z80_decode.specs.declared.operands.StackPair.TheVariants as stack_pairs
 use Rattle.z80_decode.specs.declared.operands.Special.TheVariants as specials
-use Rattle.z80_draft.specs.Draft.{Draft, draft_on, drafted, moved, past, test_holds}
+use Rattle.z80_draft.specs.Draft.{DraftView, draft_on, drafted, moved, past, test_holds}
+use Rattle.z80_draft.specs.declared.access.Write.{Write}
+use Rattle.z80_moves.specs.Moves.{moves_of}
 use Rattle.z80_moves.specs.declared.moves.Test.TheVariants as tests
 use Rattle.address_map.specs.declared.region.Region.{Region}
-use Rattle.board_step.specs.Context.{Context, context_of}
-use Rattle.rom_fetch.specs.Decoded.{StandsAt}
+use Rattle.board_step.specs.Context.{ContextView, context_of}
+use Rattle.board_fetch.specs.Decoded.{StandsAt}
 use Rattle.board_step.specs.Hardware.{Hardware, hardware_of}
-use Rattle.board_step.specs.State.{State}
+use Rattle.board_step.specs.State.{BoardView}
 use Rattle.board_step.specs.Step.{instr_draft}
 use Rattle.board_step.specs.declared.env.Env.{Env}
-use Rattle.stack_words.specs.Uses.{sets_sp}
-use Rattle.stack_words.proofs.Brought.{reaches}
+use Rattle.board_laws.specs.Uses.{sets_sp}
+use Rattle.board_laws.proofs.Brought.{reaches}
 use Rattle.abs_state.specs.Mode.{is_unset}
 use Rattle.abs_state.specs.declared.state.AbsState.{AbsState}
-use Rattle.abs_draft.specs.Ground.{Ground}
-use Rattle.abs_step.specs.Contained.{After, Before, IsInOrder, Keeps, Running}
+use Rattle.abs_draft.specs.Ground.{GroundView}
+use Rattle.abs_draft.specs.Outcomes.{before_test, known_before}
+use Rattle.abs_draft.specs.declared.data_write.DataWrite.{DataWrite}
+use Rattle.abs_laws.specs.Fits.{WriteLiesIn}
+use Rattle.abs_step.specs.Contained.{After, Before, IsInOrder, Keeps, Running, WritesAsKnown}
 use Rattle.abs_step.specs.Successors.{answer_by, answer_of, has_no_shape, jumps_anywhere, nexts_of, refusal, uses_stack, writes_of}
 use Rattle.abs_step.specs.declared.next.Next.{Next}
+use Rattle.abs_step.specs.declared.next.NextKind.TheVariants as kinds
 use Rattle.abs_step.specs.declared.reason.Reason.{Reason}
 use Rattle.t_states.specs.Io.{is_io}
 use Rattle.abs_step.proofs.Here.{here}
-use Rattle.abs_step.proofs.KeepsAside.{aside_goes}
+use Rattle.abs_step.proofs.KeepsAside.{aside_end, aside_goes, known_zip}
 use Rattle.abs_step.proofs.KeepsEach.{call_goes, call_if_goes, call_if_not_taken, from_interrupt_is, from_non_maskable_is, inline_call_goes, inline_call_if_goes, inline_restart_goes, restart_goes, return_if_is, return_if_not_taken, return_is, returns_goes}
 use Rattle.abs_step.proofs.KeepsStack.{exchange_goes, load_sp_goes, pop_goes, push_goes}
-use Rattle.abs_step.proofs.Scenes.{Done, Scene, is_clear, is_safe, tame_rest}
+use Rattle.abs_step.proofs.KnownWrites.{moves_writes}
+use Rattle.abs_step.proofs.Scenes.{Done, Scene, Stage, is_clear, is_safe, tame_rest}
 use Rattle.abs_step.proofs.TameInstructions.{is_apart, tame_instr}
+use Rattle.abs_step.proofs.WritesAlike.{no_writes}
 
 missing : (P : Type 0) → (let b : Bool = false in b) ≡ true → P
 missing P e = absurd (cc)
 
-module _ (g : Ground) (address : ℕ) (main : Bool) (a : AbsState) (region : Region) (running : Running) (s : State) (env : Env) where
+module _ (g : GroundView) (address : ℕ) (main : Bool) (a : AbsState) (region : Region) (running : Running) (s : BoardView) (env : Env) where
   abbrev At : Bool → Instr → Type 0
   At inline instr = Scene g address main inline a instr region running s env
 
@@ -86,36 +95,37 @@ module _ (g : Ground) (address : ℕ) (main : Bool) (a : AbsState) (region : Reg
 
 -- ---- I, and the halt
 
-either : (P : Draft → Type 0) (b : Bool) (x y : Draft) → P x → P y → P (cond b x y)
+either : (P : DraftView → Type 0) (b : Bool) (x y : DraftView) → P x → P y → P (cond b x y)
 either P true x y p q = p
 either P false x y p q = q
 
-pub record Runs (c : Context) (d : Draft) : Type 0 where
+pub record Runs (c : ContextView) (d : DraftView) : Type 0 where
   pub i : d.regs.i ≡ c.state.regs.i
   pub halts : d.halts ≡ false
+  pub writes : d.writes ≡ []
 
-stack_runs : (c : Context) (instr : Instr) → uses_stack instr ≡ true → Runs c (instr_draft c instr)
+stack_runs : (c : ContextView) (instr : Instr) → uses_stack instr ≡ true → Runs c (instr_draft c instr)
 unfolding drafted moved
-stack_runs c (instrs.Push qq) u = record { i = refl; halts = refl }
-stack_runs c (instrs.Pop stack_pairs.Bc) u = record { i = refl; halts = refl }
-stack_runs c (instrs.Pop stack_pairs.De) u = record { i = refl; halts = refl }
-stack_runs c (instrs.Pop stack_pairs.Hl) u = record { i = refl; halts = refl }
-stack_runs c (instrs.Pop stack_pairs.Af) u = record { i = refl; halts = refl }
-stack_runs c (instrs.Pop stack_pairs.Ix) u = record { i = refl; halts = refl }
-stack_runs c (instrs.Pop stack_pairs.Iy) u = record { i = refl; halts = refl }
-stack_runs c (instrs.ExchangeStack pointers.Hl) u = record { i = refl; halts = refl }
-stack_runs c (instrs.ExchangeStack pointers.Ix) u = record { i = refl; halts = refl }
-stack_runs c (instrs.ExchangeStack pointers.Iy) u = record { i = refl; halts = refl }
-stack_runs c (instrs.Call nn) u = record { i = refl; halts = refl }
-stack_runs c (instrs.Restart p) u = record { i = refl; halts = refl }
-stack_runs c (instrs.CallIf condition nn) u = either (Runs c) (test_holds (tests.Flag condition) (draft_on (past (length (spelling (instrs.CallIf condition nn))) c.state.regs))) _ _ (record { i = refl; halts = refl }) (record { i = refl; halts = refl })
-stack_runs c instrs.Return u = record { i = refl; halts = refl }
-stack_runs c instrs.ReturnFromInterrupt u = record { i = refl; halts = refl }
-stack_runs c instrs.ReturnFromNonMaskable u = record { i = refl; halts = refl }
-stack_runs c (instrs.ReturnIf condition) u = either (Runs c) (test_holds (tests.Flag condition) (draft_on (past (length (spelling (instrs.ReturnIf condition))) c.state.regs))) _ _ (record { i = refl; halts = refl }) (record { i = refl; halts = refl })
+stack_runs c (instrs.Push qq) u = record { i = refl; halts = refl; writes = refl }
+stack_runs c (instrs.Pop stack_pairs.Bc) u = record { i = refl; halts = refl; writes = refl }
+stack_runs c (instrs.Pop stack_pairs.De) u = record { i = refl; halts = refl; writes = refl }
+stack_runs c (instrs.Pop stack_pairs.Hl) u = record { i = refl; halts = refl; writes = refl }
+stack_runs c (instrs.Pop stack_pairs.Af) u = record { i = refl; halts = refl; writes = refl }
+stack_runs c (instrs.Pop stack_pairs.Ix) u = record { i = refl; halts = refl; writes = refl }
+stack_runs c (instrs.Pop stack_pairs.Iy) u = record { i = refl; halts = refl; writes = refl }
+stack_runs c (instrs.ExchangeStack pointers.Hl) u = record { i = refl; halts = refl; writes = refl }
+stack_runs c (instrs.ExchangeStack pointers.Ix) u = record { i = refl; halts = refl; writes = refl }
+stack_runs c (instrs.ExchangeStack pointers.Iy) u = record { i = refl; halts = refl; writes = refl }
+stack_runs c (instrs.Call nn) u = record { i = refl; halts = refl; writes = refl }
+stack_runs c (instrs.Restart p) u = record { i = refl; halts = refl; writes = refl }
+stack_runs c (instrs.CallIf condition nn) u = either (Runs c) (test_holds (tests.Flag condition) (draft_on (past (length (spelling (instrs.CallIf condition nn))) c.state.regs))) _ _ (record { i = refl; halts = refl; writes = refl }) (record { i = refl; halts = refl; writes = refl })
+stack_runs c instrs.Return u = record { i = refl; halts = refl; writes = refl }
+stack_runs c instrs.ReturnFromInterrupt u = record { i = refl; halts = refl; writes = refl }
+stack_runs c instrs.ReturnFromNonMaskable u = record { i = refl; halts = refl; writes = refl }
+stack_runs c (instrs.ReturnIf condition) u = either (Runs c) (test_holds (tests.Flag condition) (draft_on (past (length (spelling (instrs.ReturnIf condition))) c.state.regs))) _ _ (record { i = refl; halts = refl; writes = refl }) (record { i = refl; halts = refl; writes = refl })
 stack_runs c _ u = missing _ u
 
-apart_i : (c : Context) (instr : Instr) → is_apart instr ≡ true → instr ≢ instrs.StoreASpecial specials.I → (instr_draft c instr).regs.i ≡ c.state.regs.i
+apart_i : (c : ContextView) (instr : Instr) → is_apart instr ≡ true → instr ≢ instrs.StoreASpecial specials.I → (instr_draft c instr).regs.i ≡ c.state.regs.i
 unfolding drafted moved
 apart_i c (instrs.JumpTo pointer) e n = refl
 apart_i c instrs.Halt e n = refl
@@ -123,7 +133,7 @@ apart_i c (instrs.StoreASpecial specials.I) e n = absurd (n refl)
 apart_i c (instrs.StoreASpecial specials.R) e n = missing _ e
 apart_i c _ e n = missing _ e
 
-apart_halts : (c : Context) (instr : Instr) → is_apart instr ≡ true → (instr_draft c instr).halts ≡ true → instr ≡ instrs.Halt
+apart_halts : (c : ContextView) (instr : Instr) → is_apart instr ≡ true → (instr_draft c instr).halts ≡ true → instr ≡ instrs.Halt
 unfolding drafted moved
 apart_halts c (instrs.JumpTo pointer) e h = absurd (cc)
 apart_halts c instrs.Halt e h = refl
@@ -134,7 +144,7 @@ apart_halts c _ e h = missing _ e
 never : (P : Type 0) (b : Bool) → b ≡ true → b ≡ false → P
 never P b e f = absurd (cc)
 
-i_kept : (c : Context) (instr : Instr) → instr ≢ instrs.StoreASpecial specials.I → (instr_draft c instr).regs.i ≡ c.state.regs.i
+i_kept : (c : ContextView) (instr : Instr) → instr ≢ instrs.StoreASpecial specials.I → (instr_draft c instr).regs.i ≡ c.state.regs.i
 i_kept c instr n =
     elim (cases_Bool (uses_stack instr)) [
       | inl u ↦ (stack_runs c instr u).i
@@ -144,7 +154,7 @@ i_kept c instr n =
       ]
     ]
 
-halt_alone : (c : Context) (instr : Instr) → (instr_draft c instr).halts ≡ true → instr ≡ instrs.Halt
+halt_alone : (c : ContextView) (instr : Instr) → (instr_draft c instr).halts ≡ true → instr ≡ instrs.Halt
 halt_alone c instr h =
     elim (cases_Bool (uses_stack instr)) [
       | inl u ↦ never _ _ h (stack_runs c instr u).halts
@@ -154,23 +164,39 @@ halt_alone c instr h =
       ]
     ]
 
+-- ---- data writes, whatever other reasons apply
+
+module _ (g : GroundView) (address : ℕ) (a : AbsState) (instr : Instr) (region : Region) (running : Running) (s : BoardView) (env : Env) (x : Stage g address a instr region running s env) where
+  abbrev known_writes : List DataWrite
+  known_writes = writes_of g address a (Ok instr)
+
+  none_known : uses_stack instr ≡ true → known_writes ≡ []
+  none_known u = rw x.io (ap (λ w. w.items) (moves_writes g true (before_test (moves_of instr)) (known_before address instr a) (no_writes instr u)))
+
+  writes_known : AllZip WriteLiesIn known_writes (instr_draft (here g s env) instr).writes
+  writes_known = elim (cases_Bool (uses_stack instr)) [
+    | inl u ↦
+        let none : AllZip WriteLiesIn known_writes [] = subst (λ (ws : List DataWrite). AllZip WriteLiesIn ws []) (sym (none_known u)) tt in
+        subst (λ (ws : List Write). AllZip WriteLiesIn known_writes ws) (sym (stack_runs (here g s env) instr u).writes) none
+    | inr u ↦ known_zip g address true true a region running s env instr kinds.Jump running.words (aside_end g address true true a region running s env instr u x)
+  ]
+
 -- ---- what an instruction keeps
 
-pub after_here : (g : Ground) (address : ℕ) (main inline : Bool) (a : AbsState) (instr : Instr) (region : Region) (running : Running) (s : State) (env : Env) → Scene g address main inline a instr region running s env
+pub after_here : (g : GroundView) (address : ℕ) (main inline : Bool) (a : AbsState) (instr : Instr) (region : Region) (running : Running) (s : BoardView) (env : Env) → Scene g address main inline a instr region running s env
     → After g.cells region running a instr (writes_of g address a (Ok instr)) (nexts_of g address main inline instr a) (here g s env)
 after_here g address main inline a instr region running s env x =
     let d = each_done g address main a region running s env inline instr x in
     let r = reaches g.map (instr_draft (here g s env) instr) s in
     record {
       goes = d.0;
-      writes = d.1.zip;
       safe = is_safe g address main inline a instr region running s env x d.1.zip d.1.inside;
       clear = is_clear g address main inline a instr region running s env x d.1.zip d.1.inside;
       keeps_i = λ n. ap (λ regs. regs.i) r.regs ∙ i_kept (here g s env) instr n;
       halts = λ h. halt_alone (here g s env) instr (sym r.halted ∙ h);
     }
 
--- what `successors` answered with, and what it did not refuse
+-- what `successors` answers with, and what it did not refuse
 pub record Answered (main inline : Bool) (a : AbsState) (instr : Instr) (found nexts : List Next) : Type 0 where
   pub same : found ≡ nexts
   pub io : is_io instr ≡ false
@@ -198,7 +224,7 @@ answered main inline a instr found nexts e =
     let u = not_first (jumps_anywhere instr a) _ _ r.1 in
     record { same = t.1; io = p.0; set = q.0; shape = r.0; jumps = u.0 }
 
-pub keeps : (g : Ground) (address : ℕ) (main inline : Bool) (a : AbsState) (instr : Instr) (nexts : List Next) → length a.shape ≤ 64 → StandsAt g.rom address (Ok instr) → answer_of g address main inline a (Ok instr) ≡ Ok nexts → Keeps g address main a instr nexts
+pub keeps : (g : GroundView) (address : ℕ) (main inline : Bool) (a : AbsState) (instr : Instr) (nexts : List Next) → length a.shape ≤ 64 → StandsAt g.rom address (Ok instr) → answer_of g address main inline a (Ok instr) ≡ Ok nexts → Keeps g address main a instr nexts
 keeps g address main inline a instr nexts fits stands e region running c hardware at is_main before order =
     let t = answered main inline a instr (nexts_of g address main inline instr a) nexts e in
     let all : (h : Hardware) → h ≡ hardware_of g.rom g.map → Before g.cells region running a (context_of h c.state c.env) → After g.cells region running a instr (writes_of g address a (Ok instr)) nexts (context_of h c.state c.env) = λ h is.
@@ -216,4 +242,12 @@ keeps g address main inline a instr nexts fits stands e region running c hardwar
       shape = t.shape;
       jumps = t.jumps;
     }))) in
+    all c.hardware hardware before
+
+pub writes_as_known : (g : GroundView) (address : ℕ) (main inline : Bool) (a : AbsState) (instr : Instr) (nexts : List Next) → StandsAt g.rom address (Ok instr) → answer_of g address main inline a (Ok instr) ≡ Ok nexts → WritesAsKnown g address a instr
+writes_as_known g address main inline a instr nexts stands e region running c hardware at before =
+    let t = answered main inline a instr (nexts_of g address main inline instr a) nexts e in
+    let all : (h : Hardware) → h ≡ hardware_of g.rom g.map → Before g.cells region running a (context_of h c.state c.env) → AllZip WriteLiesIn (writes_of g address a (Ok instr)) (instr_draft (context_of h c.state c.env) instr).writes = λ h is.
+    subst (λ k. Before g.cells region running a (context_of k c.state c.env) → AllZip WriteLiesIn (writes_of g address a (Ok instr)) (instr_draft (context_of k c.state c.env) instr).writes) (sym is) (λ b.
+    writes_known g address a instr region running c.state c.env (record { at = at; stands = stands; before = b; io = t.io; jumps = t.jumps })) in
     all c.hardware hardware before

@@ -1,4 +1,4 @@
--- What an instruction keeps that does not use the stack.
+-- What an instruction that does not use the stack keeps.
 use Rattle.std.proofs.Common.{◌≡◌, ℕ, Bool, true, false, not, List, Ok, refl, sym, subst, inl, inr}
 use Rattle.std.specs.List.{AllZip}
 use Rattle.std.proofs.lemmas.Bool.{cases_Bool, eqb-true}
@@ -8,25 +8,25 @@ use Rattle.z80_decode.specs.declared.operands.Pointer.TheVariants as pointers
 use Rattle.z80_decode.specs.declared.operands.Special.TheVariants as specials
 use Rattle.z80_moves.specs.Moves.{moves_of}
 use Rattle.address_map.specs.declared.region.Region.{Region}
-use Rattle.board_step.specs.State.{State}
+use Rattle.board_step.specs.State.{BoardView}
 use Rattle.board_step.specs.Step.{instr_draft}
 use Rattle.board_step.specs.declared.env.Env.{Env}
-use Rattle.stack_words.specs.Uses.{sets_sp}
+use Rattle.board_laws.specs.Uses.{sets_sp}
 use Rattle.abs_state.specs.Variables.{value_in}
 use Rattle.abs_state.specs.declared.state.AbsState.{AbsState}
-use Rattle.abs_draft.specs.Ground.{Ground}
+use Rattle.abs_draft.specs.Ground.{GroundView}
 use Rattle.abs_draft.specs.AfterMove.{after_move}
 use Rattle.abs_draft.specs.Outcomes.{after_moves, before_test, known_before, test_of}
-use Rattle.abs_laws.specs.Fits.{LiesIn}
+use Rattle.abs_laws.specs.Fits.{WriteLiesIn}
 use Rattle.abs_laws.proofs.KnownWrites.{known_miss}
 use Rattle.abs_step.specs.Contained.{Running, seen_of}
-use Rattle.abs_step.specs.Successors.{kind_of, nexts_of, uses_stack, ways_on, writes_of}
+use Rattle.abs_step.specs.Successors.{next_kind_of, nexts_of, uses_stack, ways_on, writes_of}
 use Rattle.abs_step.specs.declared.next.NextKind.{NextKind}
 use Rattle.abs_step.specs.declared.next.NextKind.TheVariants as kinds
 use Rattle.abs_step.proofs.Asides.{End, jump_kind, straight_end, tame_end}
 use Rattle.abs_step.proofs.GoesAside.{aside_keeps, goes_on}
 use Rattle.abs_step.proofs.Here.{begun, here}
-use Rattle.abs_step.proofs.Scenes.{Done, Scene, aside_inside, keeps_board}
+use Rattle.abs_step.proofs.Scenes.{Done, Scene, Stage, aside_inside, keeps_board, stage_of}
 use Rattle.abs_step.proofs.TameInstructions.{is_apart, tame_instr}
 
 never : (P : Type 0) (b : Bool) → b ≡ true → b ≡ false → P
@@ -39,12 +39,12 @@ not_not : (b : Bool) → not b ≡ false → b ≡ true
 not_not true e = refl
 not_not false e = absurd (cc)
 
-module _ (g : Ground) (address : ℕ) (main inline : Bool) (a : AbsState) (region : Region) (running : Running) (s : State) (env : Env) where
-  -- the end, over the ways on of an instruction of this kind
+module _ (g : GroundView) (address : ℕ) (main inline : Bool) (a : AbsState) (region : Region) (running : Running) (s : BoardView) (env : Env) where
+  -- the end, among the successors of an instruction of this kind
   abbrev AtEnd : Instr → NextKind → Type 0
   AtEnd instr kind = End g (here g s env) a instr main kinds.Jump running.entry (value_in (seen_of g.cells running.words s)) running.words (writes_of g address a (Ok instr)) (ways_on g main inline instr kind (test_of (moves_of instr)) (after_moves g inline (before_test (moves_of instr)) (known_before address instr a)))
 
-  apart_end : (instr : Instr) → is_apart instr ≡ true → Scene g address main inline a instr region running s env → AtEnd instr kinds.Jump
+  apart_end : (instr : Instr) → is_apart instr ≡ true → Stage g address a instr region running s env → AtEnd instr kinds.Jump
   unfolding before_test test_of after_moves after_move
   apart_end (instrs.JumpTo pointers.Hl) h x =
       let b = begun g address a (instrs.JumpTo pointers.Hl) region running s env x.at x.stands x.before in
@@ -64,7 +64,7 @@ module _ (g : Ground) (address : ℕ) (main inline : Bool) (a : AbsState) (regio
   apart_end (instrs.StoreASpecial specials.R) h x = missing _ h
   apart_end _ h x = missing _ h
 
-  pub aside_end : (instr : Instr) → uses_stack instr ≡ false → Scene g address main inline a instr region running s env → AtEnd instr (kind_of inline instr a.shape)
+  pub aside_end : (instr : Instr) → uses_stack instr ≡ false → Stage g address a instr region running s env → AtEnd instr (next_kind_of inline instr a.shape)
   aside_end instr u x =
       let b = begun g address a instr region running s env x.at x.stands x.before in
       let jumping : AtEnd instr kinds.Jump = elim (cases_Bool (is_apart instr)) [
@@ -73,15 +73,15 @@ module _ (g : Ground) (address : ℕ) (main inline : Bool) (a : AbsState) (regio
       ] in
       subst (AtEnd instr) (sym (jump_kind inline instr a.shape u)) jumping
 
-  -- the data writes, as they are known
+  -- the data writes lie in the known ones
   pub known_zip : (instr : Instr) (kind : NextKind) (words : List ℕ) → End g (here g s env) a instr main kind running.entry (value_in (seen_of g.cells running.words s)) words (writes_of g address a (Ok instr)) (nexts_of g address main inline instr a)
-      → AllZip LiesIn (writes_of g address a (Ok instr)) (instr_draft (here g s env) instr).writes
-  known_zip instr kind words e = subst (λ ws. AllZip LiesIn ws (instr_draft (here g s env) instr).writes) e.writes e.fits.writes
+      → AllZip WriteLiesIn (writes_of g address a (Ok instr)) (instr_draft (here g s env) instr).writes
+  known_zip instr kind words e = subst (λ ws. AllZip WriteLiesIn ws (instr_draft (here g s env) instr).writes) e.writes e.fits.writes
 
   -- an instruction that leaves SP and the stack alone
   pub aside_goes : (instr : Instr) → uses_stack instr ≡ false → sets_sp instr ≡ false → Scene g address main inline a instr region running s env → Done g address main inline a instr region running s env
   aside_goes instr u sets x =
-      let e = aside_end instr u x in
+      let e = aside_end instr u (stage_of g address main inline a instr region running s env x) in
       let zip = known_zip instr kinds.Jump running.words e in
       let inside = aside_inside region (here g s env) instr u in (
         goes_on g s env a instr main region running (writes_of g address a (Ok instr)) (nexts_of g address main inline instr a) running.words sets (keeps_board g address main inline a instr region running s env x zip inside)

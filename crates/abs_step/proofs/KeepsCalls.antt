@@ -4,30 +4,30 @@ use Rattle.std.specs.Prelude.{◌%◌}
 use Rattle.z80_decode.specs.Spelling.{spelling}
 use Rattle.z80_decode.specs.declared.instr.Instr.{Instr}
 use Rattle.z80_alu.specs.declared.regs.Regs.{Regs}
-use Rattle.z80_draft.specs.Draft.{Draft, word_in}
+use Rattle.z80_draft.specs.Draft.{DraftView, draft_word}
 use Rattle.z80_draft.specs.Registers.{IsRegs}
 use Rattle.z80_moves.specs.declared.registers.WordRegister.TheVariants as registers
 use Rattle.address_map.specs.declared.region.Region.{Region}
-use Rattle.board_step.specs.Context.{Context}
-use Rattle.known_instrs.specs.Returns.{is_return}
-use Rattle.board_step.specs.State.{State}
+use Rattle.board_step.specs.Context.{ContextView}
+use Rattle.z80_actions.specs.Returns.{is_return}
+use Rattle.board_step.specs.State.{BoardView}
 use Rattle.board_step.specs.Step.{done, instr_draft}
 use Rattle.board_step.specs.Trap.{some_outside}
 use Rattle.board_step.specs.declared.env.Env.{Env}
-use Rattle.stack_words.specs.Board.{HasWords}
-use Rattle.stack_words.specs.Region.{HasRoom}
-use Rattle.stack_words.specs.Uses.{is_pop, is_push, popped_into, pushed_word, sets_sp}
-use Rattle.stack_words.specs.Words.{on_top}
-use Rattle.stack_words.proofs.Brought.{reaches}
-use Rattle.stack_words.proofs.EachInstruction.{pop_done, push_done}
-use Rattle.stack_words.proofs.WordLaws.{on_top-length}
+use Rattle.board_laws.specs.Board.{HasWords}
+use Rattle.board_laws.specs.Region.{HasRoom}
+use Rattle.board_laws.specs.Uses.{is_pop, is_push, popped_into, pushed_word, sets_sp}
+use Rattle.board_laws.specs.Words.{on_top}
+use Rattle.board_laws.proofs.Brought.{reaches}
+use Rattle.board_laws.proofs.EachInstruction.{pop_done, push_done}
+use Rattle.board_laws.proofs.WordLaws.{on_top-length}
 use Rattle.abs_state.specs.Cell.{HoldsCells}
 use Rattle.abs_state.specs.Holds.{Holds, HoldsMode}
 use Rattle.abs_state.specs.Pairs.{HoldsPairs}
 use Rattle.abs_state.specs.Variables.{value_in}
 use Rattle.abs_state.specs.declared.mode.Mode.TheVariants.{Unset, Nmi}
 use Rattle.abs_state.specs.declared.state.AbsState.{AbsState}
-use Rattle.abs_draft.specs.Ground.{Ground}
+use Rattle.abs_draft.specs.Ground.{GroundView}
 use Rattle.abs_laws.specs.Cells.{bytes_of_cells}
 use Rattle.abs_laws.specs.Fits.{state_after_writes}
 use Rattle.abs_laws.proofs.Enables.{enable_stays, set_stays}
@@ -43,8 +43,8 @@ use Rattle.abs_step.proofs.KeepsStack.{is_set}
 use Rattle.abs_step.proofs.Scenes.{Done, Scene, all_at, keeps_board, trap_inside}
 use Rattle.abs_step.proofs.Uses.{stack_same}
 
--- what a call or a return leaves of the registers, and no data write
-pub record Spared (c : Context) (d : Draft) : Type 0 where
+-- a call or a return changes no other register and makes no data write
+pub record Spared (c : ContextView) (d : DraftView) : Type 0 where
   pub same : SameRegs c.state.regs d.regs
   pub writes : d.writes ≡ []
 
@@ -59,11 +59,11 @@ under_is false (word ∷ rest) e h = record { word = word; rest = rest; is = ref
 under_is false [] e h = absurd h
 under_is true under e h = absurd (cc)
 
-module _ (g : Ground) (address : ℕ) (main inline : Bool) (a : AbsState) (region : Region) (running : Running) (s : State) (env : Env) where
+module _ (g : GroundView) (address : ℕ) (main inline : Bool) (a : AbsState) (region : Region) (running : Running) (s : BoardView) (env : Env) where
   abbrev Ends : Instr → NextKind → List ℕ → Type 0
   Ends instr kind words = End g (here g s env) a instr main kind running.entry (value_in (seen_of g.cells running.words s)) words (writes_of g address a (Ok instr)) (nexts_of g address main inline instr a)
 
-  -- the mode and the state of a way on that neither sets SP nor writes
+  -- the mode and the state of a successor that neither sets SP nor writes data
   pub record Kept (instr : Instr) (kind : NextKind) (words : List ℕ) (e : Ends instr kind words) : Type 0 where
     pub state : stack_set main instr e.known.state ≡ e.known.state
     pub holds : Holds (stack_set main instr e.known.state) g.cells running.entry (seen_of g.cells words (done (here g s env) instr))
@@ -144,7 +144,7 @@ module _ (g : Ground) (address : ℕ) (main inline : Bool) (a : AbsState) (regio
       let d = instr_draft (here g s env) instr in
       let k = kept instr kinds.Exit [] sets x e (trap_inside region (here g s env) instr x.io p.0.trap) spared in
       let r = reaches g.map d s in
-      let popped : d.regs.pc ≡ low.word = ap (λ w. word_in w d) (sym into) ∙ p.1 in
+      let popped : d.regs.pc ≡ low.word = ap (λ w. draft_word w d) (sym into) ∙ p.1 in
       let pc : (done (here g s env) instr).regs.pc ≡ low.word = ap (λ y. y.pc) r.regs ∙ popped in (
         record {
           next = next_of main instr e.taken kinds.Exit e.known;

@@ -9,31 +9,31 @@ use Rattle.z80_decode.specs.declared.instr.Instr.{Instr}
 use Rattle.z80_decode.specs.declared.instr.Instr.TheVariants as instrs
 use Rattle.z80_decode.specs.declared.kinds.Condition.{Condition}
 use Rattle.z80_decode.specs.declared.kinds.RestartAddress.{RestartAddress}
-use Rattle.z80_draft.specs.Draft.{Draft, draft_on, drafted, moved, past, test_holds, word_read}
+use Rattle.z80_draft.specs.Draft.{DraftView, draft_on, drafted, moved, past, test_holds, word_read}
 use Rattle.z80_moves.specs.Moves.{moves_of}
 use Rattle.z80_moves.specs.declared.moves.Move.TheVariants as moves
 use Rattle.z80_moves.specs.declared.moves.Test.TheVariants as tests
 use Rattle.z80_moves.specs.declared.registers.WordRegister.TheVariants as registers
 use Rattle.address_map.specs.declared.region.Region.{Region}
 use Rattle.board_step.specs.Reads.{outside_of}
-use Rattle.known_instrs.specs.Returns.{is_return}
-use Rattle.board_step.specs.State.{State}
+use Rattle.z80_actions.specs.Returns.{is_return}
+use Rattle.board_step.specs.State.{BoardView}
 use Rattle.board_step.specs.Step.{instr_draft}
 use Rattle.board_step.specs.Trap.{some_outside}
 use Rattle.board_step.specs.declared.env.Env.{Env}
-use Rattle.stack_words.specs.Board.{IsDoneWith}
-use Rattle.stack_words.specs.Region.{HasRoom}
-use Rattle.stack_words.specs.Uses.{is_aside, is_pop, is_push, popped_into, pushed_word, sets_sp}
-use Rattle.stack_words.specs.Words.{on_top}
-use Rattle.stack_words.proofs.EachInstruction.{aside_done, pop_done, push_done}
-use Rattle.stack_words.proofs.WordLaws.{on_top-length, on_top-push}
+use Rattle.board_laws.specs.Board.{IsDoneWith}
+use Rattle.board_laws.specs.Region.{HasRoom}
+use Rattle.board_laws.specs.Uses.{is_aside, is_pop, is_push, popped_into, pushed_word, sets_sp}
+use Rattle.board_laws.specs.Words.{on_top}
+use Rattle.board_laws.proofs.EachInstruction.{aside_done, pop_done, push_done}
+use Rattle.board_laws.proofs.WordLaws.{on_top-length, on_top-push}
 use Rattle.abs_state.specs.Variables.{value_in}
 use Rattle.abs_state.specs.declared.state.AbsState.{AbsState}
 use Rattle.abs_draft.specs.AfterMove.{after_move}
-use Rattle.abs_draft.specs.Ground.{Ground}
-use Rattle.abs_draft.specs.Known.{last_slot}
+use Rattle.abs_draft.specs.Ground.{GroundView}
+use Rattle.abs_draft.specs.AbsDraft.{last_slot}
 use Rattle.abs_draft.specs.Outcomes.{after_moves, before_test, known_before, test_of}
-use Rattle.abs_draft.specs.declared.known.Known.{Known}
+use Rattle.abs_draft.specs.declared.draft.AbsDraft.{AbsDraft}
 use Rattle.abs_laws.specs.Fits.{AreInRange, Fits, ReadsFit}
 use Rattle.abs_laws.specs.Lists.{marked}
 use Rattle.abs_laws.proofs.CalmMoves.{calm_fits}
@@ -41,7 +41,7 @@ use Rattle.abs_laws.proofs.KnownWrites.{known_miss}
 use Rattle.abs_laws.proofs.Reading.{word_is_read}
 use Rattle.abs_laws.proofs.StackMoves.{pop_fits, return_fits}
 use Rattle.abs_step.specs.Contained.{Running, seen_of}
-use Rattle.abs_step.specs.Successors.{is_empty, kind_of, nexts_of, returns_nowhere, uses_stack, ways_on, writes_of}
+use Rattle.abs_step.specs.Successors.{is_empty, next_kind_of, nexts_of, returns_nowhere, uses_stack, ways_on, writes_of}
 use Rattle.abs_step.specs.declared.next.NextKind.{NextKind}
 use Rattle.abs_step.specs.declared.next.NextKind.TheVariants as kinds
 use Rattle.abs_step.proofs.Asides.{End, left_end}
@@ -56,7 +56,7 @@ use Rattle.abs_step.proofs.Scenes.{Done, Scene, keeps_board}
 last_or : (p q r : Bool) → (p || (q || r)) ≡ false → r ≡ false
 last_or p q r e = (or_false q r (or_false p (q || r) e).1).1
 
-module _ (g : Ground) (address : ℕ) (main : Bool) (a : AbsState) (region : Region) (running : Running) (s : State) (env : Env) where
+module _ (g : GroundView) (address : ℕ) (main : Bool) (a : AbsState) (region : Region) (running : Running) (s : BoardView) (env : Env) where
   abbrev Scene_of : Bool → Instr → Type 0
   Scene_of inline instr = Scene g address main inline a instr region running s env
 
@@ -83,7 +83,7 @@ module _ (g : Ground) (address : ℕ) (main : Bool) (a : AbsState) (region : Reg
       called_goes g address main false a region running s env instr refl refl x (restart_end g (here g s env) a main false running.entry _ running.words address p kinds.Call running.words fits) refl refl
       (record { same = record { main = refl; alternate = refl; ix = refl; iy = refl; i = refl }; writes = refl })
 
-  -- one that is inline pushes a word of the activation's own
+  -- an inline call pushes a word of the activation's own
   inline_goes : (instr : Instr) (word : ℕ) → sets_sp instr ≡ false → uses_stack instr ≡ true → (x : Scene_of true instr)
       → (e : End g (here g s env) a instr main kinds.Jump running.entry (value_in (seen_of g.cells running.words s)) (running.words ++ word ∷ []) (writes_of g address a (Ok instr)) (nexts_of g address main true instr a))
       → is_push instr (instr_draft (here g s env) instr).taken ≡ true → pushed_word s.regs instr ≡ word → GoesAt true instr
@@ -116,7 +116,7 @@ module _ (g : Ground) (address : ℕ) (main : Bool) (a : AbsState) (region : Reg
 
   -- ---- CALL cc
 
-  spared_either : (P : Draft → Type 0) (b : Bool) (x y : Draft) → P x → P y → P (cond b x y)
+  spared_either : (P : DraftView → Type 0) (b : Bool) (x y : DraftView) → P x → P y → P (cond b x y)
   spared_either P true x y p q = p
   spared_either P false x y p q = q
 
@@ -148,7 +148,7 @@ module _ (g : Ground) (address : ℕ) (main : Bool) (a : AbsState) (region : Reg
       (λ n readable kept f. inlined_fits g a (outside_of (here g s env)) n running.entry (value_in (seen_of g.cells running.words s)) _ running.words nn b.run.in_range.1.1.0 (omega arith) (subst (ReadsFit g (outside_of (here g s env))) (sym readable) b.run.reads) f (ap (λ y. y.slot) kept.0) (subst (λ slots. length slots < 64) (sym kept.1) few)) in
       inline_goes instr word refl refl x e out refl
 
-  -- CALL cc and RET cc that are not taken: the words stay
+  -- CALL cc and RET cc, not taken: the words stay
   pub not_taken_goes : (inline : Bool) (instr : Instr) → sets_sp instr ≡ false → uses_stack instr ≡ true → is_aside instr (instr_draft (here g s env) instr).taken ≡ true → (x : Scene_of inline instr)
       → End g (here g s env) a instr main kinds.Jump running.entry (value_in (seen_of g.cells running.words s)) running.words (writes_of g address a (Ok instr)) (nexts_of g address main inline instr a) → GoesAt inline instr
   not_taken_goes inline instr sets u aside x e =
@@ -164,26 +164,26 @@ module _ (g : Ground) (address : ℕ) (main : Bool) (a : AbsState) (region : Reg
   call_if_not_taken inline condition nn x out =
       let instr = instrs.CallIf condition nn in
       let b = begun g address a instr region running s env x.at x.stands x.before in
-      not_taken_goes inline instr refl refl (ap not out) x (left_end g (here g s env) a instr main inline running.entry (value_in (seen_of g.cells running.words s)) running.words address x.io b.start b.run (kind_of inline instr a.shape) (tests.Flag condition) refl refl refl refl out)
+      not_taken_goes inline instr refl refl (ap not out) x (left_end g (here g s env) a instr main inline running.entry (value_in (seen_of g.cells running.words s)) running.words address x.io b.start b.run (next_kind_of inline instr a.shape) (tests.Flag condition) refl refl refl refl out)
 
   pub return_if_not_taken : (inline : Bool) (condition : Condition) → Scene_of inline (instrs.ReturnIf condition) → (instr_draft (here g s env) (instrs.ReturnIf condition)).taken ≡ false → GoesAt inline (instrs.ReturnIf condition)
   unfolding before_test test_of after_moves
   return_if_not_taken inline condition x out =
       let instr = instrs.ReturnIf condition in
       let b = begun g address a instr region running s env x.at x.stands x.before in
-      not_taken_goes inline instr refl refl (ap not out) x (left_end g (here g s env) a instr main inline running.entry (value_in (seen_of g.cells running.words s)) running.words address x.io b.start b.run (kind_of inline instr a.shape) (tests.Flag condition) refl refl refl refl out)
+      not_taken_goes inline instr refl refl (ap not out) x (left_end g (here g s env) a instr main inline running.entry (value_in (seen_of g.cells running.words s)) running.words address x.io b.start b.run (next_kind_of inline instr a.shape) (tests.Flag condition) refl refl refl refl out)
 
   -- ---- returns
 
-  -- the end of a return, as it stands among the ways on
+  -- the end of a return, among its successors
   abbrev Ending : Bool → Instr → NextKind → NextKind → List ℕ → Type 0
   Ending inline instr among kind words = End g (here g s env) a instr main kind running.entry (value_in (seen_of g.cells running.words s)) words (writes_of g address a (Ok instr)) (ways_on g main inline instr among (test_of (moves_of instr)) (after_moves g inline (before_test (moves_of instr)) (known_before address instr a)))
 
-  -- what a return needs: how its kind goes by the shape, and the two ends
+  -- what a return needs: its kind by the shape, and its two ends
   pub record Returns (inline : Bool) (instr : Instr) : Type 0 where
     pub sets : sets_sp instr ≡ false
     pub uses : uses_stack instr ≡ true
-    pub kind : (b : Bool) → is_empty a.shape ≡ b → kind_of inline instr a.shape ≡ cond b kinds.Exit kinds.Jump
+    pub kind : (b : Bool) → is_empty a.shape ≡ b → next_kind_of inline instr a.shape ≡ cond b kinds.Exit kinds.Jump
     pub nowhere : returns_nowhere main a.shape ≡ false
     pub into : popped_into instr ≡ registers.Pc
     pub pops : is_pop instr (instr_draft (here g s env) instr).taken ≡ true
@@ -208,12 +208,12 @@ module _ (g : Ground) (address : ℕ) (main : Bool) (a : AbsState) (region : Reg
         | inl empty ↦
             let none = no_words a.shape running.entry running.words empty x.before.holds.shape in
             let not_main : main ≡ false = main_not (is_empty a.shape) _ empty r.nowhere in
-            let e : Ending inline instr (kind_of inline instr a.shape) kinds.Exit [] = subst (λ k. Ending inline instr k kinds.Exit []) (sym (r.kind true empty)) (r.out none) in
+            let e : Ending inline instr (next_kind_of inline instr a.shape) kinds.Exit [] = subst (λ k. Ending inline instr k kinds.Exit []) (sym (r.kind true empty)) (r.out none) in
             ended_goes g address main inline a region running s env instr r.sets r.uses x e r.into r.pops r.returns not_main none r.spared
         | inr some ↦
             let t = tops g address main inline a region running s env instr r.uses some x b in
             let single : is_single (last_slot a.shape).pair.word ≡ true = single_slot (is_empty a.shape) _ some r.nowhere in
-            let e : Ending inline instr (kind_of inline instr a.shape) kinds.Jump t.ends.rest = subst (λ k. Ending inline instr k kinds.Jump t.ends.rest) (sym (r.kind false some)) (r.slot t.ends.rest t.ends.word t.ends.is t.small t.found single) in
+            let e : Ending inline instr (next_kind_of inline instr a.shape) kinds.Jump t.ends.rest = subst (λ k. Ending inline instr k kinds.Jump t.ends.rest) (sym (r.kind false some)) (r.slot t.ends.rest t.ends.word t.ends.is t.small t.found single) in
             stack_goes g address main inline a region running s env instr t.ends.rest r.sets x e (pop_done (here g s env) region instr t.ends.word (on_top t.ends.rest running.under) t.has r.pops).0
       ]
 
@@ -262,8 +262,8 @@ module _ (g : Ground) (address : ℕ) (main : Bool) (a : AbsState) (region : Reg
         out = λ none. from_interrupt_end g (here g s env) a main inline running.entry (value_in (seen_of g.cells running.words s)) running.words address kinds.Exit [] (return_fits g a o inline k running.entry (value_in (seen_of g.cells running.words s)) d (word_is_read g o a.armed false s.regs.sp b.run.reads) (subst (StartsWith instr) none b.start)) (λ on. absurd (on refl));
       }
 
-  -- RETN copies IFF2 besides
-  restored : (inline : Bool) (k : Known) (d : Draft) (after : List ℕ) → d.writes ≡ [] → ReadsFit g (outside_of (here g s env)) k.readable → Fits g a (after_move g inline (moves.Pop registers.Pc) k) running.entry (value_in (seen_of g.cells running.words s)) (moved (outside_of (here g s env)) (moves.Pop registers.Pc) d) after
+  -- RETN also copies IFF2
+  restored : (inline : Bool) (k : AbsDraft) (d : DraftView) (after : List ℕ) → d.writes ≡ [] → ReadsFit g (outside_of (here g s env)) k.readable → Fits g a (after_move g inline (moves.Pop registers.Pc) k) running.entry (value_in (seen_of g.cells running.words s)) (moved (outside_of (here g s env)) (moves.Pop registers.Pc) d) after
       → Fits g a (after_move g inline (moves.Pop registers.Pc) k) running.entry (value_in (seen_of g.cells running.words s)) (moved (outside_of (here g s env)) moves.RestoreIff1 (moved (outside_of (here g s env)) (moves.Pop registers.Pc) d)) after
   unfolding after_move moved
   restored inline k d after none reads f =

@@ -15,20 +15,20 @@ use Rattle.z80_decode.specs.declared.operands.Register16.TheVariants.{Sp}
 use Rattle.z80_decode.specs.declared.operands.StackPair.{StackPair}
 use Rattle.z80_decode.specs.declared.operands.StackPair.TheVariants as stack_pairs
 use Rattle.z80_alu.specs.declared.regs.Regs.{Regs}
-use Rattle.z80_draft.specs.Draft.{draft_on, past, word_in, word_read}
+use Rattle.z80_draft.specs.Draft.{draft_on, past, draft_word, word_read}
 use Rattle.z80_moves.specs.Operands.{pointer_register, stack_register}
 use Rattle.address_map.specs.declared.region.Region.{Region}
 use Rattle.board_step.specs.Reads.{outside_of}
-use Rattle.board_step.specs.State.{State}
+use Rattle.board_step.specs.State.{BoardView}
 use Rattle.board_step.specs.Step.{done}
 use Rattle.board_step.specs.declared.env.Env.{Env}
-use Rattle.stack_words.specs.Board.{HasWords, IsDoneWith}
-use Rattle.stack_words.specs.Region.{HasRoom}
-use Rattle.stack_words.specs.Uses.{pushed_word, sets_sp}
-use Rattle.stack_words.specs.Words.{on_top}
-use Rattle.stack_words.proofs.EachInstruction.{exchange_done, load_sp_done, pop_done, push_done}
-use Rattle.stack_words.proofs.Laid.{word_found}
-use Rattle.stack_words.proofs.WordLaws.{on_top-length, on_top-push}
+use Rattle.board_laws.specs.Board.{HasWords, IsDoneWith}
+use Rattle.board_laws.specs.Region.{HasRoom}
+use Rattle.board_laws.specs.Uses.{pushed_word, sets_sp}
+use Rattle.board_laws.specs.Words.{on_top}
+use Rattle.board_laws.proofs.EachInstruction.{exchange_done, load_sp_done, pop_done, push_done}
+use Rattle.board_laws.proofs.Laid.{word_found}
+use Rattle.board_laws.proofs.WordLaws.{on_top-length, on_top-push}
 use Rattle.abs_state.specs.Cell.{HoldsCells}
 use Rattle.abs_state.specs.Holds.{Holds, HoldsMode}
 use Rattle.abs_state.specs.Mode.{is_unset}
@@ -37,10 +37,10 @@ use Rattle.abs_state.specs.Variables.{value_in}
 use Rattle.abs_state.specs.declared.mode.Mode.{Mode}
 use Rattle.abs_state.specs.declared.mode.Mode.TheVariants.{Unset, Set, Nmi}
 use Rattle.abs_state.specs.declared.state.AbsState.{AbsState}
-use Rattle.abs_draft.specs.Ground.{Ground}
+use Rattle.abs_draft.specs.Ground.{GroundView}
 use Rattle.abs_draft.specs.Outcomes.{known_before, settled}
 use Rattle.abs_laws.specs.Cells.{bytes_of_cells}
-use Rattle.abs_laws.specs.Fits.{Fits, Follows, IsThere, state_after_writes}
+use Rattle.abs_laws.specs.Fits.{Fits, FollowsChange, IsThere, state_after_writes}
 use Rattle.abs_laws.proofs.Reading.{word_is_read}
 use Rattle.abs_step.specs.Contained.{IsUnder, Running, seen_of}
 use Rattle.abs_step.specs.Successors.{is_empty, mode_set, next_of, nexts_of, stack_set, uses_stack, writes_of}
@@ -51,7 +51,7 @@ use Rattle.abs_step.proofs.GoesAside.{goes_on}
 use Rattle.abs_step.proofs.GoesStack.{EndsIn, as_many, ends_in, exchange_end, pop_end, push_end}
 use Rattle.abs_step.proofs.Here.{IsBegun, address_after, armed_after_all, begun, here, holds_after, through_after}
 use Rattle.abs_step.proofs.KeepsAside.{aside_end, known_zip}
-use Rattle.abs_step.proofs.Scenes.{Done, Scene, all_at, aside_inside, keeps_board, trap_inside}
+use Rattle.abs_step.proofs.Scenes.{Done, Scene, all_at, aside_inside, keeps_board, stage_of, trap_inside}
 use Rattle.abs_step.proofs.Uses.{stack_same}
 
 -- ---- LD SP
@@ -69,8 +69,8 @@ none_under true [] e h = refl
 none_under true (word ∷ words) e h = absurd h
 none_under false under e h = absurd (cc)
 
--- without words on the stack, the variables are those of the registers
-by_registers : (effect : Effect) (before : Valuation) (m n : Seen) (count : ℕ) → n.regs ≡ m.regs → ((v : Variable) → IsThere count v → Follows (change_of effect v) before (value_in m v)) → (v : Variable) → IsThere 0 v → Follows (change_of effect v) before (value_in n v)
+-- without words on the stack only the registers have variables
+by_registers : (effect : Effect) (before : Valuation) (m n : Seen) (count : ℕ) → n.regs ≡ m.regs → ((v : Variable) → IsThere count v → FollowsChange (change_of effect v) before (value_in m v)) → (v : Variable) → IsThere 0 v → FollowsChange (change_of effect v) before (value_in n v)
 by_registers effect before m n count e h variables.A there = rw e (h variables.A tt)
 by_registers effect before m n count e h variables.B there = rw e (h variables.B tt)
 by_registers effect before m n count e h variables.C there = rw e (h variables.C tt)
@@ -85,13 +85,13 @@ by_registers effect before m n count e h variables.Ix there = rw e (h variables.
 by_registers effect before m n count e h variables.Iy there = rw e (h variables.Iy tt)
 by_registers effect before m n count e h (variables.Slot number part) there = absurd (omega arith)
 
-module _ (g : Ground) (address : ℕ) (main inline : Bool) (a : AbsState) (region : Region) (running : Running) (s : State) (env : Env) where
+module _ (g : GroundView) (address : ℕ) (main inline : Bool) (a : AbsState) (region : Region) (running : Running) (s : BoardView) (env : Env) where
   pub load_sp_goes : main ≡ true → Scene g address main inline a (instrs.LoadPair Sp region.top) region running s env → Done g address main inline a (instrs.LoadPair Sp region.top) region running s env
   unfolding on_top
   load_sp_goes is_main x =
       let instr = instrs.LoadPair Sp region.top in
       let new = done (here g s env) instr in
-      let e : End g (here g s env) a instr main kinds.Jump running.entry (value_in (seen_of g.cells running.words s)) running.words (writes_of g address a (Ok instr)) (nexts_of g address main inline instr a) = aside_end g address main inline a region running s env instr refl x in
+      let e : End g (here g s env) a instr main kinds.Jump running.entry (value_in (seen_of g.cells running.words s)) running.words (writes_of g address a (Ok instr)) (nexts_of g address main inline instr a) = aside_end g address main inline a region running s env instr refl (stage_of g address main inline a instr region running s env x) in
       let zip = known_zip g address main inline a region running s env instr kinds.Jump running.words e in
       let k = keeps_board g address main inline a instr region running s env x zip (aside_inside region (here g s env) instr refl) in
       let f = e.fits in
@@ -125,7 +125,7 @@ pub or_false : (x y : Bool) → (x || y) ≡ false → (x ≡ false) × (y ≡ f
 or_false true y e = absurd (cc)
 or_false false y e = (refl, e)
 
--- an instruction that uses the stack is at a row where SP is set
+-- a row at an instruction that uses the stack has SP set, if it is not refused
 pub is_set : (a : AbsState) (u : Bool) → u ≡ true → (u && is_unset a.mode) ≡ false → a.mode ≢ Unset
 is_set a true e h unset = let t : is_unset a.mode ≡ true = ap is_unset unset in absurd (cc)
 is_set a false e h unset = absurd (cc)
@@ -134,16 +134,16 @@ pub and_true : (b : Bool) → (b && true) ≡ false → b ≡ false
 and_true true e = e
 and_true false e = refl
 
--- a shape of at most 64 slots that has not 64 has room
+-- a shape that has not 64 slots has room for one more
 pub has_room : (n : ℕ) → n ≤ 64 → (n == 64) ≡ false → n < 64
 has_room n le ne = grind (arith, common_steps)
 
--- words on top of others, the last one apart
-pub top_word : (region : Region) (g : Ground) (s : State) (words rest under : List ℕ) (word : ℕ) → words ≡ rest ++ word ∷ [] → HasWords g.map region s (on_top words under) → HasWords g.map region s (word ∷ on_top rest under)
+-- the words on top of others, with the last one apart
+pub top_word : (region : Region) (g : GroundView) (s : BoardView) (words rest under : List ℕ) (word : ℕ) → words ≡ rest ++ word ∷ [] → HasWords g.map region s (on_top words under) → HasWords g.map region s (word ∷ on_top rest under)
 top_word region g s words rest under word e h = subst (λ ws. HasWords g.map region s ws) (ap (λ ws. on_top ws under) e ∙ on_top-push rest word under) h
 
--- the word of a stack pair does not hang on the program counter
-pair_word : (qq : StackPair) (n : ℕ) (regs : Regs) → word_in (stack_register qq) (draft_on (past n regs)) ≡ word_in (stack_register qq) (draft_on regs)
+-- the word of a stack pair does not depend on the program counter
+pair_word : (qq : StackPair) (n : ℕ) (regs : Regs) → draft_word (stack_register qq) (draft_on (past n regs)) ≡ draft_word (stack_register qq) (draft_on regs)
 pair_word stack_pairs.Bc n regs = refl
 pair_word stack_pairs.De n regs = refl
 pair_word stack_pairs.Hl n regs = refl
@@ -151,20 +151,20 @@ pair_word stack_pairs.Af n regs = refl
 pair_word stack_pairs.Ix n regs = refl
 pair_word stack_pairs.Iy n regs = refl
 
-pointer_word : (p : Pointer) (n : ℕ) (regs : Regs) → word_in (pointer_register p) (draft_on (past n regs)) ≡ word_in (pointer_register p) (draft_on regs)
+pointer_word : (p : Pointer) (n : ℕ) (regs : Regs) → draft_word (pointer_register p) (draft_on (past n regs)) ≡ draft_word (pointer_register p) (draft_on regs)
 pointer_word pointers.Hl n regs = refl
 pointer_word pointers.Ix n regs = refl
 pointer_word pointers.Iy n regs = refl
 
-module _ (g : Ground) (address : ℕ) (main inline : Bool) (a : AbsState) (region : Region) (running : Running) (s : State) (env : Env) where
+module _ (g : GroundView) (address : ℕ) (main inline : Bool) (a : AbsState) (region : Region) (running : Running) (s : BoardView) (env : Env) where
   abbrev Ends : Instr → NextKind → List ℕ → Type 0
   Ends instr kind words = End g (here g s env) a instr main kind running.entry (value_in (seen_of g.cells running.words s)) words (writes_of g address a (Ok instr)) (nexts_of g address main inline instr a)
 
-  -- what is known before the first move is true, with these words on the stack
+  -- what is known before the first move holds, with these words on the stack
   abbrev StartsWith : Instr → List ℕ → Type 0
   StartsWith instr words = Fits g a (known_before address instr a) running.entry (value_in (seen_of g.cells running.words s)) (draft_on (past (length (spelling instr)) s.regs)) words
 
-  abbrev Has : List ℕ → State → Type 0
+  abbrev Has : List ℕ → BoardView → Type 0
   Has words new = HasWords g.map region new words
 
   -- a jump has room for its words
@@ -188,7 +188,7 @@ module _ (g : Ground) (address : ℕ) (main inline : Bool) (a : AbsState) (regio
       let instr = instrs.Push qq in
       let b = begun g address a instr region running s env x.at x.stands x.before in
       let full : ((length a.shape == 64) && true) ≡ false = (or_false _ _ x.shape).0 in
-      let word = word_in (stack_register qq) (draft_on (past (length (spelling instr)) s.regs)) in
+      let word = draft_word (stack_register qq) (draft_on (past (length (spelling instr)) s.regs)) in
       let few : length a.shape < 64 = has_room (length a.shape) x.fits (and_true _ full) in
       let e : Ends instr kinds.Jump (running.words ++ word ∷ []) = push_end g (here g s env) a main inline running.entry _ running.words address qq few b.start in
       let h = x.before.laid (is_set a true refl x.set) in
@@ -199,7 +199,7 @@ module _ (g : Ground) (address : ℕ) (main inline : Bool) (a : AbsState) (regio
       let same : pushed_word s.regs instr ∷ on_top running.words running.under ≡ on_top (running.words ++ word ∷ []) running.under = ap (λ w. w ∷ on_top running.words running.under) (sym (pair_word qq _ s.regs)) ∙ sym (on_top-push running.words word running.under) in
       stack_goes instr (running.words ++ word ∷ []) refl x e (subst (IsDoneWith (here g s env) region instr) same done_with)
 
-  -- the word on top, as it is read
+  -- the top word, as it is read
   pub record Tops (instr : Instr) : Type 0 where
     pub ends : EndsIn running.words
     pub has : Has (ends.word ∷ on_top ends.rest running.under) s
@@ -228,7 +228,7 @@ module _ (g : Ground) (address : ℕ) (main inline : Bool) (a : AbsState) (regio
       let b = begun g address a instr region running s env x.at x.stands x.before in
       let some : is_empty a.shape ≡ false = (or_false _ _ (or_false _ _ x.shape).1).0 in
       let t = tops instr refl some x b in
-      let word = word_in (pointer_register p) (draft_on (past (length (spelling instr)) s.regs)) in
+      let word = draft_word (pointer_register p) (draft_on (past (length (spelling instr)) s.regs)) in
       let e : Ends instr kinds.Jump (t.ends.rest ++ word ∷ []) = exchange_end g (here g s env) a main inline running.entry _ running.words address p t.ends.rest t.ends.word t.small t.found (subst (StartsWith instr) t.ends.is b.start) in
-      let same : word_in (pointer_register p) (draft_on s.regs) ∷ on_top t.ends.rest running.under ≡ on_top (t.ends.rest ++ word ∷ []) running.under = ap (λ w. w ∷ on_top t.ends.rest running.under) (sym (pointer_word p _ s.regs)) ∙ sym (on_top-push t.ends.rest word running.under) in
+      let same : draft_word (pointer_register p) (draft_on s.regs) ∷ on_top t.ends.rest running.under ≡ on_top (t.ends.rest ++ word ∷ []) running.under = ap (λ w. w ∷ on_top t.ends.rest running.under) (sym (pointer_word p _ s.regs)) ∙ sym (on_top-push t.ends.rest word running.under) in
       stack_goes instr (t.ends.rest ++ word ∷ []) refl x e (subst (IsDoneWith (here g s env) region instr) same (exchange_done (here g s env) region p t.ends.word (on_top t.ends.rest running.under) t.has).0)

@@ -14,3 +14,4 @@ pub mod Scenes
 pub mod TameInstructions
 pub mod TameMoves
 pub mod Uses
+pub mod WritesAlike

@@ -1,4 +1,4 @@
--- A row at an instruction, and the board that it holds of: what its data writes leave, and no trap.
+-- A row with a board that it describes: what its data writes leave, and that it does not trap.
 use Rattle.std.proofs.Common.{◌≡◌, ◌≤◌, ◌+◌, ◌∙◌, ℕ, Bool, true, false, cond, List, length, Option, Some, None, Ok, refl, ap, subst, arith, inl, inr}
 use Rattle.std.specs.Prelude.{◌&&◌}
 use Rattle.std.specs.List.{All, AllZip, Contains}
@@ -8,27 +8,27 @@ use Rattle.z80_decode.specs.Spelling.{spelling}
 use Rattle.z80_decode.specs.declared.instr.Instr.{Instr}
 use Rattle.z80_decode.specs.declared.instr.Instr.TheVariants as instrs
 use Rattle.z80_decode.specs.declared.operands.Special.TheVariants as specials
-use Rattle.z80_draft.specs.Draft.{Draft, draft_on, drafted, past, test_holds}
+use Rattle.z80_draft.specs.Draft.{DraftView, draft_on, drafted, past, test_holds}
 use Rattle.z80_draft.specs.Room.{accesses_in}
 use Rattle.z80_moves.specs.Moves.{moves_of}
 use Rattle.z80_moves.specs.declared.moves.Test.{Test}
 use Rattle.address_map.specs.declared.region.Region.{Region}
-use Rattle.board_step.specs.Context.{Context}
-use Rattle.rom_fetch.specs.Decoded.{StandsAt}
+use Rattle.board_step.specs.Context.{ContextView}
+use Rattle.board_fetch.specs.Decoded.{StandsAt}
 use Rattle.board_step.specs.Reads.{outside_of}
-use Rattle.board_step.specs.State.{State}
+use Rattle.board_step.specs.State.{BoardView}
 use Rattle.board_step.specs.Step.{done, instr_draft}
 use Rattle.board_step.specs.Trap.{is_rom, is_unmapped, some_outside, some_write, trap_of_draft, trap_of_instr}
 use Rattle.board_step.specs.declared.env.Env.{Env}
 use Rattle.board_step.specs.declared.profile.Trap.{Trap}
 use Rattle.board_step.specs.declared.profile.Trap.TheVariants.{IoSpace}
-use Rattle.stack_words.proofs.CalmMoves.{moves_keep_accesses}
-use Rattle.stack_words.proofs.Traps.{no_trap}
+use Rattle.board_laws.proofs.CalmMoves.{moves_keep_accesses}
+use Rattle.board_laws.proofs.Traps.{no_trap}
 use Rattle.abs_state.specs.Mode.{is_unset}
 use Rattle.abs_state.specs.declared.state.AbsState.{AbsState}
-use Rattle.abs_draft.specs.Ground.{Ground}
+use Rattle.abs_draft.specs.Ground.{GroundView}
 use Rattle.abs_draft.specs.Outcomes.{before_test, behind_test, test_of}
-use Rattle.abs_laws.specs.Fits.{LiesIn}
+use Rattle.abs_laws.specs.Fits.{WriteLiesIn}
 use Rattle.abs_laws.specs.Lists.{marked}
 use Rattle.abs_laws.specs.Writes.{NeverEnables, TakesData}
 use Rattle.abs_laws.proofs.CellsAfter.{cells_hold}
@@ -42,8 +42,8 @@ use Rattle.abs_step.proofs.Here.{here}
 use Rattle.abs_step.proofs.TameInstructions.{IsTame, is_apart, tame_instr}
 use Rattle.abs_step.proofs.TameMoves.{Rest, moves_rest, tame}
 
--- a row at an instruction that `successors` does not refuse, nothing of which is wrong, and the board that it holds of
-pub record Scene (g : Ground) (address : ℕ) (main inline : Bool) (a : AbsState) (instr : Instr) (region : Region) (running : Running) (s : State) (env : Env) : Type 0 where
+-- a row that `successors` does not refuse and to which no other reason applies, with a board that it describes
+pub record Scene (g : GroundView) (address : ℕ) (main inline : Bool) (a : AbsState) (instr : Instr) (region : Region) (running : Running) (s : BoardView) (env : Env) : Type 0 where
   pub at : s.regs.pc ≡ address
   pub is_main : running.main ≡ main
   pub stands : StandsAt g.rom address (Ok instr)
@@ -55,17 +55,29 @@ pub record Scene (g : Ground) (address : ℕ) (main inline : Bool) (a : AbsState
   pub shape : has_no_shape main inline instr a.shape ≡ false
   pub jumps : jumps_anywhere instr a ≡ false
 
--- the data writes are as they are known, and the accesses of the stack lie in its region
-pub record Reaches (g : Ground) (address : ℕ) (a : AbsState) (instr : Instr) (region : Region) (s : State) (env : Env) : Type 0 where
-  pub zip : AllZip LiesIn (writes_of g address a (Ok instr)) (instr_draft (here g s env) instr).writes
+-- the same without the reasons that the certificate decides: an instruction at the address, with one address to go on
+-- at
+pub record Stage (g : GroundView) (address : ℕ) (a : AbsState) (instr : Instr) (region : Region) (running : Running) (s : BoardView) (env : Env) : Type 0 where
+  pub at : s.regs.pc ≡ address
+  pub stands : StandsAt g.rom address (Ok instr)
+  pub before : Before g.cells region running a (here g s env)
+  pub io : is_io instr ≡ false
+  pub jumps : jumps_anywhere instr a ≡ false
+
+pub stage_of : (g : GroundView) (address : ℕ) (main inline : Bool) (a : AbsState) (instr : Instr) (region : Region) (running : Running) (s : BoardView) (env : Env) → Scene g address main inline a instr region running s env → Stage g address a instr region running s env
+stage_of g address main inline a instr region running s env x = record { at = x.at; stands = x.stands; before = x.before; io = x.io; jumps = x.jumps }
+
+-- the data writes lie in the known ones, and the stack accesses in the region
+pub record Reaches (g : GroundView) (address : ℕ) (a : AbsState) (instr : Instr) (region : Region) (s : BoardView) (env : Env) : Type 0 where
+  pub zip : AllZip WriteLiesIn (writes_of g address a (Ok instr)) (instr_draft (here g s env) instr).writes
   pub inside : some_outside region (instr_draft (here g s env) instr).stack ≡ false
 
--- it goes as one of its ways on says, and reaches the board so
-abbrev pub Done : Ground → ℕ → Bool → Bool → AbsState → Instr → Region → Running → State → Env → Type 0
+-- the instruction does what one of its successors says, and its draft reaches the board
+abbrev pub Done : GroundView → ℕ → Bool → Bool → AbsState → Instr → Region → Running → BoardView → Env → Type 0
 Done g address main inline a instr region running s env =
     Goes g.cells region running a instr (nexts_of g address main inline instr a) (here g s env) × Reaches g address a instr region s env
 
--- what holds of each of some ways on holds of one that is listed
+-- what holds of all members of a list holds of each
 pub all_at : {X : Type 0} (P : X → Type 0) (xs : List X) (x : X) → All P xs → Contains xs x → P x
 all_at P xs x h (k, within, is) = subst P is (h k x within)
 
@@ -97,7 +109,7 @@ no_accesses instr u =
           omega arith
     ]
 
-pub aside_inside : (region : Region) (c : Context) (instr : Instr) → uses_stack instr ≡ false → some_outside region (instr_draft c instr).stack ≡ false
+pub aside_inside : (region : Region) (c : ContextView) (instr : Instr) → uses_stack instr ≡ false → some_outside region (instr_draft c instr).stack ≡ false
 aside_inside region c instr u = ap (some_outside region) (moves_keep_accesses (outside_of c) (moves_of instr) _ (no_accesses instr u))
 
 last_of_three : (x y z : Bool) (p q r : Trap) → cond x (Some p) (cond y (Some q) (cond z (Some r) None)) ≡ None → z ≡ false
@@ -106,8 +118,8 @@ last_of_three false true z p q r e = absurd (cc)
 last_of_three false false true p q r e = absurd (cc)
 last_of_three false false false p q r e = refl
 
--- no trap means no access outside
-pub trap_inside : (region : Region) (c : Context) (instr : Instr) → is_io instr ≡ false → trap_of_instr region c instr ≡ None → some_outside region (instr_draft c instr).stack ≡ false
+-- no trap means no access outside the region
+pub trap_inside : (region : Region) (c : ContextView) (instr : Instr) → is_io instr ≡ false → trap_of_instr region c instr ≡ None → some_outside region (instr_draft c instr).stack ≡ false
 unfolding trap_of_draft
 trap_inside region c instr io e =
     let d = instr_draft c instr in
@@ -116,7 +128,7 @@ trap_inside region c instr io e =
 
 -- ---- what the data writes leave
 
-module _ (g : Ground) (address : ℕ) (main inline : Bool) (a : AbsState) (instr : Instr) (region : Region) (running : Running) (s : State) (env : Env) (x : Scene g address main inline a instr region running s env) (zip : AllZip LiesIn (writes_of g address a (Ok instr)) (instr_draft (here g s env) instr).writes) (inside : some_outside region (instr_draft (here g s env) instr).stack ≡ false) where
+module _ (g : GroundView) (address : ℕ) (main inline : Bool) (a : AbsState) (instr : Instr) (region : Region) (running : Running) (s : BoardView) (env : Env) (x : Scene g address main inline a instr region running s env) (zip : AllZip WriteLiesIn (writes_of g address a (Ok instr)) (instr_draft (here g s env) instr).writes) (inside : some_outside region (instr_draft (here g s env) instr).stack ≡ false) where
   pub keeps_board : KeepsBoard g a (writes_of g address a (Ok instr)) (done (here g s env) instr)
   keeps_board =
       let ws = writes_of g address a (Ok instr) in
@@ -136,21 +148,21 @@ module _ (g : Ground) (address : ℕ) (main inline : Bool) (a : AbsState) (instr
 
 -- ---- I, and the halt
 
-pub record StillRuns (c : Context) (instr : Instr) : Type 0 where
+pub record StillRuns (c : ContextView) (instr : Instr) : Type 0 where
   pub i : (instr_draft c instr).regs.i ≡ c.state.regs.i
   pub halts : (instr_draft c instr).halts ≡ false
 
-either : (P : Draft → Type 0) (b : Bool) (x y : Draft) → P x → P y → P (cond b x y)
+either : (P : DraftView → Type 0) (b : Bool) (x y : DraftView) → P x → P y → P (cond b x y)
 either P true x y p q = p
 either P false x y p q = q
 
-pub tame_rest : (c : Context) (instr : Instr) → IsTame instr → StillRuns c instr
+pub tame_rest : (c : ContextView) (instr : Instr) → IsTame instr → StillRuns c instr
 tame_rest c instr t = by (test_of (moves_of instr)) refl
   where
-    begin : Draft
+    begin : DraftView
     begin = draft_on (past (length (spelling instr)) c.state.regs)
 
-    P : Draft → Type 0
+    P : DraftView → Type 0
     P d = (d.regs.i ≡ c.state.regs.i) × (d.halts ≡ false)
 
     first : Rest begin (drafted (outside_of c) (before_test (moves_of instr)) begin)
@@ -159,10 +171,10 @@ tame_rest c instr t = by (test_of (moves_of instr)) refl
     by : (o : Option Test) → test_of (moves_of instr) ≡ o → StillRuns c instr
     by None is =
         let e = without_test (outside_of c) (moves_of instr) begin is in
-        record { i = ap (λ (d : Draft). d.regs.i) e ∙ first.i; halts = ap (λ (d : Draft). d.halts) e ∙ first.halts }
+        record { i = ap (λ (d : DraftView). d.regs.i) e ∙ first.i; halts = ap (λ (d : DraftView). d.halts) e ∙ first.halts }
     by (Some test) is =
         let e = with_test (outside_of c) (moves_of instr) test begin is in
         let at = drafted (outside_of c) (before_test (moves_of instr)) begin in
         let second = moves_rest (outside_of c) (behind_test (moves_of instr)) (marked test at) t.behind in
         let p : P (cond (test_holds test at) (drafted (outside_of c) (behind_test (moves_of instr)) (marked test at)) (marked test at)) = either P (test_holds test at) _ _ (second.i ∙ first.i, second.halts ∙ first.halts) (first.i, first.halts) in
-        record { i = ap (λ (d : Draft). d.regs.i) e ∙ p.0; halts = ap (λ (d : Draft). d.halts) e ∙ p.1 }
+        record { i = ap (λ (d : DraftView). d.regs.i) e ∙ p.0; halts = ap (λ (d : DraftView). d.halts) e ∙ p.1 }

@@ -1,4 +1,4 @@
--- The moves of an instruction that does not use the stack are tame before its test and behind it.
+-- The moves of an instruction that does not use the stack are tame before and after its test.
 use Rattle.std.proofs.Common.{◌≡◌, ◌∙◌, Bool, true, false, not, List, refl, ap}
 use Rattle.std.proofs.lemmas.Bool.{and_from}
 use Rattle.z80_decode.specs.declared.instr.Instr.{Instr}
@@ -23,12 +23,12 @@ use Rattle.abs_draft.specs.Outcomes.{before_test, behind_test}
 use Rattle.abs_step.specs.Successors.{uses_stack}
 use Rattle.abs_step.proofs.TameMoves.{are_tame, is_i, is_wild, tame}
 
--- the moves of an instruction are tame before the test and behind it
+-- the moves of an instruction are tame before and after its test
 pub record IsTame (instr : Instr) : Type 0 where
   pub before : are_tame (before_test (moves_of instr)) ≡ true
   pub behind : are_tame (behind_test (moves_of instr)) ≡ true
 
--- those that are apart: jumps by a pair, HALT and LD I,A
+-- those that are apart: jumps through a pair, HALT and LD I,A
 abbrev pub is_apart : Instr → Bool
 is_apart (instrs.JumpTo pointer) = true
 is_apart instrs.Halt = true
@@ -65,7 +65,7 @@ worked_not_i : (p : Place) → not (is_i (worked_at p)) ≡ true
 worked_not_i (places.Register r) = not_i r
 worked_not_i (places.Memory m) = refl
 
--- moves without a test, which are all of them
+-- a list without a test is tame as a whole
 whole : (ms : List Move) → are_tame ms ≡ true → (are_tame (before_test ms) ≡ true) × (are_tame (behind_test ms) ≡ true)
 unfolding are_tame
 whole ms h = let t = tame ms h in (ap are_tame t.before ∙ h, ap are_tame t.behind)
@@ -76,7 +76,7 @@ told instr h = let p = whole (moves_of instr) h in record { before = p.0; behind
 never : (P : Type 0) → (let b : Bool = true in b) ≡ false → P
 never P e = absurd (cc)
 
--- an instruction without the stack, that is not apart
+-- an instruction that does not use the stack and is not apart
 pub tame_instr : (instr : Instr) → uses_stack instr ≡ false → is_apart instr ≡ false → IsTame instr
 unfolding are_tame before_test behind_test
 tame_instr (instrs.Push qq) u a = never _ u

@@ -1,17 +1,17 @@
--- Tame moves: they make no access of the stack, and neither tell an outcome, halt nor write I; and the program counter, where
--- one address is known of it, goes to one.
+-- Tame moves: they make no stack access, report no outcome, do not halt and do not write I. Where the program counter
+-- has one known address, it has one after them.
 use Rattle.std.proofs.Common.{◌≡◌, ◌∙◌, ℕ, Bool, true, false, not, ◌&&◌, List, [], ◌∷◌, None, refl, sym, ap, subst, arith}
 use Rattle.std.specs.Prelude.{◌==◌, ◌/◌, nat_lt, length}
 use Rattle.std.proofs.lemmas.Grind.{common_steps}
 use Rattle.std.proofs.Math.Bool.{cond}
 use Rattle.std.proofs.lemmas.Bool.{and_parts}
-use Rattle.intervals.specs.Range.{Interval}
+use Rattle.intervals.specs.Range.{RangeView}
 use Rattle.intervals.specs.Sums.{displacement, window}
 use Rattle.intervals.specs.declared.pair.Pair.{Pair}
 use Rattle.loop_bounds.specs.declared.effect.Change.{Change}
 use Rattle.z80_decode.specs.declared.kinds.ArithmeticKind.{ArithmeticKind}
 use Rattle.z80_decode.specs.declared.kinds.ArithmeticKind.TheVariants as operations
-use Rattle.z80_draft.specs.Draft.{Draft, drafted, goes_on, moved, with_byte, with_word}
+use Rattle.z80_draft.specs.Draft.{DraftView, drafted, goes_on, moved, with_byte, with_word}
 use Rattle.z80_draft.specs.Outside.{Outside}
 use Rattle.z80_draft.specs.Room.{accesses_by, accesses_in}
 use Rattle.z80_moves.specs.declared.registers.ByteRegister.{ByteRegister}
@@ -21,10 +21,10 @@ use Rattle.z80_moves.specs.declared.registers.WordRegister.TheVariants as words
 use Rattle.z80_moves.specs.declared.moves.Move.{Move}
 use Rattle.z80_moves.specs.declared.moves.Move.TheVariants.{SetByte, SetWord, CopyByte, CopyWord, Displace, ReadByte, ReadWord, Push, Pop, ExchangeStack, Arithmetic, Increment, Decrement, CountDown, Shift, AddWord, AddCarryWord, SubtractCarryWord, IncrementWord, DecrementWord, SetBit, ResetBit, Halt, OnlyIf}
 use Rattle.abs_draft.specs.AfterMove.{after_move, operated}
-use Rattle.abs_draft.specs.Ground.{Ground}
-use Rattle.abs_draft.specs.Known.{push_pair, put_byte, put_pair}
+use Rattle.abs_draft.specs.Ground.{GroundView}
+use Rattle.abs_draft.specs.AbsDraft.{push_pair, put_known_byte, put_known_pair}
 use Rattle.abs_draft.specs.Outcomes.{after_moves, before_test, behind_test, test_in, test_of}
-use Rattle.abs_draft.specs.declared.known.Known.{Known}
+use Rattle.abs_draft.specs.declared.draft.AbsDraft.{AbsDraft}
 
 abbrev pub is_i : ByteRegister → Bool
 is_i bytes.I = true
@@ -69,21 +69,21 @@ not_wild true h = absurd (cc)
 
 -- ---- the rest of a draft
 
-pub record Rest (old new : Draft) : Type 0 where
+pub record Rest (old new : DraftView) : Type 0 where
   pub taken : new.taken ≡ old.taken
   pub halts : new.halts ≡ old.halts
   pub i : new.regs.i ≡ old.regs.i
 
-byte_rest : (r : ByteRegister) (n : ℕ) (e : Draft) → is_i r ≡ false → Rest e (with_byte r n e)
+byte_rest : (r : ByteRegister) (n : ℕ) (e : DraftView) → is_i r ≡ false → Rest e (with_byte r n e)
 byte_rest bytes.I n e h = absurd (cc)
 byte_rest bytes.Operand n e h = record { taken = refl; halts = refl; i = refl }
 byte_rest _ n e h = record { taken = refl; halts = refl; i = refl }
 
-word_rest : (w : WordRegister) (n : ℕ) (e : Draft) → Rest e (with_word w n e)
+word_rest : (w : WordRegister) (n : ℕ) (e : DraftView) → Rest e (with_word w n e)
 word_rest words.Pointer n e = record { taken = refl; halts = refl; i = refl }
 word_rest _ n e = record { taken = refl; halts = refl; i = refl }
 
-pub move_rest : (o : Outside) (m : Move) (e : Draft) → is_wild m ≡ false → Rest e (moved o m e)
+pub move_rest : (o : Outside) (m : Move) (e : DraftView) → is_wild m ≡ false → Rest e (moved o m e)
 unfolding moved
 move_rest o (SetByte r n) e h = byte_rest r _ e h
 move_rest o (SetWord w nn) e h = word_rest w _ e
@@ -112,48 +112,48 @@ move_rest o _ e h = record { taken = refl; halts = refl; i = refl }
 
 -- ---- where the program counter goes
 
--- one address is known of it
-abbrev pub IsOne : Interval → Type 0
+-- only one address is possible
+abbrev pub IsOne : RangeView → Type 0
 IsOne range = range.low ≡ range.high
 
-byte_pc : (r : ByteRegister) (range : Interval) (change : Change) (k : Known) → (put_byte r range change k).pc ≡ k.pc
+byte_pc : (r : ByteRegister) (range : RangeView) (change : Change) (k : AbsDraft) → (put_known_byte r range change k).pc ≡ k.pc
 byte_pc bytes.I range change k = refl
 byte_pc bytes.Operand range change k = refl
 byte_pc _ range change k = refl
 
-pair_pc : (w : WordRegister) (pair : Pair) (word high low : Change) (k : Known) → is_pc w ≡ false → (put_pair w pair (record { word = word; high = high; low = low }) k).pc ≡ k.pc
+pair_pc : (w : WordRegister) (pair : Pair) (word high low : Change) (k : AbsDraft) → is_pc w ≡ false → (put_known_pair w pair (record { word = word; high = high; low = low }) k).pc ≡ k.pc
 pair_pc words.Pc pair word high low k h = absurd (cc)
 pair_pc words.Sp pair word high low k h = refl
 pair_pc words.Pointer pair word high low k h = refl
 pair_pc _ pair word high low k h = refl
 
-operated_pc : (kind : ArithmeticKind) (r : ByteRegister) (k : Known) → (operated kind r k).pc ≡ k.pc
+operated_pc : (kind : ArithmeticKind) (r : ByteRegister) (k : AbsDraft) → (operated kind r k).pc ≡ k.pc
 operated_pc operations.Compare r k = refl
 operated_pc _ r k = refl
 
-still : (new old : Interval) → new ≡ old → IsOne old → IsOne new
+still : (new old : RangeView) → new ≡ old → IsOne old → IsOne new
 still new old e h = subst IsOne (sym e) h
 
 window_one : (n : ℕ) → IsOne (window 65536 n n)
 window_one n = let e : (n / 65536 == n / 65536) ≡ true = grind (arith, common_steps) in rw e refl
 
-displaced_one : (range : Interval) (d : ℕ) → IsOne range → IsOne (displacement range d)
+displaced_one : (range : RangeView) (d : ℕ) → IsOne range → IsOne (displacement range d)
 displaced_one range d h = rw h (window_one _)
 
-set_one : (w : WordRegister) (pair : Pair) (word high low : Change) (k : Known) → IsOne pair.word → IsOne k.pc → IsOne (put_pair w pair (record { word = word; high = high; low = low }) k).pc
+set_one : (w : WordRegister) (pair : Pair) (word high low : Change) (k : AbsDraft) → IsOne pair.word → IsOne k.pc → IsOne (put_known_pair w pair (record { word = word; high = high; low = low }) k).pc
 set_one words.Pc pair word high low k one h = one
 set_one words.Sp pair word high low k one h = h
 set_one words.Pointer pair word high low k one h = h
 set_one _ pair word high low k one h = h
 
-displace_pc : (w : WordRegister) (g : Ground) (inline : Bool) (d : ℕ) (k : Known) → IsOne k.pc → IsOne (after_move g inline (Displace w d) k).pc
+displace_pc : (w : WordRegister) (g : GroundView) (inline : Bool) (d : ℕ) (k : AbsDraft) → IsOne k.pc → IsOne (after_move g inline (Displace w d) k).pc
 unfolding after_move
 displace_pc words.Pc g inline d k h = displaced_one k.pc d h
 displace_pc words.Sp g inline d k h = h
 displace_pc words.Pointer g inline d k h = h
 displace_pc _ g inline d k h = h
 
-pub move_pc : (g : Ground) (inline : Bool) (m : Move) (k : Known) → is_wild m ≡ false → IsOne k.pc → IsOne (after_move g inline m k).pc
+pub move_pc : (g : GroundView) (inline : Bool) (m : Move) (k : AbsDraft) → is_wild m ≡ false → IsOne k.pc → IsOne (after_move g inline m k).pc
 unfolding after_move
 move_pc g inline (SetByte r n) k h one = still _ _ (byte_pc r _ _ k) one
 move_pc g inline (SetWord w nn) k h one = set_one w _ _ _ _ k refl one
@@ -181,33 +181,33 @@ move_pc g inline Halt k h one = absurd (cc)
 move_pc g inline (OnlyIf test) k h one = absurd (cc)
 move_pc g inline _ k h one = one
 
--- a push leaves it
-either_pc : (b : Bool) (x y k : Known) → x.pc ≡ k.pc → y.pc ≡ k.pc → (cond b x y).pc ≡ k.pc
+-- a push leaves the program counter
+either_pc : (b : Bool) (x y k : AbsDraft) → x.pc ≡ k.pc → y.pc ≡ k.pc → (cond b x y).pc ≡ k.pc
 either_pc true x y k p q = p
 either_pc false x y k p q = q
 
-pushed_pc : (pair : Pair) (word high low : Change) (k : Known) → (push_pair pair (record { word = word; high = high; low = low }) k).pc ≡ k.pc
+pushed_pc : (pair : Pair) (word high low : Change) (k : AbsDraft) → (push_pair pair (record { word = word; high = high; low = low }) k).pc ≡ k.pc
 pushed_pc pair word high low k = either_pc (nat_lt (length k.state.shape) 64) _ _ k refl refl
 
-pub push_pc : (g : Ground) (inline : Bool) (w : WordRegister) (k : Known) → (after_move g inline (Push w) k).pc ≡ k.pc
+pub push_pc : (g : GroundView) (inline : Bool) (w : WordRegister) (k : AbsDraft) → (after_move g inline (Push w) k).pc ≡ k.pc
 unfolding after_move
 push_pc g inline words.Pc k = either_pc inline _ k k (pushed_pc _ _ _ _ k) refl
 push_pc g inline words.Sp k = pushed_pc _ _ _ _ k
 push_pc g inline words.Pointer k = pushed_pc _ _ _ _ k
 push_pc g inline _ k = pushed_pc _ _ _ _ k
 
--- a pop into another register and an exchange leave it
-pub pop_pc : (g : Ground) (inline : Bool) (w : WordRegister) (k : Known) → is_pc w ≡ false → (after_move g inline (Pop w) k).pc ≡ k.pc
+-- an exchange, and a pop into another register, leave it
+pub pop_pc : (g : GroundView) (inline : Bool) (w : WordRegister) (k : AbsDraft) → is_pc w ≡ false → (after_move g inline (Pop w) k).pc ≡ k.pc
 unfolding after_move
 pop_pc g inline w k h = pair_pc w _ _ _ _ k h
 
-pub exchange_pc : (g : Ground) (inline : Bool) (w : WordRegister) (k : Known) → is_pc w ≡ false → (after_move g inline (ExchangeStack w) k).pc ≡ k.pc
+pub exchange_pc : (g : GroundView) (inline : Bool) (w : WordRegister) (k : AbsDraft) → is_pc w ≡ false → (after_move g inline (ExchangeStack w) k).pc ≡ k.pc
 unfolding after_move
 exchange_pc g inline w k h = pair_pc w _ _ _ _ k h
 
 -- ---- lists of tame moves
 
--- a tame move is no test and makes no access
+-- a tame move is no test and makes no stack access
 test_less : (m : Move) → is_wild m ≡ false → test_in m ≡ None
 test_less (OnlyIf test) h = absurd (cc)
 test_less _ h = refl
@@ -218,7 +218,7 @@ access_less (Pop w) h = absurd (cc)
 access_less (ExchangeStack w) h = absurd (cc)
 access_less _ h = refl
 
-goes : (m : Move) (e : Draft) → is_wild m ≡ false → goes_on m e ≡ true
+goes : (m : Move) (e : DraftView) → is_wild m ≡ false → goes_on m e ≡ true
 goes (OnlyIf test) e h = absurd (cc)
 goes _ e h = refl
 
@@ -247,10 +247,10 @@ tame (m ∷ ms) h =
       behind = rw e rest.behind;
     }
 
-rest_along : (a b c : Draft) → Rest a b → Rest b c → Rest a c
+rest_along : (a b c : DraftView) → Rest a b → Rest b c → Rest a c
 rest_along a b c p q = record { taken = q.taken ∙ p.taken; halts = q.halts ∙ p.halts; i = q.i ∙ p.i }
 
-pub moves_rest : (o : Outside) (ms : List Move) (e : Draft) → are_tame ms ≡ true → Rest e (drafted o ms e)
+pub moves_rest : (o : Outside) (ms : List Move) (e : DraftView) → are_tame ms ≡ true → Rest e (drafted o ms e)
 unfolding drafted
 moves_rest o [] e h = record { taken = refl; halts = refl; i = refl }
 moves_rest o (m ∷ ms) e h =
@@ -258,7 +258,7 @@ moves_rest o (m ∷ ms) e h =
     let on : goes_on m (moved o m e) ≡ true = goes m (moved o m e) p.0 in
     rw on (rest_along _ _ _ (move_rest o m e p.0) (moves_rest o ms (moved o m e) p.1))
 
-pub moves_pc : (g : Ground) (inline : Bool) (ms : List Move) (k : Known) → are_tame ms ≡ true → IsOne k.pc → IsOne (after_moves g inline ms k).pc
+pub moves_pc : (g : GroundView) (inline : Bool) (ms : List Move) (k : AbsDraft) → are_tame ms ≡ true → IsOne k.pc → IsOne (after_moves g inline ms k).pc
 unfolding after_moves
 moves_pc g inline [] k h one = one
 moves_pc g inline (m ∷ ms) k h one = let p = first m ms h in moves_pc g inline ms (after_move g inline m k) p.1 (move_pc g inline m k p.0 one)

@@ -8,7 +8,7 @@ use Rattle.z80_decode.specs.declared.instr.Instr.TheVariants as instrs
 use Rattle.z80_decode.specs.declared.operands.Register16.TheVariants as words
 use Rattle.z80_decode.specs.declared.operands.Register8.TheVariants as registers
 use Rattle.intervals.specs.declared.reg_pair.RegPair.TheVariants as pairs
-use Rattle.stack_words.specs.Uses.{is_exchange, is_pop, is_push, sets_sp}
+use Rattle.board_laws.specs.Uses.{is_exchange, is_pop, is_push, sets_sp}
 use Rattle.abs_state.specs.Fact.{byte_in}
 use Rattle.abs_state.specs.Pairs.{word_in}
 use Rattle.abs_state.specs.Seen.{Seen}
@@ -40,7 +40,7 @@ pub no_exchange : (instr : Instr) → uses_stack instr ≡ false → is_exchange
 no_exchange (instrs.ExchangeStack p) u = never _ _ refl u
 no_exchange _ u = refl
 
--- an instruction that sets no SP leaves the stack where it is
+-- an instruction that does not set SP leaves the stack where it is
 pub stack_same : (main : Bool) (instr : Instr) (s : AbsState) → sets_sp instr ≡ false → stack_set main instr s ≡ s
 stack_same false instr s h = refl
 stack_same true (instrs.LoadPair words.Sp nn) s h = never _ _ refl h

@@ -1,8 +1,8 @@
--- What an instruction makes of the board where a row holds of it, and no rule is against the row (docs/CHECKER.md, "What a
--- step keeps").
+-- What an instruction does to a board that a row describes, where no reason applies to the row (docs/CHECKER.md, "What
+-- a step keeps").
 use Rattle.std.specs.Prelude.{ℕ, ◌+◌, ◌%◌, ◌≤◌, ◌≡◌, ◌≢◌, Bool, true, false, None, Ok, List, [], ◌∷◌, length}
 use Rattle.std.specs.List.{All, AllZip, Contains}
-use Rattle.address_map.specs.AddressMap.{AddressMap}
+use Rattle.address_map.specs.AddressMap.{MapView}
 use Rattle.address_map.specs.declared.region.Region.{Region}
 use Rattle.intervals.specs.Domain.{Entry}
 use Rattle.loop_bounds.specs.Effect.{change_of}
@@ -14,17 +14,17 @@ use Rattle.z80_decode.specs.declared.instr.Instr.TheVariants as instrs
 use Rattle.z80_decode.specs.declared.operands.Register16.TheVariants.{Sp}
 use Rattle.z80_decode.specs.declared.operands.Special.TheVariants as specials
 use Rattle.z80_draft.specs.Registers.{IsRegs}
-use Rattle.board_step.specs.Context.{Context}
+use Rattle.board_step.specs.Context.{ContextView}
 use Rattle.board_step.specs.Env.{IsEnv}
 use Rattle.board_step.specs.Hardware.{hardware_of}
-use Rattle.known_instrs.specs.Returns.{is_return}
-use Rattle.board_step.specs.State.{State, AreBytes, IsState}
+use Rattle.z80_actions.specs.Returns.{is_return}
+use Rattle.board_step.specs.State.{BoardView, AreBytes, IsState}
 use Rattle.board_step.specs.Step.{done, instr_draft, t_of}
 use Rattle.board_step.specs.Trap.{trap_of_instr}
-use Rattle.stack_words.specs.Board.{HasWords}
-use Rattle.stack_words.specs.Region.{IsStackRegion, HasRoom}
-use Rattle.stack_words.specs.Uses.{sets_sp}
-use Rattle.stack_words.specs.Words.{on_top}
+use Rattle.board_laws.specs.Board.{HasWords}
+use Rattle.board_laws.specs.Region.{IsStackRegion, HasRoom}
+use Rattle.board_laws.specs.Uses.{sets_sp}
+use Rattle.board_laws.specs.Words.{on_top}
 use Rattle.abs_state.specs.Holds.{Holds}
 use Rattle.abs_state.specs.Pairs.{HoldsPairs}
 use Rattle.abs_state.specs.Seen.{Seen}
@@ -32,10 +32,10 @@ use Rattle.abs_state.specs.Variables.{value_in}
 use Rattle.abs_state.specs.declared.cell.KeptCell.{KeptCell}
 use Rattle.abs_state.specs.declared.mode.Mode.TheVariants.{Unset, Nmi}
 use Rattle.abs_state.specs.declared.state.AbsState.{AbsState}
-use Rattle.abs_draft.specs.Ground.{Ground}
+use Rattle.abs_draft.specs.Ground.{GroundView}
 use Rattle.abs_draft.specs.declared.data_write.DataWrite.{DataWrite}
 use Rattle.abs_laws.specs.Cells.{bytes_of_cells}
-use Rattle.abs_laws.specs.Fits.{Follows, IsThere, LiesIn}
+use Rattle.abs_laws.specs.Fits.{FollowsChange, IsThere, WriteLiesIn}
 use Rattle.abs_laws.specs.Writes.{AllKeep, IsPlaced, MissesRegion, NeverEnables, TakesData}
 use Rattle.abs_step.specs.Successors.{writes_of}
 use Rattle.abs_step.specs.declared.next.Next.{Next}
@@ -44,8 +44,8 @@ use Rattle.abs_step.specs.declared.next.NextKind.TheVariants as kinds
 
 -- ---- what an activation sees of the board
 
--- the board as an activation with these words on the stack sees it
-abbrev pub seen_of : List KeptCell → List ℕ → State → Seen
+-- what an activation with these words on the stack sees of the board
+abbrev pub seen_of : List KeptCell → List ℕ → BoardView → Seen
 seen_of cells words s = record {
   regs = s.regs;
   words = words;
@@ -55,35 +55,35 @@ seen_of cells words s = record {
   latched = s.latched;
 }
 
--- the activation that runs: whether it is main code's, what the pairs were at its entry, its words on the stack, and all
--- words that lie under them
+-- the running activation: whether it is main code's, the values of the pairs at its entry, its words on the stack, and
+-- all words under them
 pub record Running : Type 0 where
   pub main : Bool
   pub entry : Entry
   pub words : List ℕ
   pub under : List ℕ
 
--- nothing lies under main code's words; under those of any other activation lies the address that it returns to
+-- Nothing lies under main code's words. Under those of any other activation lies at least its return address.
 abbrev pub IsUnder : Bool → List ℕ → Type 0
 IsUnder true [] = Unit {0}
 IsUnder true (word ∷ words) = ⊥
 IsUnder false [] = ⊥
 IsUnder false (word ∷ words) = Unit {0}
 
--- once SP is set, the activation's words and those under them are just what lies on the stack, with room for them
-abbrev pub Lies : AddressMap → Region → Running → AbsState → List ℕ → State → Type 0
+-- once SP is set, the stack holds exactly the activation's words and those under them, with room for them
+abbrev pub Lies : MapView → Region → Running → AbsState → List ℕ → BoardView → Type 0
 Lies map region running a words s = (a.mode ≢ Unset) → HasWords map region s (on_top words running.under)
 
--- ---- what the rules ask of a row, beside those that `successors` judges
+-- ---- what the rules require of a row, apart from those that `successors` decides
 
 -- LD SP,nn of main code with the region's top
 abbrev pub SetsTop : Bool → Region → Instr → Type 0
 SetsTop main region instr = (main ≡ true) × (instr ≡ instrs.LoadPair Sp region.top)
 
--- An instruction of which nothing is wrong that a certificate judges: the stack's region is not written but by main code with
--- no slots, NMIs are not enabled before SP is set, SP is set to the top alone, armed cells keep their ranges, and the stack has
--- room for what the instruction leads to; at a call that no registers can make, there need be none.
-pub record IsInOrder (g : Ground) (region : Region) (running : Running) (a : AbsState) (instr : Instr) (ws : List DataWrite) (nexts : List Next) : Type 0 where
+-- No reason that the certificate decides applies to the instruction. No data write goes to the region, except by main
+-- code without slots. None enables NMIs before SP is set. SP is set only to the top. Armed cells keep their ranges. The
+-- stack has room for the words of each successor, except at a call that no registers can make.
+pub record IsInOrder (g : GroundView) (region : Region) (running : Running) (a : AbsState) (instr : Instr) (ws : List DataWrite) (nexts : List Next) : Type 0 where
   pub overwrites : (running.main ≡ true → a.shape ≢ []) → All (MissesRegion g.map region) ws
   pub enables : a.mode ≡ Unset → All (NeverEnables g.map) ws
   pub sets : sets_sp instr ≡ true → SetsTop running.main region instr
@@ -94,7 +94,7 @@ pub record IsInOrder (g : Ground) (region : Region) (running : Running) (a : Abs
 -- ---- before the instruction
 
 -- the row holds of the running activation, and its words lie on the stack
-pub record Before (cells : List KeptCell) (region : Region) (running : Running) (a : AbsState) (c : Context) : Type 0 where
+pub record Before (cells : List KeptCell) (region : Region) (running : Running) (a : AbsState) (c : ContextView) : Type 0 where
   pub numbers : IsState c.state
   pub env : IsEnv c.env
   pub rom : AreBytes c.hardware.rom
@@ -115,20 +115,20 @@ pub record SameRegs (old new : Regs) : Type 0 where
   pub iy : new.iy ≡ old.iy
   pub i : new.i ≡ old.i
 
--- each variable that is there came from those before as the effect says
+-- each variable comes from the variables before as the effect says
 abbrev pub Through : Next → Seen → Seen → Type 0
-Through n old new = (v : Variable) → IsThere (length new.words) v → Follows (change_of n.effect v) (value_in old) (value_in new v)
+Through n old new = (v : Variable) → IsThere (length new.words) v → FollowsChange (change_of n.effect v) (value_in old) (value_in new v)
 
--- the activation goes on at another address, with these words
-pub record Went (cells : List KeptCell) (region : Region) (running : Running) (c : Context) (n : Next) (new : State) : Type 0 where
+-- the activation goes on at the successor's address, with these words
+pub record Went (cells : List KeptCell) (region : Region) (running : Running) (c : ContextView) (n : Next) (new : BoardView) : Type 0 where
   pub words : List ℕ
   pub pc : new.regs.pc ≡ n.address
   pub holds : Holds n.state cells running.entry (seen_of cells words new)
   pub laid : Lies c.hardware.map region running n.state words new
   pub through : Through n (seen_of cells running.words c.state) (seen_of cells words new)
 
--- a callee begins, over the address that it returns to; the row's state, as the condition narrows it, holds
-pub record Called (cells : List KeptCell) (region : Region) (running : Running) (instr : Instr) (c : Context) (n : Next) (new : State) : Type 0 where
+-- The callee begins, with its return address on top of the words. The caller's state, narrowed by the condition, holds.
+pub record Called (cells : List KeptCell) (region : Region) (running : Running) (instr : Instr) (c : ContextView) (n : Next) (new : BoardView) : Type 0 where
   pub set : n.state.mode ≢ Unset
   pub pc : new.regs.pc ≡ n.address
   pub same : SameRegs c.state.regs new.regs
@@ -137,8 +137,8 @@ pub record Called (cells : List KeptCell) (region : Region) (running : Running) 
   pub through : Through n (seen_of cells running.words c.state) (seen_of cells running.words new)
   pub laid : HasWords c.hardware.map region new ((c.state.regs.pc + length (spelling instr)) % 65536 ∷ on_top running.words running.under)
 
--- the activation ends: it takes the address that it returns to, which lay under it
-pub record Ended (cells : List KeptCell) (region : Region) (running : Running) (instr : Instr) (c : Context) (n : Next) (new : State) : Type 0 where
+-- the activation ends and takes its return address, which lay under its words
+pub record Ended (cells : List KeptCell) (region : Region) (running : Running) (instr : Instr) (c : ContextView) (n : Next) (new : BoardView) : Type 0 where
   pub set : n.state.mode ≢ Unset
   pub main : running.main ≡ false
   pub none : running.words ≡ []
@@ -150,14 +150,14 @@ pub record Ended (cells : List KeptCell) (region : Region) (running : Running) (
   pub holds : Holds n.state cells running.entry (seen_of cells [] new)
   pub laid : HasWords c.hardware.map region new rest
 
--- how a way on of each kind goes
-abbrev pub GoesBy : NextKind → List KeptCell → Region → Running → Instr → Context → Next → Type 0
+-- what a successor of each kind means on the board
+abbrev pub GoesBy : NextKind → List KeptCell → Region → Running → Instr → ContextView → Next → Type 0
 GoesBy kinds.Jump cells region running instr c n = Went cells region running c n (done c instr)
 GoesBy kinds.Call cells region running instr c n = Called cells region running instr c n (done c instr)
 GoesBy kinds.Exit cells region running instr c n = Ended cells region running instr c n (done c instr)
 
--- one of the ways on is how it goes, at the T-states of the instruction; a mode in which NMIs come stays, and cells that are armed do
-pub record Goes (cells : List KeptCell) (region : Region) (running : Running) (a : AbsState) (instr : Instr) (nexts : List Next) (c : Context) : Type 0 where
+-- The instruction does what one of its successors says, at its T-states. Mode `n` stays, and armed cells stay armed.
+pub record Goes (cells : List KeptCell) (region : Region) (running : Running) (a : AbsState) (instr : Instr) (nexts : List Next) (c : ContextView) : Type 0 where
   pub next : Next
   pub listed : Contains nexts next
   pub cost : t_of c instr ≡ next.cost
@@ -165,19 +165,25 @@ pub record Goes (cells : List KeptCell) (region : Region) (running : Running) (a
   pub arms : a.armed ≤ next.state.armed
   pub goes : GoesBy next.kind cells region running instr c next
 
--- What an instruction does before its T-states go by. Each data write lies in the one that is known of it, no trap is met where the row's data writes go to places that take data,
--- a clear NMI enable stays clear where none of them may set it, I is changed by LD I,A alone, and HALT alone halts.
-pub record After (cells : List KeptCell) (region : Region) (running : Running) (a : AbsState) (instr : Instr) (ws : List DataWrite) (nexts : List Next) (c : Context) : Type 0 where
+-- What an instruction does before its T-states pass. It does not trap where its data writes go to places that take
+-- data. A clear NMI enable stays clear where no data write may set it. Only LD I,A changes I, and only HALT halts.
+pub record After (cells : List KeptCell) (region : Region) (running : Running) (a : AbsState) (instr : Instr) (ws : List DataWrite) (nexts : List Next) (c : ContextView) : Type 0 where
   pub goes : Goes cells region running a instr nexts c
-  pub writes : AllZip LiesIn ws (instr_draft c instr).writes
   pub safe : All (TakesData c.hardware.map) ws → trap_of_instr region c instr ≡ None
   pub clear : All (NeverEnables c.hardware.map) ws → c.state.enable ≡ false → (done c instr).enable ≡ false
   pub keeps_i : instr ≢ instrs.StoreASpecial specials.I → (done c instr).regs.i ≡ c.state.regs.i
   pub halts : (done c instr).halted ≡ true → instr ≡ instrs.Halt
 
--- the instruction at a row keeps what the row says, whatever the board is of which the row holds
-abbrev pub Keeps : Ground → ℕ → Bool → AbsState → Instr → List Next → Type 0
+-- on every board that the row describes, each data write of the instruction lies in the known data write at its place,
+-- whatever other reasons apply
+abbrev pub WritesAsKnown : GroundView → ℕ → AbsState → Instr → Type 0
+WritesAsKnown g address a instr =
+    (region : Region) (running : Running) (c : ContextView) → c.hardware ≡ hardware_of g.rom g.map → c.state.regs.pc ≡ address
+    → Before g.cells region running a c → AllZip WriteLiesIn (writes_of g address a (Ok instr)) (instr_draft c instr).writes
+
+-- on every board that the row describes, the instruction does what `After` says, where no reason applies
+abbrev pub Keeps : GroundView → ℕ → Bool → AbsState → Instr → List Next → Type 0
 Keeps g address main a instr nexts =
-    (region : Region) (running : Running) (c : Context) → c.hardware ≡ hardware_of g.rom g.map → c.state.regs.pc ≡ address
+    (region : Region) (running : Running) (c : ContextView) → c.hardware ≡ hardware_of g.rom g.map → c.state.regs.pc ≡ address
     → running.main ≡ main → Before g.cells region running a c → IsInOrder g region running a instr (writes_of g address a (Ok instr)) nexts
     → After g.cells region running a instr (writes_of g address a (Ok instr)) nexts c

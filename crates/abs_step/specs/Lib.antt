@@ -1,4 +1,4 @@
--- The definitions of the abstract step: the ways on of an instruction, what they keep, and reasons.
+-- The definitions of the abstract step: successors, what they keep, and reasons.
 pub mod Contained
 pub mod Reason
 pub mod Successors

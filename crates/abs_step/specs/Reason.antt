@@ -6,7 +6,7 @@ use Rattle.abs_step.specs.declared.reason.Reason.TheVariants as reasons
 use Rattle.abs_step.specs.declared.reason.Saved.{Saved}
 use Rattle.abs_step.specs.declared.reason.Saved.TheVariants as saved
 
--- the numbers of the table of reasons (docs/CHECKER.md)
+-- the numbers of the reasons (docs/CHECKER.md, "The table of reasons")
 abbrev pub number_of : Reason → ℕ
 number_of reasons.Rom = 1
 number_of reasons.Region = 2
@@ -31,32 +31,32 @@ number_of reasons.SpWrite = 20
 number_of reasons.CellRange = 21
 number_of reasons.CellUnarmed = 22
 
--- and its names
-abbrev pub name_of : Reason → List ℕ
-name_of reasons.Rom = codes "Rom"
-name_of reasons.Region = codes "Region"
-name_of reasons.Entry = codes "Entry"
-name_of (reasons.Decode detail) = codes "Decode"
-name_of reasons.IoSpace = codes "IoSpace"
-name_of reasons.WriteRom = codes "WriteRom"
-name_of reasons.WriteUnmapped = codes "WriteUnmapped"
-name_of reasons.StackOverwrite = codes "StackOverwrite"
-name_of reasons.StackUnset = codes "StackUnset"
-name_of reasons.StackShape = codes "StackShape"
-name_of reasons.StackDepth = codes "StackDepth"
-name_of reasons.NotCovered = codes "NotCovered"
-name_of reasons.Rank = codes "Rank"
-name_of (reasons.SavedRegister detail) = codes "SavedRegister"
-name_of reasons.NmiBeforeStack = codes "NmiBeforeStack"
-name_of reasons.NmiMissing = codes "NmiMissing"
-name_of reasons.Time = codes "Time"
-name_of reasons.Budget = codes "Budget"
-name_of reasons.HaltInNmi = codes "HaltInNmi"
-name_of reasons.SpWrite = codes "SpWrite"
-name_of reasons.CellRange = codes "CellRange"
-name_of reasons.CellUnarmed = codes "CellUnarmed"
+-- the names of the reasons
+abbrev pub reason_name : Reason → List ℕ
+reason_name reasons.Rom = codes "Rom"
+reason_name reasons.Region = codes "Region"
+reason_name reasons.Entry = codes "Entry"
+reason_name (reasons.Decode detail) = codes "Decode"
+reason_name reasons.IoSpace = codes "IoSpace"
+reason_name reasons.WriteRom = codes "WriteRom"
+reason_name reasons.WriteUnmapped = codes "WriteUnmapped"
+reason_name reasons.StackOverwrite = codes "StackOverwrite"
+reason_name reasons.StackUnset = codes "StackUnset"
+reason_name reasons.StackShape = codes "StackShape"
+reason_name reasons.StackDepth = codes "StackDepth"
+reason_name reasons.NotCovered = codes "NotCovered"
+reason_name reasons.Rank = codes "Rank"
+reason_name (reasons.SavedRegister detail) = codes "SavedRegister"
+reason_name reasons.NmiBeforeStack = codes "NmiBeforeStack"
+reason_name reasons.NmiMissing = codes "NmiMissing"
+reason_name reasons.Time = codes "Time"
+reason_name reasons.Budget = codes "Budget"
+reason_name reasons.HaltInNmi = codes "HaltInNmi"
+reason_name reasons.SpWrite = codes "SpWrite"
+reason_name reasons.CellRange = codes "CellRange"
+reason_name reasons.CellUnarmed = codes "CellUnarmed"
 
--- what a routine has to give back, by its name
+-- the name of what a routine has to restore
 abbrev pub saved_name_of : Saved → List ℕ
 saved_name_of (saved.Pair pair) = pair_name_of pair
 saved_name_of saved.I = codes "I"

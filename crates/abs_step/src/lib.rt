@@ -1,5 +1,5 @@
-// The abstract step: what one instruction makes of what a row knows, and why a row is refused (docs/CHECKER.md, "The
-// abstract step").
+// The abstract step: the successors of a row at one instruction, and why a row is refused for itself (docs/CHECKER.md,
+// "The abstract step").
 #![tactic(auto)]
 
 mod next;
@@ -11,4 +11,4 @@ pub use abs_draft::DataWrite;
 pub use abs_state::Mode;
 pub use next::{Next, NextKind, Nexts};
 pub use reason::{Reason, Saved};
-pub use stepping::{data_writes, successors};
+pub use stepping::{RowStep, data_writes, row_step, successors};

@@ -1,11 +1,11 @@
-// Where an instruction leads to.
+// Successors.
 ghost use Rattle.std.specs.Prelude.{◌≡◌};
 
 use abs_state::AbsState;
 use loop_bounds::Effect;
 use smallvec::SmallVec;
 
-/// How an instruction leads on.
+/// The kind of a successor.
 #[derive(Clone, Copy, PartialEq, Eq)]
 pub enum NextKind {
     /// To an address of the same procedure.
@@ -16,20 +16,20 @@ pub enum NextKind {
     Exit,
 }
 
-/// Where an instruction leads to, and what is known there.
+/// A successor: an address and what is known there.
 #[derive(Drop)]
 pub struct Next {
-    /// The address, 0 to 65,535: of a callee where the kind is Call, and 0 where it is Exit.
+    /// The address; of a Call the callee's entry, of an Exit 0.
     pub address: u16,
     pub state: AbsState,
-    /// What each variable is, by those of the row.
+    /// How each variable here comes from the variables of the row.
     pub effect: Effect,
-    /// What the instruction costs, 4 to 23 T-states.
+    /// T-states of the instruction, 4 to 23.
     pub cost: u8,
     pub kind: NextKind,
 }
 
-/// At most two ways on.
+/// At most two successors.
 pub type Nexts = SmallVec<Next, 2>;
 
 impl Default for Next {
@@ -37,7 +37,7 @@ impl Default for Next {
 
     ghost is_default = { λ n. n ≡ no_next };
 
-    /// A way on of which nothing is known.
+    /// A placeholder.
     fn default() -> Next {
         Next {
             address: 0,

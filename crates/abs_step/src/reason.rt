@@ -1,13 +1,13 @@
-// Why a certificate is refused.
+// Reasons to refuse a certificate.
 
 ghost use Rattle.std.specs.Prelude.{◌≡◌, ◌≤◌};
-ghost use Rattle.abs_step.specs.Reason.{number_of, name_of, saved_name_of};
+ghost use Rattle.abs_step.specs.Reason.{number_of, reason_name, saved_name_of};
 
 use intervals::RegPair;
 use thiserror::Error;
 use z80_decode::DecodeFault;
 
-/// What an NMI routine has to give back: a register pair or I.
+/// What an NMI routine has to restore: a register pair, or I.
 #[derive(Clone, Copy, Debug, PartialEq, Eq)]
 pub enum Saved {
     Pair(RegPair),
@@ -15,7 +15,7 @@ pub enum Saved {
 }
 
 impl Saved {
-    /// The name of the register or the pair, as the manual writes it.
+    /// The name of the register or pair in the manual's spelling.
     pub fn name(self) -> &'static [u8]
         ensures { result.now ≡ saved_name_of self }
     {
@@ -26,7 +26,7 @@ impl Saved {
     }
 }
 
-/// Why a certificate is refused, by the table of reasons in docs/CHECKER.md.
+/// Why a certificate is refused (docs/CHECKER.md, "The table of reasons").
 #[derive(Clone, Copy, Debug, Error, PartialEq, Eq)]
 pub enum Reason {
     #[error("the ROM's length is 0, above 16,384, or not the certificate's")]
@@ -76,7 +76,7 @@ pub enum Reason {
 }
 
 impl Reason {
-    /// The number of the reason in the table of reasons, 1 to 22.
+    /// The number of the reason in the table, 1 to 22.
     pub fn number(self) -> u8
         ensures value { result ≡ number_of self }
         ensures in_range { (1 ≤ result) × (result ≤ 22) }
@@ -107,9 +107,9 @@ impl Reason {
         }
     }
 
-    /// The name of the reason in the table of reasons.
+    /// The name of the reason in the table.
     pub fn name(self) -> &'static [u8]
-        ensures { result.now ≡ name_of self }
+        ensures { result.now ≡ reason_name self }
     {
         match self {
             Reason::Rom => b"Rom",

@@ -1,13 +1,14 @@
-// The rules that stand at the instruction: which use the stack, why a row is refused for itself, and how it leads on.
+// The rules at one instruction: which reasons refuse a row for itself, and the kind of its successors.
 ghost use Rattle.std.specs.Prelude.{◌≡◌, ◌≤◌, IfNone, length};
-ghost use Rattle.abs_step.specs.Successors.{is_call, is_return, is_push, is_pop, uses_stack, returns_nowhere, has_no_shape, jump_pair, jumps_anywhere, refusal, kind_of, mode_set, stack_set};
+ghost use Rattle.abs_step.specs.Successors.{is_call, pushes_word, pops_word, uses_stack, returns_nowhere, has_no_shape, jump_pair, jumps_anywhere, refusal, next_kind_of, mode_set, stack_set};
 
 use crate::next::NextKind;
 use crate::reason::Reason;
 use abs_state::{AbsState, Mode};
 use intervals::Pair;
-use stack_shape::Shape;
+use stack_shape::{SLOTS, Shape};
 use t_states::is_io;
+use z80_actions::may_return;
 use z80_decode::{Instr, Pointer, Register16};
 
 fn is_call(instr: &Instr) -> bool
@@ -19,27 +20,15 @@ fn is_call(instr: &Instr) -> bool
     )
 }
 
-fn is_return(instr: &Instr) -> bool
-    ensures { result ≡ is_return instr.now }
-{
-    matches!(
-        instr,
-        Instr::Return
-            | Instr::ReturnIf(_)
-            | Instr::ReturnFromInterrupt
-            | Instr::ReturnFromNonMaskable
-    )
-}
-
 fn is_push(instr: &Instr) -> bool
-    ensures { result ≡ is_push instr.now }
+    ensures { result ≡ pushes_word instr.now }
 {
     matches!(instr, Instr::Push(_))
 }
 
-/// Whether the instruction takes a word from the stack, and is no return.
+/// Whether the instruction pops or exchanges the top word of the stack; a return does not count.
 fn is_pop(instr: &Instr) -> bool
-    ensures { result ≡ is_pop instr.now }
+    ensures { result ≡ pops_word instr.now }
 {
     matches!(instr, Instr::Pop(_) | Instr::ExchangeStack(_))
 }
@@ -47,10 +36,10 @@ fn is_pop(instr: &Instr) -> bool
 fn uses_stack(instr: &Instr) -> bool
     ensures { result ≡ uses_stack instr.now }
 {
-    is_call(instr) || is_return(instr) || is_push(instr) || is_pop(instr)
+    is_call(instr) || may_return(instr) || is_push(instr) || is_pop(instr)
 }
 
-/// Whether a return has no one address to go to: main's on an empty shape, or one to a slot that is no one word.
+/// Whether a return has no single address: main's on an empty shape, or one to a slot with more than one word.
 fn returns_nowhere(main: bool, shape: &Shape) -> bool
     ensures { result ≡ returns_nowhere main shape.now }
 {
@@ -63,16 +52,19 @@ fn returns_nowhere(main: bool, shape: &Shape) -> bool
     }
 }
 
-/// Whether the shape is not what the instruction wants.
+/// Whether the instruction does not fit the shape: a 65th slot, a pop from an empty shape, or a return without a single
+/// address.
 fn has_no_shape(main: bool, inline: bool, instr: &Instr, shape: &Shape) -> bool
     ensures value { result ≡ has_no_shape main inline instr.now shape.now }
     ensures fits { length shape.now ≤ 64 }
 {
-    let is_full = shape.len() == 64 && (is_push(instr) || is_call(instr) && inline);
-    is_full || is_pop(instr) && shape.is_empty() || is_return(instr) && returns_nowhere(main, shape)
+    let is_full = shape.len() == SLOTS && (is_push(instr) || is_call(instr) && inline);
+    is_full
+        || is_pop(instr) && shape.is_empty()
+        || may_return(instr) && returns_nowhere(main, shape)
 }
 
-/// What is known of the pair that a computed jump goes to.
+/// The pair through which a computed jump goes.
 fn jump_pair(pointer: Pointer, state: &AbsState) -> Pair
     ensures { result ≡ jump_pair pointer state.now }
 {
@@ -83,7 +75,7 @@ fn jump_pair(pointer: Pointer, state: &AbsState) -> Pair
     }
 }
 
-/// Whether a jump is computed, and to no one word.
+/// Whether the instruction is a computed jump through a pair with more than one word.
 fn jumps_anywhere(instr: &Instr, state: &AbsState) -> bool
     ensures { result ≡ jumps_anywhere instr.now state.now }
 {
@@ -96,7 +88,7 @@ fn jumps_anywhere(instr: &Instr, state: &AbsState) -> bool
     }
 }
 
-/// The lowest reason of a row at an instruction that is not judged by the certificate.
+/// The lowest reason that refuses a row at this instruction for itself.
 pub(crate) fn refusal(main: bool, inline: bool, instr: &Instr, state: &AbsState) -> Option<Reason>
     ensures value { result ≡ refusal main inline instr.now state.now }
     ensures fits { IfNone result (length state.now.shape ≤ 64) }
@@ -114,20 +106,20 @@ pub(crate) fn refusal(main: bool, inline: bool, instr: &Instr, state: &AbsState)
     }
 }
 
-/// How an instruction that is taken leads on.
+/// The kind of the successor where the instruction is taken.
 pub(crate) fn kind_of(inline: bool, instr: &Instr, shape: &Shape) -> NextKind
-    ensures { result ≡ kind_of inline instr.now shape.now }
+    ensures { result ≡ next_kind_of inline instr.now shape.now }
 {
     if is_call(instr) && !inline {
         NextKind::Call
-    } else if is_return(instr) && shape.is_empty() {
+    } else if may_return(instr) && shape.is_empty() {
         NextKind::Exit
     } else {
         NextKind::Jump
     }
 }
 
-/// LD SP,nn of main makes the shape empty and mode `u` to `s`.
+/// LD SP,nn of main makes the shape empty and turns mode `u` into `s`.
 pub(crate) fn set_stack(main: bool, instr: &Instr, state: &mut AbsState)
     ensures { state.new ≡ stack_set main instr.now state.old }
 {

@@ -1,30 +1,33 @@
-// The successors of a row, and its data writes.
-ghost use Rattle.std.specs.Prelude.{◌≡◌, ◌≤◌, [], length, Ok, Err, Result, IfOk, IfErr};
-ghost use Rattle.rom_fetch.specs.Decoded.{StandsAt};
+// The abstract step of a row: its data writes, and its successors or the reason that refuses it.
+ghost use Rattle.std.specs.Prelude.{◌≡◌, ◌≤◌, if◌then◌else◌, [], length, Ok, Err, Result, IfOk, IfErr, IfSome, option_map};
+ghost use Rattle.board_fetch.specs.Decoded.{StandsAt};
 ghost use Rattle.z80_decode.specs.Spelling.{spelling};
 ghost use Rattle.z80_decode.specs.declared.instr.Instr.{Instr as Instruction};
 ghost use Rattle.z80_decode.specs.declared.fault.DecodeFault.{DecodeFault as Fault};
 ghost use Rattle.abs_draft.specs.Ground.{ground_of};
-ghost use Rattle.abs_draft.specs.Outcomes.{settled};
+ghost use Rattle.abs_draft.specs.Outcomes.{behind_test, settled, test_of};
 ghost use Rattle.t_states.specs.Costs.{cost_of};
-ghost use Rattle.abs_step.specs.Contained.{Keeps};
-ghost use Rattle.abs_step.specs.Successors.{address_of, stack_set, ways_from, answer_of, writes_of};
+ghost use Rattle.t_states.specs.Io.{is_io};
+ghost use Rattle.z80_moves.specs.Moves.{moves_of};
+ghost use Rattle.abs_step.specs.Contained.{Keeps, WritesAsKnown};
+ghost use Rattle.abs_step.specs.Successors.{address_of, stack_set, ways_on, answer_of, writes_of};
 
 use crate::next::{Next, NextKind, Nexts};
 use crate::reason::Reason;
 use crate::rules::{kind_of, refusal, set_stack};
-use abs_draft::{DataWrite, Ground, Known};
+use abs_draft::{AbsDraft, DataWrite, Ground, Tested};
 use abs_state::{AbsState, KeptCell};
 use address_map::{Map, Rom};
-use rom_fetch::fetch;
+use board_fetch::fetch;
 use smallvec::SmallVec;
 use std::alloc::Global;
 use t_states::{cost, is_io};
-use z80_decode::Instr;
+use z80_decode::{DecodeFault, Instr};
 use z80_moves::moves_for;
 
-/// What is left to do once all moves of a way on are made: constants go first, and LD SP,nn of main sets the stack.
-fn finish(known: &mut Known, main: bool, instr: &Instr)
+/// Finishes a successor after its moves: turns single values into constants of the effect, and lets LD SP,nn of main
+/// set the stack.
+fn finish(known: &mut AbsDraft, main: bool, instr: &Instr)
     ensures { known.new ≡ record known.old {
       state = stack_set main instr.now known.old.state;
       effect = settled known.old.state known.old.effect;
@@ -34,9 +37,9 @@ fn finish(known: &mut Known, main: bool, instr: &Instr)
     set_stack(main, instr, &mut known.state);
 }
 
-/// A way on that is finished.
+/// The successor made of the finished draft.
 #[inline]
-fn next_from(known: Known, instr: &Instr, taken: bool, kind: NextKind) -> Next
+fn next_from(known: AbsDraft, instr: &Instr, taken: bool, kind: NextKind) -> Next
     ensures { result ≡ record {
       address = address_of kind known.pc.low;
       state = known.state;
@@ -58,88 +61,26 @@ fn next_from(known: Known, instr: &Instr, taken: bool, kind: NextKind) -> Next
     }
 }
 
-/// Where the instruction at a row's address, 0 to 65,535, leads to from what the row knows, at most two ways: where it is
-/// taken, goes on or has no test, and then where it is not. `main` says whether the row is main code's, and `inline` whether
-/// the address is that of an inline call. The map's ROM length is the ROM's, and there are at most 256 kept cells. It takes no
-/// memory.
-///
-/// Whatever the board is of which the row holds, the instruction goes as one of these ways on says, and does nothing else
-/// (docs/CHECKER.md, "What a step keeps").
-///
-/// # Errors
-///
-/// The lowest of the reasons 4, 5, 9 and 10 that applies, or 12 for a computed jump that is no one word
-/// (docs/CHECKER.md); the other reasons are judged by what the certificate says.
-pub fn successors(
-    alloc: Global,
-    rom: &Rom,
-    map: &Map,
-    cells: &[KeptCell],
-    address: u16,
-    main: bool,
-    inline: bool,
-    state: &AbsState,
-) -> Result<Nexts, Reason>
-    requires map { map.now.rom_len ≡ length rom.now }
-    requires cells { length cells.now ≤ 256 }
-    ensures ok { IfOk result (λ nexts. (decoded : Result Instruction Fault) → StandsAt rom.now address decoded
-        → answer_of (ground_of rom.now map.now cells.now) address main inline state.now decoded ≡ Ok nexts.items) }
-    ensures err { IfErr result (λ reason. (decoded : Result Instruction Fault) → StandsAt rom.now address decoded
-        → answer_of (ground_of rom.now map.now cells.now) address main inline state.now decoded ≡ Err reason) }
-    ensures decodes { IfOk result (λ nexts. (instr : Instruction) × StandsAt rom.now address (Ok instr)) }
-    ensures keeps { IfOk result (λ nexts. (instr : Instruction) → StandsAt rom.now address (Ok instr)
-        → Keeps (ground_of rom.now map.now cells.now) address main state.now instr nexts.items) }
-{
-    let ground = Ground::of(rom, map, cells);
-    match fetch(rom, address) {
-        Ok((instr, len)) => successors_at(
-            alloc, &ground, address, main, inline, &instr, len, state,
-        ),
-        Err(fault) => Err(Reason::Decode(fault)),
-    }
-}
-
-/// The same, where the instruction that stands at the address is known, with its length.
-fn successors_at(
-    alloc: Global,
-    ground: &Ground,
-    address: u16,
-    main: bool,
-    inline: bool,
-    instr: &Instr,
-    len: u8,
-    state: &AbsState,
-) -> Result<Nexts, Reason>
-    requires cells { length ground.now.cells ≤ 256 }
-    requires len { len ≡ length (spelling instr.now) }
-    ensures ok { IfOk result (λ nexts. answer_of ground.now address main inline state.now (Ok instr.now) ≡ Ok nexts.items) }
-    ensures fits { IfOk result (λ nexts. length state.now.shape ≤ 64) }
-    ensures err { IfErr result (λ reason. answer_of ground.now address main inline state.now (Ok instr.now) ≡ Err reason) }
-{
-    if let Some(reason) = refusal(main, inline, instr, state) {
-        return Err(reason);
-    }
-    let known = Known::before(address, len, state);
-    let kind = kind_of(inline, instr, &state.shape);
-    Ok(ways_on(alloc, ground, known, main, inline, instr, kind))
-}
-
+/// The successors from what is known at the test of an instruction, or after its last move where it has no test.
 fn ways_on(
     alloc: Global,
     ground: &Ground,
-    known: Known,
+    known: AbsDraft,
     main: bool,
     inline: bool,
     instr: &Instr,
     kind: NextKind,
+    tested: Option<Tested>,
 ) -> Nexts
-    requires { length ground.now.cells ≤ 256 }
-    ensures { result.items ≡ ways_from ground.now main inline instr.now kind known }
+    requires cells { length ground.now.cells ≤ 256 }
+    requires test { option_map (λ t. t.test) tested ≡ test_of (moves_of instr.now) }
+    requires behind { IfSome tested (λ t. t.behind.now ≡ behind_test (moves_of instr.now)) }
+    ensures { result.items
+        ≡ ways_on ground.now main inline instr.now kind (test_of (moves_of instr.now)) known }
 {
     let mut known = known;
     let mut nexts = SmallVec::new(alloc);
-    let moves = moves_for(instr);
-    match known.make_to_test(ground, inline, moves.as_slice()) {
+    match tested {
         None => {
             finish(&mut known, main, instr);
             nexts.push_reserved(next_from(known, instr, true, kind));
@@ -160,8 +101,132 @@ fn ways_on(
     nexts
 }
 
-/// The data writes of the instruction at a row's address, a byte each, in order: none where no instruction stands there,
-/// nor of input and output. Each write of a step from a state that the row knows lies in the member of its place. It takes
+/// The data writes that are known at the test of an instruction. An instruction of input and output has none.
+fn writes_at_test(alloc: Global, instr: &Instr, known: &AbsDraft) -> SmallVec<DataWrite, 2>
+    ensures { result.items ≡ (if is_io instr.now then [] else known.now.writes.items) }
+{
+    let mut writes = SmallVec::new(alloc);
+    if !is_io(instr) {
+        for write in known.writes.as_slice() {
+            let _fits = writes.push(*write);
+        }
+    }
+    writes
+}
+
+/// What the abstract step makes of a row: its data writes, and its successors or the lowest reason that refuses it.
+#[derive(Drop)]
+pub struct RowStep {
+    /// The data writes of the instruction, a byte each, in order.
+    pub writes: SmallVec<DataWrite, 2>,
+    /// The successors, at most two, or why the step refuses the row: the lowest of the reasons 4, 5, 9 and 10 that
+    /// applies, or 12 for a computed jump to more than one word (docs/CHECKER.md).
+    pub answer: Result<Nexts, Reason>,
+}
+
+impl RowStep {
+    /// The step of a row with no instruction at its address, for this fault of the decoder. It writes nothing, and
+    /// reason 4 refuses the row. It takes no memory.
+    pub fn undecoded(alloc: Global, fault: DecodeFault) -> RowStep
+        ensures writes { result.writes.items ≡ [] }
+        ensures answer { result.answer ≡ Err (Reason.Decode fault) }
+    {
+        RowStep {
+            writes: SmallVec::new(alloc),
+            answer: Err(Reason::Decode(fault)),
+        }
+    }
+}
+
+/// Makes the abstract step of a row once, for its data writes and its successors. `instr` is the instruction at the
+/// row's address, 0 to 65,535, and `len` its length, 1 to 4 bytes. `main` says whether the row is main code's, and
+/// `inline` whether the address is that of an inline call. There are at most 256 kept cells. A row that is refused has
+/// its data writes too. It takes no memory.
+pub fn row_step(
+    alloc: Global,
+    ground: &Ground,
+    address: u16,
+    main: bool,
+    inline: bool,
+    instr: &Instr,
+    len: u8,
+    state: &AbsState,
+) -> RowStep
+    requires cells { length ground.now.cells ≤ 256 }
+    requires len { len ≡ length (spelling instr.now) }
+    ensures writes { result.writes.items ≡ writes_of ground.now address state.now (Ok instr.now) }
+    ensures ok { IfOk result.answer (λ nexts.
+        answer_of ground.now address main inline state.now (Ok instr.now) ≡ Ok nexts.items) }
+    ensures err { IfErr result.answer (λ reason.
+        answer_of ground.now address main inline state.now (Ok instr.now) ≡ Err reason) }
+    ensures fits { IfOk result.answer (λ nexts. length state.now.shape ≤ 64) }
+{
+    let mut known = AbsDraft::before(address, len, state);
+    let moves = moves_for(instr);
+    let tested = known.make_to_test(ground, inline, moves.as_slice());
+    let writes = writes_at_test(alloc, instr, &known);
+    let answer = match refusal(main, inline, instr, state) {
+        Some(reason) => Err(reason),
+        None => {
+            let kind = kind_of(inline, instr, &state.shape);
+            Ok(ways_on(alloc, ground, known, main, inline, instr, kind, tested))
+        }
+    };
+    RowStep { writes, answer }
+}
+
+/// The successors of a row whose instruction is at `address`, at most two: first where the instruction is taken or has
+/// no test, then where it is not taken. `main` says whether the row belongs to main code, `inline` whether the call at
+/// `address` is marked inline. The map must have the ROM's length, and there may be at most 256 kept cells. The call
+/// takes no memory.
+///
+/// On every board that the row describes, the data writes of the instruction lie in `data_writes`. If no reason that
+/// the certificate decides applies to the row, the instruction does what one of these successors says (docs/CHECKER.md,
+/// "What a step keeps").
+///
+/// # Errors
+///
+/// The lowest reason that applies of 4, 5, 9 and 10, and 12 for a computed jump through a pair that is not one word
+/// (docs/CHECKER.md, "The table of reasons"). The other reasons depend on the rest of the certificate.
+pub fn successors(
+    alloc: Global,
+    rom: &Rom,
+    map: &Map,
+    cells: &[KeptCell],
+    address: u16,
+    main: bool,
+    inline: bool,
+    state: &AbsState,
+) -> Result<Nexts, Reason>
+    requires map { map.now.rom_len ≡ length rom.now }
+    requires cells { length cells.now ≤ 256 }
+    ensures ok { IfOk result (λ nexts. (decoded : Result Instruction Fault)
+        → StandsAt rom.now address decoded
+        → answer_of (ground_of rom.now map.now cells.now) address main inline state.now decoded ≡ Ok nexts.items) }
+    ensures err { IfErr result (λ reason. (decoded : Result Instruction Fault)
+        → StandsAt rom.now address decoded
+        → answer_of (ground_of rom.now map.now cells.now) address main inline state.now decoded ≡ Err reason) }
+    ensures decodes { IfOk result (λ nexts. (instr : Instruction)
+        × StandsAt rom.now address (Ok instr)) }
+    ensures keeps { IfOk result (λ nexts. (instr : Instruction)
+        → StandsAt rom.now address (Ok instr)
+        → Keeps (ground_of rom.now map.now cells.now) address main state.now instr nexts.items) }
+    ensures writes { IfOk result (λ nexts. (instr : Instruction)
+        → StandsAt rom.now address (Ok instr)
+        → WritesAsKnown (ground_of rom.now map.now cells.now) address state.now instr) }
+{
+    let ground = Ground::of(rom, map, cells);
+    match fetch(rom, address) {
+        Ok((instr, len)) => {
+            row_step(alloc, &ground, address, main, inline, &instr, len, state).answer
+        }
+        Err(fault) => Err(Reason::Decode(fault)),
+    }
+}
+
+/// The data writes of the instruction at `address`, one per byte, in order. There are none where no instruction is at
+/// that address, nor for one of the I/O group. Each write of a step from a board that the row describes lies in the
+/// data write at its place. The map must have the ROM's length, and there may be at most 256 kept cells. The call takes
 /// no memory.
 pub fn data_writes(
     alloc: Global,
@@ -176,35 +241,11 @@ pub fn data_writes(
     ensures { (decoded : Result Instruction Fault) → StandsAt rom.now address decoded
         → result.items ≡ writes_of (ground_of rom.now map.now cells.now) address state.now decoded }
 {
-    let mut writes = SmallVec::new(alloc);
-    if let Ok((instr, len)) = fetch(rom, address) {
-        let ground = Ground::of(rom, map, cells);
-        add_writes(&ground, address, &instr, len, state, &mut writes);
-    }
-    writes
-}
-
-/// Adds the data writes of an instruction, of this length, to a list without any.
-fn add_writes(
-    ground: &Ground,
-    address: u16,
-    instr: &Instr,
-    len: u8,
-    state: &AbsState,
-    writes: &mut SmallVec<DataWrite, 2>,
-)
-    requires cells { length ground.now.cells ≤ 256 }
-    requires len { len ≡ length (spelling instr.now) }
-    requires none { writes.old.items ≡ [] }
-    requires room { 2 ≤ writes.old.capacity }
-    ensures { writes.new.items ≡ writes_of ground.now address state.now (Ok instr.now) }
-{
-    if is_io(instr) {
-        return;
-    }
-    let mut known = Known::before(address, len, state);
-    let _tested = known.make_to_test(ground, true, moves_for(instr).as_slice());
-    for write in known.writes.as_slice() {
-        let _fits = writes.push(*write);
+    match fetch(rom, address) {
+        Ok((instr, len)) => {
+            let ground = Ground::of(rom, map, cells);
+            row_step(alloc, &ground, address, false, true, &instr, len, state).writes
+        }
+        Err(_) => SmallVec::new(alloc),
     }
 }

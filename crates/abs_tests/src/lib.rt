@@ -1,4 +1,4 @@
-// The tests of abstract states and of the abstract step: rows worked by hand from docs/CHECKER.md and UM0080.
+// The tests of abstract states and of the abstract step, worked by hand from docs/CHECKER.md and UM0080.
 #![tactic(auto)]
 
 #[cfg(test)]

@@ -1,4 +1,4 @@
-// Data writes and what they do to the mode, kept cells, and reads of the ROM.
+// Data writes and their effect on the mode, kept cells, and reads of the ROM.
 use crate::setting::{bytes, of_high, pair, set_up, stepped, words};
 use abs_state::{AbsState, KeptCell, Mode};
 use abs_step::{DataWrite, Nexts, Reason, data_writes, successors};
@@ -6,22 +6,22 @@ use address_map::{Map, Rom};
 use intervals::{ByteRange, Pair};
 use std::alloc::Global;
 
-/// Whether a data write is of one address and of these bytes.
+/// Whether a data write goes to this one address with these bytes.
 fn is_write(write: &DataWrite, at: u16, byte: ByteRange) -> bool {
     write.at == words(at, at) && write.byte == byte
 }
 
-/// What L is.
+/// The value of L.
 const LOW: u8 = 0x01;
 
-/// L is 01, and H from one byte to another.
+/// A state with L 01 and H in this range.
 fn hl(h: (u8, u8)) -> AbsState {
     let mut state = set_up();
     state.pairs.hl = Pair::of_bytes(bytes(h.0, h.1), bytes(LOW, LOW));
     state
 }
 
-/// The writes of LD (nn),HL with this nn: L there, and H behind it.
+/// Whether the writes of LD (nn),HL are L at nn and H at the next address.
 fn writes_l_then_h(alloc: Global, at: u16, h: (u8, u8)) -> bool {
     let [low, high] = at.to_le_bytes();
     let code = [0x22, low, high];
@@ -36,7 +36,7 @@ fn writes_l_then_h(alloc: Global, at: u16, h: (u8, u8)) -> bool {
     is_write(first, at, bytes(LOW, LOW)) && is_write(second, at.wrapping_add(1), bytes(h.0, h.1))
 }
 
-/// The mode behind LD (nn),HL, from mode s.
+/// The mode after LD (nn),HL, from mode `s`.
 fn mode_behind(alloc: Global, at: u16, h: (u8, u8)) -> Option<Mode> {
     let [low, high] = at.to_le_bytes();
     match stepped(alloc, &[0x22, low, high], &hl(h)) {
@@ -45,7 +45,8 @@ fn mode_behind(alloc: Global, at: u16, h: (u8, u8)) -> Option<Mode> {
     }
 }
 
-/// Where LD (nn),HL writes, H, and the mode behind it. The enable is at 7001, 7009 and so on; an odd byte may enable.
+/// The address of LD (nn),HL, the range of H, and the mode after it. The enable is at 7001, 7009 and so on; an odd byte
+/// may enable.
 const MODES: &[(u16, (u8, u8), Mode)] = &[
     (0x7000, (0x00, 0x01), Mode::Nmi),
     (0x7000, (0x02, 0x02), Mode::Set),
@@ -64,7 +65,7 @@ fn a_word_may_enable_by_either_byte(rt: HostRuntime) {
     }
 }
 
-/// The first kept cell is at 4005, with 10 to 20; the second at 4006, with 00.
+/// The first kept cell is at 4005 with 10 to 20, the second at 4006 with 00.
 fn kept() -> [KeptCell; 2] {
     [
         KeptCell {
@@ -78,7 +79,7 @@ fn kept() -> [KeptCell; 2] {
     ]
 }
 
-/// The ways on from 0000 with the kept cells, on a map of this kind.
+/// The successors from 0000 with the kept cells, on the raised or the Galaxian map.
 fn stepped_with_cells(
     alloc: Global,
     is_raised: bool,
@@ -96,7 +97,7 @@ fn stepped_with_cells(
     successors(alloc, &rom, &map, &kept(), 0, true, false, state)
 }
 
-/// A after LD A,(nn), with so many cells armed.
+/// The range of A after LD A,(nn), with this many armed cells.
 fn loaded(alloc: Global, is_raised: bool, at: u16, armed: u16) -> Option<ByteRange> {
     let [low, high] = at.to_le_bytes();
     let mut state = set_up();
@@ -107,8 +108,8 @@ fn loaded(alloc: Global, is_raised: bool, at: u16, armed: u16) -> Option<ByteRan
     }
 }
 
-/// Whether the map is the raised one, the address that is read, how many cells are armed, and the least and the greatest
-/// byte. Work RAM stands at 4000 and again at 4400, or at 8000 and at 8400. 3A is the code of LD A,(nn) at 0000.
+/// Whether the map is the raised one, the address read, the number of armed cells, and the range of the byte. Work RAM
+/// is at 4000 with a mirror at 4400, or at 8000 with one at 8400. 3A is the code of LD A,(nn) at 0000.
 const READS: &[(bool, u16, u16, (u8, u8))] = &[
     (false, 0x4005, 1, (0x10, 0x20)),
     (false, 0x4405, 1, (0x10, 0x20)),
@@ -131,7 +132,7 @@ fn cells_are_read_through_each_mirror(rt: HostRuntime) {
     }
 }
 
-/// How many cells are armed behind LD (nn),A, with A from one byte to another.
+/// The number of armed cells after LD (nn),A, with A in this range.
 fn armed_behind(alloc: Global, at: u16, armed: u16, a: (u8, u8)) -> Option<u16> {
     let [low, high] = at.to_le_bytes();
     let mut state = set_up();
@@ -143,7 +144,8 @@ fn armed_behind(alloc: Global, at: u16, armed: u16, a: (u8, u8)) -> Option<u16> 
     }
 }
 
-/// Where LD (nn),A writes, how many cells are armed before it, A, and how many are armed behind it.
+/// The address of LD (nn),A, the number of armed cells before it, the range of A, and the number of armed cells after
+/// it.
 const ARMED: &[(u16, u16, (u8, u8), u16)] = &[
     (0x4005, 0, (0x10, 0x20), 1),
     (0x4405, 0, (0x11, 0x11), 1),
@@ -161,7 +163,7 @@ fn writes_arm_cells_in_their_order(rt: HostRuntime) {
     }
 }
 
-/// LD A,(HL) of the ROM 7E 05 09 03: the least to the greatest of the bytes at HL.
+/// LD A,(HL) in the ROM 7E 05 09 03: the range of the bytes at HL.
 #[test]
 fn the_rom_is_read_from_least_to_greatest(rt: HostRuntime) {
     let rows = [

@@ -6,7 +6,7 @@ use loop_bounds::{Change, Variable};
 use std::alloc::Global;
 use z80_decode::Register8;
 
-/// INC C: BC is no longer known by what it was, but C is one more.
+/// INC C: the change of BC is unknown, and C is one more.
 fn inc_c_loses_bc(alloc: Global) -> bool {
     let mut state = set_up();
     state.pairs.bc = Pair::of_bytes(ByteRange::full(), bytes(0x00, 0x0F));
@@ -24,7 +24,7 @@ fn inc_c_loses_bc(alloc: Global) -> bool {
         && next.effect.bc == Change::Unknown
 }
 
-/// INC BC: BC is one more, and of its bytes nothing is known but that B is 01.
+/// INC BC: BC is one more, B is the constant 01, and C is unknown.
 fn inc_bc_loses_c(alloc: Global) -> bool {
     let mut state = set_up();
     state.pairs.bc = pair(0x0100, 0x01F0);
@@ -41,7 +41,7 @@ fn inc_bc_loses_c(alloc: Global) -> bool {
         && next.effect.c == Change::Unknown
 }
 
-/// Where C may be 255, INC C may wrap, and where BC may be 0, DEC BC may.
+/// If C may be 255, INC C may wrap; if BC may be 0, DEC BC may wrap.
 fn what_wraps_is_unknown(alloc: Global) -> bool {
     let state = set_up();
     let (Ok(up), Ok(down)) = (
@@ -62,7 +62,7 @@ fn counts_tell_variables(rt: HostRuntime) {
     assert!(rt; inc_c_loses_bc(alloc) && inc_bc_loses_c(alloc) && what_wraps_is_unknown(alloc));
 }
 
-/// Whether the flag fact of B is still there behind an instruction, where the top slot is 1234.
+/// Whether the flag fact of B stays after an instruction, with 1234 as the top slot.
 fn keeps_fact_of_b(alloc: Global, code: u8) -> bool {
     let mut state = set_up();
     state.flag = Some(FlagFact::Zero(Register8::B));
@@ -76,7 +76,7 @@ fn keeps_fact_of_b(alloc: Global, code: u8) -> bool {
     matches!(next.state.flag, Some(FlagFact::Zero(Register8::B)))
 }
 
-/// Codes, and whether a flag fact of B outlives them.
+/// Opcodes, and whether a flag fact of B stays after them.
 const OF_B: &[(u8, bool)] = &[
     // POP AF, EX AF,AF', POP BC, EXX, LD B,B, SCF: they write the flags or B.
     (0xF1, false),
@@ -101,7 +101,7 @@ fn flag_facts_end(rt: HostRuntime) {
     }
 }
 
-/// CP 10 with A from 05 to 20: it tells of A and 10, A stays, and F may be anything, so AF has no origin.
+/// CP 10 with A from 05 to 20: the flag fact compares A with 10, A stays, and F may be anything, so AF has no origin.
 #[test]
 fn cp_tells_of_a(rt: HostRuntime) {
     assert!(rt; cp_of_ten(rt.alloc()));

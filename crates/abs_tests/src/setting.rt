@@ -1,4 +1,4 @@
-// What the rows are made of: some bytes as a ROM at 0000, what is known there, and what the step makes of it.
+// The setting of the tests: a ROM at 0000, a state, and the step from there.
 use abs_state::{AbsState, Mode};
 use abs_step::{Next, NextKind, Nexts, Reason, successors};
 use address_map::{Map, Rom};
@@ -7,41 +7,41 @@ use loop_bounds::{Change, Part, SlotChange, SlotNumber, Variable};
 use stack_shape::{Shape, Slot};
 use std::alloc::Global;
 
-/// The words from one to another.
+/// A range of words.
 pub fn words(low: u16, high: u16) -> WordRange {
     WordRange::new(low, high).unwrap_or(WordRange::full())
 }
 
-/// The bytes from one to another.
+/// A range of bytes.
 pub fn bytes(low: u8, high: u8) -> ByteRange {
     ByteRange::new(low, high).unwrap_or(ByteRange::full())
 }
 
-/// What is known of a pair that holds a word from one to another.
+/// A pair with this range of words.
 pub fn pair(low: u16, high: u16) -> Pair {
     Pair::of_word(words(low, high))
 }
 
-/// What is known of a pair whose high byte is from one to another.
+/// A pair with this range of high bytes.
 pub fn of_high(low: u8, high: u8) -> Pair {
     Pair::of_bytes(bytes(low, high), ByteRange::full())
 }
 
-/// Nothing is known but that SP is set and that no NMI comes.
+/// Only known: SP is set, and no NMI comes.
 pub fn set_up() -> AbsState {
     let mut state = AbsState::of_main();
     state.mode = Mode::Set;
     state
 }
 
-/// The shape of one pair.
+/// A shape with one slot.
 pub fn one_slot(pair: Pair) -> Shape {
     let mut shape = Shape::empty();
     let _ = shape.push(Slot { pair });
     shape
 }
 
-/// The ways on from address 0000 of a ROM, as main code or not, without kept cells and inline calls.
+/// The successors from address 0000 of a ROM, in main code or not, without kept cells and inline calls.
 pub fn stepped_as(
     alloc: Global,
     main: bool,
@@ -55,7 +55,7 @@ pub fn stepped_as(
     successors(alloc, &rom, &map, &[], 0, main, false, state)
 }
 
-/// The same as main code.
+/// The same in main code.
 pub fn stepped(alloc: Global, rom: &[u8], state: &AbsState) -> Result<Nexts, Reason> {
     stepped_as(alloc, true, rom, state)
 }
@@ -68,17 +68,17 @@ pub fn is_refused(alloc: Global, rom: &[u8], state: &AbsState, reason: Reason) -
     }
 }
 
-/// Whether a way on is a jump to an address, at this cost.
+/// Whether a successor is a jump to an address, at this cost in T-states.
 pub fn jumps(next: &Next, address: u16, cost: u8) -> bool {
     leads(next, address, cost, NextKind::Jump)
 }
 
-/// Whether a way on leads to this address, at this cost in T-states, and is of this kind.
+/// Whether a successor leads to this address, at this cost in T-states, and has this kind.
 pub fn leads(next: &Next, address: u16, cost: u8, kind: NextKind) -> bool {
     next.address == address && next.cost == cost && next.kind == kind
 }
 
-/// What a part of slot 0 held.
+/// The change to the old value of a part of slot 0.
 pub fn old_slot(part: Part) -> Change {
     match SlotNumber::new(0) {
         Some(number) => Change::Old(Variable::Slot(number, part)),
@@ -86,7 +86,7 @@ pub fn old_slot(part: Part) -> Change {
     }
 }
 
-/// Slot 0 becomes what a pair and its bytes were.
+/// Slot 0 becomes the old value of a pair, with its bytes.
 pub fn slot_from(word: Variable, high: Variable, low: Variable) -> Option<SlotChange> {
     Some(SlotChange {
         number: SlotNumber::new(0)?,

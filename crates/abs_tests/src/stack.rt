@@ -11,7 +11,7 @@ use stack_shape::Shape;
 use std::alloc::Global;
 use z80_decode::Register8;
 
-/// What BC was at the entry, from 1000 to 1FFF.
+/// The value of BC at the entry, from 1000 to 1FFF.
 fn saved_bc() -> Pair {
     Pair {
         origin: Some(RegPair::Bc),
@@ -19,7 +19,7 @@ fn saved_bc() -> Pair {
     }
 }
 
-/// PUSH BC, and then POP DE: ranges and origin go with the word, and the variables follow it.
+/// PUSH BC, then POP DE: ranges and origin move with the word, and the variables follow it.
 fn pushed_and_popped(alloc: Global) -> bool {
     let mut state = set_up();
     state.pairs.bc = saved_bc();
@@ -46,7 +46,7 @@ fn pushed_and_popped(alloc: Global) -> bool {
         && popped.effect.e == old_slot(Part::Low)
 }
 
-/// EX (SP),HL: each gets what the other was.
+/// EX (SP),HL: register and slot swap.
 fn exchanged(alloc: Global) -> bool {
     let mut state = set_up();
     state.pairs.hl = saved_bc();
@@ -64,7 +64,7 @@ fn exchanged(alloc: Global) -> bool {
         && next.effect.slot == slot_from(Variable::Hl, Variable::H, Variable::L)
 }
 
-/// PUSH in mode u, POP and EX (SP) of nothing, and a 65th PUSH.
+/// PUSH in mode `u`, POP and EX (SP) on an empty shape, and a 65th PUSH.
 fn what_does_not_fit(alloc: Global) -> bool {
     let state = set_up();
     let mut full = set_up();
@@ -83,7 +83,7 @@ fn words_come_back(rt: HostRuntime) {
     assert!(rt; pushed_and_popped(alloc) && exchanged(alloc) && what_does_not_fit(alloc));
 }
 
-/// B from 00 to 08, and Z tells of it.
+/// B is from 00 to 08, with the flag fact that Z says whether it is 0.
 fn z_tells_of_b(shape: Shape) -> AbsState {
     let mut state = set_up();
     state.pairs.bc = of_high(0x00, 0x08);
@@ -92,7 +92,7 @@ fn z_tells_of_b(shape: Shape) -> AbsState {
     state
 }
 
-/// CALL Z,0100: at the call B is 0, behind it B is 01 to 08; the callee begins with the caller's state.
+/// CALL Z,0100: at the call B is 0, after it B is 01 to 08. The successor at the callee has the caller's state.
 fn called_where_zero(alloc: Global) -> bool {
     let state = z_tells_of_b(one_slot(saved_bc()));
     let Ok(nexts) = stepped(alloc, &[0xCC, 0x00, 0x01], &state) else {
@@ -109,7 +109,7 @@ fn called_where_zero(alloc: Global) -> bool {
         && call.effect.slot.is_none()
 }
 
-/// RET NZ of a callee: on an empty shape it ends, on a slot of one word it jumps there.
+/// RET NZ of a callee: on an empty shape it is an exit; on a slot with one word it jumps there.
 fn returned_where_not_zero(alloc: Global) -> bool {
     let empty = z_tells_of_b(Shape::empty());
     let there = z_tells_of_b(one_slot(pair(0x1234, 0x1234)));
@@ -132,7 +132,8 @@ fn returned_where_not_zero(alloc: Global) -> bool {
         && stays.state.shape.len() == 1
 }
 
-/// Main's return from an empty shape, one to a slot of two words, and a call in mode u, also where Z rules it out.
+/// Main's return from an empty shape, a return to a slot with two words, and a call in mode `u`, even where Z makes it
+/// infeasible.
 fn what_does_not_return(alloc: Global) -> bool {
     let two = z_tells_of_b(one_slot(pair(0x1234, 0x1235)));
     let mut unset = z_tells_of_b(Shape::empty());
@@ -150,7 +151,7 @@ fn calls_and_returns(rt: HostRuntime) {
     assert!(rt; led && what_does_not_return(alloc));
 }
 
-/// JP (HL) with HL 0123, and with HL 0123 or 0124.
+/// JP (HL) with HL 0123, and with HL 0123 to 0124.
 fn jumped_by_hl(alloc: Global) -> bool {
     let (mut one, mut two) = (set_up(), set_up());
     one.pairs.hl = pair(0x0123, 0x0123);
@@ -165,7 +166,8 @@ fn jumped_by_hl(alloc: Global) -> bool {
     jumps(next, 0x0123, 4) && hl && is_refused(alloc, &[0xE9], &two, Reason::NotCovered)
 }
 
-/// LD SP,4400 in mode u and with a slot: of main it makes mode s and the empty shape, elsewhere it changes nothing here.
+/// LD SP,4400 in mode `u` with a slot: in main code it gives mode `s` and the empty shape; elsewhere it changes nothing
+/// here.
 fn stack_is_set(alloc: Global, main: bool, mode: Mode, slots: usize) -> bool {
     let mut state = set_up();
     state.mode = Mode::Unset;

@@ -1,4 +1,4 @@
-// States by themselves: entries, the state after a call, covering, joins and tightening.
+// States on their own: entries, the state after a call, covering, joins and tightening.
 use crate::setting::{bytes, of_high, one_slot, pair, set_up};
 use abs_state::{AbsState, FlagFact, Mode};
 use intervals::{ByteRange, Pair, RegPair};
@@ -6,7 +6,7 @@ use loop_bounds::{Linear, Term, Variable};
 use stack_shape::Shape;
 use z80_decode::Register8;
 
-/// A caller's state at a call: DE is 2000, B 00 to 08, Z tells of B, and a word is on the stack.
+/// A caller's state at a call: DE is 2000, B is 00 to 08 with a flag fact, and a word is on the stack.
 fn caller() -> AbsState {
     let mut state = set_up();
     state.mode = Mode::Nmi;
@@ -33,7 +33,7 @@ fn callee_begins() -> bool {
         && own
 }
 
-/// The callee leaves in HL what DE was, in DE what BC was cut to 00 to 03, and 7 in A.
+/// The callee leaves the old DE in HL, 00 to 03 in D, and 7 in A.
 fn call_ends() -> bool {
     let mut exit = caller().callee();
     exit.armed = 4;
@@ -54,7 +54,7 @@ fn calls_keep_what_their_callees_give_back(rt: HostRuntime) {
     assert!(rt; callee_begins() && call_ends());
 }
 
-/// The NMI routine begins with each pair its own, in mode n; main with nothing known, in mode u.
+/// The NMI routine begins in mode `n` with each pair its own origin; main begins in mode `u` with nothing known.
 #[test]
 fn entries(rt: HostRuntime) {
     let (main, nmi) = (AbsState::of_main(), AbsState::of_nmi(2));
@@ -63,7 +63,7 @@ fn entries(rt: HostRuntime) {
     assert!(rt; nmi.pairs.iy == Pair::of_origin(RegPair::Iy));
 }
 
-/// The state with another mode, number of armed cells, fact or shape.
+/// The caller's state with another mode, number of armed cells, flag fact and shape.
 fn but(mode: Mode, armed: u16, flag: Option<FlagFact>, shape: Shape) -> AbsState {
     let mut state = caller();
     state.mode = mode;

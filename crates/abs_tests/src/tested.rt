@@ -1,4 +1,4 @@
-// What conditions, DJNZ and LDIR tell where they go on and where they do not.
+// What conditions, DJNZ and LDIR narrow, taken and not taken.
 use crate::setting::{bytes, jumps, of_high, pair, set_up, stepped, words};
 use abs_state::FlagFact;
 use abs_step::Nexts;
@@ -7,7 +7,7 @@ use loop_bounds::{Change, Variable};
 use std::alloc::Global;
 use z80_decode::Register8;
 
-/// The least and the greatest of A on the way on to an address, if there is one.
+/// The range of A in the successor at an address, if there is one.
 fn a_at(nexts: &Nexts, address: u16) -> Option<(u8, u8)> {
     for next in nexts.as_slice() {
         if next.address == address {
@@ -18,7 +18,8 @@ fn a_at(nexts: &Nexts, address: u16) -> Option<(u8, u8)> {
     None
 }
 
-/// The least and the greatest of A; what A was compared with; JR with a condition; A where it is met, and where it is not.
+/// The range of A; the byte that it was compared with; JR with a condition; A where the condition holds, and where it
+/// does not.
 type Compared = ((u8, u8), u8, u8, Option<(u8, u8)>, Option<(u8, u8)>);
 
 // JR Z, JR NZ, JR C and JR NC
@@ -43,9 +44,9 @@ const AFTER_CP: &[Compared] = &[
     (WIDE, 0x10, JR_NZ, Some(WIDE), Some(SAME)),
     (WIDE, 0x10, JR_C, Some(BELOW), Some(FROM)),
     (WIDE, 0x10, JR_NC, Some(FROM), Some(BELOW)),
-    // 10 is an end of A: it is cut.
+    // 10 is an end of A, so it is cut.
     (FROM, 0x10, JR_NZ, Some((0x11, 0x20)), Some(SAME)),
-    // Nothing is below 0; nothing of 05 to 0F is from 10 on; 10 is not 11.
+    // Nothing is below 0; nothing of 05 to 0F is 10 or more; 10 is not 11.
     (WIDE, 0x00, JR_C, None, Some(WIDE)),
     (BELOW, 0x10, JR_NC, None, Some(BELOW)),
     (SAME, 0x11, JR_Z, None, Some(SAME)),
@@ -69,8 +70,9 @@ fn conditions_cut_a(rt: HostRuntime) {
     }
 }
 
-/// The word from 0105 to 02FF, the high byte 01 and the low byte from 03 to 09; JR NZ by a fact of C. C is not 0, so that
-/// there is one way on, and the cut of C makes the normal form: the word 0105 to 0109, the low byte still 03 to 09.
+/// The word is from 0105 to 02FF, the high byte 01, the low byte from 03 to 09; JR NZ with a flag fact of C. C is not
+/// 0, so there is one successor. The cut of C makes the normal form: the word from 0105 to 0109, the low byte still
+/// from 03 to 09.
 #[test]
 fn a_cut_makes_the_normal_form(rt: HostRuntime) {
     assert!(rt; is_made_normal(rt.alloc()));
@@ -96,7 +98,7 @@ fn is_made_normal(alloc: Global) -> bool {
     jumps(next, 0x12, 12) && is_normal && bc.low == bytes(0x03, 0x09)
 }
 
-/// DJNZ to itself with B from 01 to 08: 01 to 07 where it goes on, 0 where not.
+/// DJNZ to itself with B from 01 to 08: 01 to 07 where it jumps, 0 where not.
 fn djnz_of_eight(alloc: Global) -> bool {
     let mut state = set_up();
     state.pairs.bc = of_high(0x01, 0x08);
@@ -116,7 +118,7 @@ fn djnz_of_eight(alloc: Global) -> bool {
         && past.effect.b == Change::Constant(0)
 }
 
-/// With B 01 alone it never goes on, and with B 00 it always does, with FF.
+/// With B 01 it never jumps; with B 00 it always does, and B becomes FF.
 fn djnz_of_one_and_none(alloc: Global) -> bool {
     let (mut one, mut none) = (set_up(), set_up());
     one.pairs.bc = of_high(0x01, 0x01);
@@ -138,7 +140,7 @@ fn djnz_counts(rt: HostRuntime) {
     assert!(rt; djnz_of_eight(rt.alloc()) && djnz_of_one_and_none(rt.alloc()));
 }
 
-/// LDIR with BC from 1 to 5, from 0010 to 0013 on, to 4000.
+/// LDIR with BC from 1 to 5, from 0010 to 0013, to 4000.
 const LDIR: [u8; 2] = [0xED, 0xB0];
 
 fn ldir_of_five(alloc: Global) -> bool {
@@ -171,7 +173,7 @@ fn ldir_of_five(alloc: Global) -> bool {
         && counted
 }
 
-/// Whether LDIR from so many bytes has this one way on, where BC then has these words.
+/// Whether LDIR with this BC has exactly this successor, with these words in BC.
 fn ldir_leads(alloc: Global, count: u16, address: u16, left: WordRange) -> bool {
     let mut state = set_up();
     state.pairs.bc = pair(count, count);
@@ -193,7 +195,7 @@ fn ldir_goes_on_and_ends(rt: HostRuntime) {
     assert!(rt; single && ldir_of_five(alloc) && cpir_may_end_anywhere(alloc));
 }
 
-/// CPIR ends where it found the byte, too, so that BC may be anything then: only where it goes on is it not 0.
+/// CPIR also ends where it finds the byte, so BC may be any then. Only where it repeats BC is not 0.
 fn cpir_may_end_anywhere(alloc: Global) -> bool {
     let mut state = set_up();
     state.pairs.bc = pair(1, 5);

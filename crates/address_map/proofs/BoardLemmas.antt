@@ -1,4 +1,4 @@
--- The maps of the boards keep the law, and their classes are those of the tables.
+-- The maps of the boards obey the rules, and their classes are those of the tables.
 use Rattle.std.specs.Prelude.{if◌then◌else◌}
 use Rattle.std.proofs.Common.{◌≡◌, ◌≤◌, ◌<◌, ◌+◌, ◌-◌, ◌%◌, ℕ, suc, Bool, true, false, inl, inr, List, [], ◌∷◌, refl, sym, ◌∙◌, ap, subst, arith, lit≤, nat_lt, ◌&&◌, ◌||◌, not, ◌↔◌, ◌==◌}
 use Rattle.std.specs.List.{count_by, list_all, list_any}
@@ -6,9 +6,10 @@ use Rattle.std.proofs.lemmas.Bool.{cases_Bool, cases_lt, le-leb, lt-leb, lt-ltb,
 use Rattle.address_map.proofs.Laws.{no_class}
 use Rattle.address_map.proofs.MapLemmas.{class_of-in, zone_of, class-enable, enable-class}
 use Rattle.address_map.proofs.ZoneLemmas.{In-all, In-from-any, count-yes, count-no}
-use Rattle.address_map.specs.AddressMap.{AddressMap, map_of}
+use Rattle.address_map.specs.AddressMap.{MapView, map_of}
 use Rattle.address_map.specs.MapLaw.{IsMap, zones_at, has_work, has_rom}
-use Rattle.address_map.specs.Boards.{galaxian, raised, galaxian_zones, raised_zones, with_rom, galaxian_class, raised_class, zone, open_zone, open_class}
+use Rattle.address_map.specs.Boards.{galaxian, raised, galaxian_zones, raised_zones, with_rom, zone, open_zone}
+use Rattle.address_map.specs.BoardTables.{galaxian_class, raised_class, open_class}
 use Rattle.address_map.specs.Class.{class_of}
 use Rattle.address_map.specs.WorkRam.{work_start, work_last}
 use Rattle.address_map.specs.Shared.{writes_enable}
@@ -22,7 +23,7 @@ use Rattle.address_map.specs.declared.zone.WriteUse.{WriteUse}
 use Rattle.address_map.specs.declared.zone.WriteUse.TheVariants as uses
 use Rattle.address_map.specs.declared.zone.Zone.{Zone}
 
--- zones that follow one another, from an address to FFFF
+-- zones that follow one another from an address to FFFF
 pub data Follows : ℕ → List Zone → Type 0 where
   done : Follows 0x10000 []
   next : {first : ℕ} {z : Zone} {zs : List Zone} → z.first ≡ first → first ≤ z.last → Follows (z.last + 1) zs → Follows first (z ∷ zs)
@@ -64,7 +65,7 @@ raised_follow =
 follow_at : (a b : ℕ) (zs : List Zone) → a ≡ b → Follows a zs → Follows b zs
 follow_at a b zs e f = subst (λ n. Follows n zs) e f
 
--- the zones of a board, by whether anything is open behind the ROM
+-- the zones of a board whose ROM ends below 3FFF, or does not
 short_zones : ℕ → List Zone → List Zone
 short_zones n behind = zone 0 (n - 1) reads.Rom uses.Rom ∷ open_zone n 0x3FFF ∷ behind
 
@@ -89,7 +90,7 @@ full_follow : (n : ℕ) (behind : List Zone) → n ≡ 0x4000 → Follows 0x4000
 unfolding full_zones
 full_follow n behind fits f = follow_zone 0 (n - 1) _ _ _ (omega arith) (follow_at 0x4000 _ _ (omega arith) f)
 
--- what is asked of zones, whether anything is open behind the ROM or not
+-- a property of the zones, for each length of the ROM
 by_length : (n : ℕ) (behind : List Zone) (P : List Zone → Type 0) → n ≤ 0x4000 → (n < 0x4000 → P (short_zones n behind)) → (n ≡ 0x4000 → P (full_zones n behind)) → P (with_rom n behind)
 by_length n behind P fits short full = elim (cases_lt n 0x4000) [
   | inl h ↦ subst P (sym (short_is n behind h)) (short h)
@@ -103,7 +104,7 @@ with_rom_follow n behind some fits f =
 rom_again : (n : ℕ) → 1 ≤ n → (((n - 1) + 1) == n) ≡ true
 rom_again n some = eq-eqb _ _ (omega arith)
 
--- zones behind the ROM of which one is work RAM, and none ROM
+-- zones after the ROM: one is work RAM, and none is ROM
 record Behind (zs : List Zone) : Type 0 where
   follow : Follows 0x4000 zs
   ends : list_all (λ z. nat_lt z.last 0x10000) zs ≡ true
@@ -202,14 +203,14 @@ raised_classes n a some fits =
       | inr f ↦ elim (cases_Bool (nat_lt a 0x10000)) [ inl u ↦ rw (f, u) refl | inr u ↦ rw (f, u) refl ]
     ]))
 
--- the addresses of the NMI enable: those from one to another that are 1 modulo 8
+-- the NMI enable lies only in the zone with these ends
 abbrev only_enable : ℕ → ℕ → Zone → Bool
 only_enable low high z = not (writes_enable z.write) || (z.first == low && z.last == high)
 
 abbrev is_enable : ℕ → ℕ → Zone → Bool
 is_enable low high z = writes_enable z.write && (z.first == low && z.last == high)
 
-enable_addresses : (m : AddressMap) → IsMap m → (low high : ℕ) → list_all (only_enable low high) m.zones ≡ true → list_any (is_enable low high) m.zones ≡ true
+enable_addresses : (m : MapView) → IsMap m → (low high : ℕ) → list_all (only_enable low high) m.zones ≡ true → list_any (is_enable low high) m.zones ≡ true
     → (a : ℕ) → ((class_of m a).write ≡ writes.NmiEnable) ↔ ((low ≤ a) × (a ≤ high) × (a % 8 ≡ 1))
 enable_addresses m h low high only some a = (
   λ e. elim (cases_lt a 0x10000) [

@@ -1,5 +1,5 @@
--- The lowest address that does not lie in exactly one zone: the number of zones changes only where a zone begins, or
--- behind its last address.
+-- The lowest address that is not in exactly one zone. The number of zones changes only where a zone begins or just
+-- after it ends.
 use Rattle.std.proofs.Common.{◌≡◌, ◌≢◌, ◌≤◌, ◌<◌, ◌+◌, ℕ, zero, suc, true, ◌⊎◌, inl, inr, List, [], ◌∷◌, length, get_or, refl, sym, ◌∙◌, ap, arith, nat_lt}
 use Rattle.std.proofs.Math.Bool.{cond}
 use Rattle.std.specs.List.{list_all}
@@ -11,7 +11,7 @@ use Rattle.address_map.specs.MapLaw.{OneZoneBelow, zones_at}
 use Rattle.address_map.specs.Zone.{in_zone, no_zone}
 use Rattle.address_map.specs.declared.zone.Zone.{Zone}
 
--- below an end, each address at which a zone begins, or just ended, lies in exactly one zone of all
+-- below `end`, each address where the zone begins or has just ended lies in exactly one zone
 pub record EdgesBelow (all : List Zone) (end : ℕ) (z : Zone) : Type 0 where
   pub first : z.first < end → zones_at all z.first ≡ 1
   pub past : z.last + 1 < end → zones_at all (z.last + 1) ≡ 1

@@ -1,12 +1,14 @@
--- The laws of an address map: all that crates above need of `class_of`, `work_start` and `work_last`, each under `IsMap`.
+-- The laws of an address map: what the crates above need of `class_of`, `work_start` and `work_last`, each under
+-- `IsMap`.
 use Rattle.std.proofs.Common.{◌≡◌, ◌≢◌, ◌≤◌, ◌<◌, ◌+◌, ◌%◌, ◌↔◌, inl, inr, ℕ, true, refl, sym, ◌∙◌, ap, subst, arith, nat_le, Some, ◌==◌, ◌&&◌, ◌||◌}
 use Rattle.std.specs.List.{count_by}
 use Rattle.std.proofs.lemmas.Bool.{cases_Bool, and_parts, or_cases, and_from, leb-true, le-leb, eqb-true, or_left, or_right, cases_lt}
 use Rattle.address_map.proofs.MapLemmas.{HasZone, class_of-in, zone_of, zone_ends}
 use Rattle.address_map.proofs.ZoneLemmas.{In, In-all, first_zone-only, first_zone-in, first_zone-passes, first_zone-none}
-use Rattle.address_map.specs.AddressMap.{AddressMap}
+use Rattle.address_map.specs.AddressMap.{MapView}
 use Rattle.address_map.specs.MapLaw.{IsMap, has_work, has_rom}
-use Rattle.address_map.specs.Class.{class_of, cell_of, cell_of_class}
+use Rattle.address_map.specs.Class.{class_of}
+use Rattle.address_map.specs.Cell.{cell_of, cell_of_class}
 use Rattle.address_map.specs.WorkRam.{work_start, work_last}
 use Rattle.address_map.specs.Zone.{in_zone, class_in, write_class, first_zone}
 use Rattle.address_map.specs.ZoneUse.{names_work, fits_ram, one_ram, same_kind, names_rom, fits_rom, reads_rom, writes_rom, reads_work, writes_work}
@@ -20,25 +22,25 @@ use Rattle.address_map.specs.declared.zone.WriteUse.{WriteUse}
 use Rattle.address_map.specs.declared.zone.WriteUse.TheVariants as uses
 use Rattle.address_map.specs.declared.zone.Zone.{Zone}
 
--- the parts of the tests
-one_work : (m : AddressMap) → IsMap m → count_by names_work m.zones ≡ 1
+-- the parts of the rules
+one_work : (m : MapView) → IsMap m → count_by names_work m.zones ≡ 1
 unfolding has_work
 one_work m h = eqb-true _ _ (and_parts _ _ h.work).0
 
-all_ram : (m : AddressMap) → IsMap m → (z : Zone) → In z m.zones → fits_ram z ≡ true
+all_ram : (m : MapView) → IsMap m → (z : Zone) → In z m.zones → fits_ram z ≡ true
 unfolding has_work
 all_ram m h z i = In-all fits_ram m.zones z (and_parts (count_by names_work m.zones == 1) _ h.work).1 i
 
-one_rom : (m : AddressMap) → IsMap m → count_by names_rom m.zones ≡ 1
+one_rom : (m : MapView) → IsMap m → count_by names_rom m.zones ≡ 1
 unfolding has_rom
 one_rom m h = eqb-true _ _ (and_parts _ _ h.rom).0
 
-all_rom : (m : AddressMap) → IsMap m → (z : Zone) → In z m.zones → fits_rom m.rom_len z ≡ true
+all_rom : (m : MapView) → IsMap m → (z : Zone) → In z m.zones → fits_rom m.rom_len z ≡ true
 unfolding has_rom
 all_rom m h z i = In-all (fits_rom m.rom_len) m.zones z (and_parts (count_by names_rom m.zones == 1) _ h.rom).1 i
 
 -- the zone of work RAM
-record WorkZone (m : AddressMap) : Type 0 where
+record WorkZone (m : MapView) : Type 0 where
   zone : Zone
   is_in : In zone m.zones
   reads : zone.read ≡ reads.Ram Work
@@ -75,7 +77,7 @@ both_work r u e n = elim (or_cases (reads_work r) (writes_work u) n) [
       (work-reads r (subst (λ k. one_ram r k ≡ true) same e), same)
 ]
 
-work_zone : (m : AddressMap) → IsMap m → WorkZone m
+work_zone : (m : MapView) → IsMap m → WorkZone m
 unfolding work_start work_last
 work_zone m h =
     let one = one_work m h in
@@ -99,10 +101,10 @@ work_zone m h =
     }
 
 -- work RAM begins at a multiple of 400h, has at least 400h addresses, and ends at FFFF or below
-pub work_start_multiple : (m : AddressMap) → IsMap m → work_start m % 0x400 ≡ 0
+pub work_start_multiple : (m : MapView) → IsMap m → work_start m % 0x400 ≡ 0
 work_start_multiple m h = let w = work_zone m h in subst (λ n. n % 0x400 ≡ 0) w.start w.multiple
 
-pub work_size : (m : AddressMap) → IsMap m → work_start m + 0x400 ≤ work_last m + 1
+pub work_size : (m : MapView) → IsMap m → work_start m + 0x400 ≤ work_last m + 1
 work_size m h =
     let w = work_zone m h in
     let start : w.zone.first ≡ work_start m = w.start in
@@ -110,7 +112,7 @@ work_size m h =
     let size : w.zone.first + 0x400 ≤ w.zone.last + 1 = w.size in
     omega arith
 
-pub work_last_fits : (m : AddressMap) → IsMap m → work_last m < 0x10000
+pub work_last_fits : (m : MapView) → IsMap m → work_last m < 0x10000
 work_last_fits m h =
     let w = work_zone m h in
     let last : w.zone.last ≡ work_last m = w.last in
@@ -118,7 +120,7 @@ work_last_fits m h =
     omega arith
 
 -- the addresses from `work_start` to `work_last` are work RAM, for reading and for writing
-pub is_work : (m : AddressMap) → IsMap m → (a : ℕ) → work_start m ≤ a → a ≤ work_last m
+pub is_work : (m : MapView) → IsMap m → (a : ℕ) → work_start m ≤ a → a ≤ work_last m
     → class_of m a ≡ record { read = reads.Ram Work; write = writes.Ram Work }
 is_work m h a low high =
     let w = work_zone m h in
@@ -129,8 +131,8 @@ is_work m h a low high =
     let holds = and_from _ _ (le-leb w.zone.first a first') (le-leb a w.zone.last last') in
     class_of-in m h w.zone w.is_in a holds ∙ rw (w.reads, w.writes) refl
 
--- an address that lies in no zone is open
-pub no_class : (m : AddressMap) → IsMap m → (a : ℕ) → 0x10000 ≤ a → class_of m a ≡ record { read = reads.Open; write = writes.Unmapped }
+-- an address in no zone is open
+pub no_class : (m : MapView) → IsMap m → (a : ℕ) → 0x10000 ≤ a → class_of m a ≡ record { read = reads.Open; write = writes.Unmapped }
 unfolding class_of
 no_class m h a far =
     ap (λ z. class_in z a) (first_zone-none (in_zone a) m.zones (λ z i. elim (cases_Bool (in_zone a z)) [
@@ -149,8 +151,8 @@ work-use uses.LatchWithEnable a e = elim (cases_Bool (a % 8 == 1)) [
 ]
 work-use _ a e = cc
 
--- and no others are work RAM
-pub work_interval : (m : AddressMap) → IsMap m → (a : ℕ) → (class_of m a).write ≡ writes.Ram Work → (work_start m ≤ a) × (a ≤ work_last m)
+-- no other address is work RAM
+pub work_interval : (m : MapView) → IsMap m → (a : ℕ) → (class_of m a).write ≡ writes.Ram Work → (work_start m ≤ a) × (a ≤ work_last m)
 work_interval m h a e = elim (cases_lt a 0x10000) [
   | inl near ↦
       let z = zone_of m h a near in
@@ -169,26 +171,26 @@ work_interval m h a e = elim (cases_lt a 0x10000) [
       let e' = sym (ap (λ c. c.write) (no_class m h a far)) ∙ e in (cc)
 ]
 
--- the byte of a region that lies in the first 400h addresses of work RAM is work RAM, with a cell of its own
-pub region_byte : (m : AddressMap) → IsMap m → (region : Region) → work_start m ≤ region.low → region.top ≤ work_start m + 0x400
+-- the byte of a region in the first 400h addresses of work RAM is work RAM and has a cell of its own
+pub region_byte : (m : MapView) → IsMap m → (region : Region) → work_start m ≤ region.low → region.top ≤ work_start m + 0x400
     → (a : ℕ) → region.low ≤ a → a < region.top → class_of m a ≡ record { read = reads.Ram Work; write = writes.Ram Work }
 region_byte m h region low top a from below =
     let size : work_start m + 0x400 ≤ work_last m + 1 = work_size m h in
     is_work m h a (omega arith) (omega arith)
 
-pub region_cell : (m : AddressMap) → IsMap m → (region : Region) → work_start m ≤ region.low → region.top ≤ work_start m + 0x400
+pub region_cell : (m : MapView) → IsMap m → (region : Region) → work_start m ≤ region.low → region.top ≤ work_start m + 0x400
     → (a : ℕ) → region.low ≤ a → a < region.top → cell_of m a ≡ Some (Work, a % 0x400)
 region_cell m h region low top a from below =
     ap (λ c. cell_of_class c.write a) (region_byte m h region low top a from below)
 
-pub region_apart : (m : AddressMap) → IsMap m → (region : Region) → work_start m ≤ region.low → region.top ≤ work_start m + 0x400
+pub region_apart : (m : MapView) → IsMap m → (region : Region) → work_start m ≤ region.low → region.top ≤ work_start m + 0x400
     → (a b : ℕ) → region.low ≤ a → a < region.top → region.low ≤ b → b < region.top → a ≢ b → a % 0x400 ≢ b % 0x400
 region_apart m h region low top a b fa ba fb bb ne same =
     let multiple = work_start_multiple m h in
     ne (omega arith)
 
--- ROM
-record RomZone (m : AddressMap) : Type 0 where
+-- the zone of the ROM
+record RomZone (m : MapView) : Type 0 where
   zone : Zone
   is_in : In zone m.zones
   reads : zone.read ≡ reads.Rom
@@ -205,7 +207,7 @@ writes-rom : (u : WriteUse) → writes_rom u ≡ true → u ≡ uses.Rom
 writes-rom uses.Rom e = refl
 writes-rom _ e = cc
 
-rom_zone : (m : AddressMap) → IsMap m → RomZone m
+rom_zone : (m : MapView) → IsMap m → RomZone m
 rom_zone m h =
     let one = one_rom m h in
     let z = first_zone names_rom m.zones in
@@ -227,7 +229,7 @@ rom_zone m h =
     }
 
 -- the addresses below the ROM's length are ROM, for reading and for writing
-pub is_rom : (m : AddressMap) → IsMap m → (a : ℕ) → a < m.rom_len → class_of m a ≡ record { read = reads.Rom; write = writes.Rom }
+pub is_rom : (m : MapView) → IsMap m → (a : ℕ) → a < m.rom_len → class_of m a ≡ record { read = reads.Rom; write = writes.Rom }
 is_rom m h a low =
     let w = rom_zone m h in
     let first : w.zone.first ≡ 0 = w.first in
@@ -237,13 +239,13 @@ is_rom m h a low =
     let holds = and_from _ _ (le-leb w.zone.first a first') (le-leb a w.zone.last last') in
     class_of-in m h w.zone w.is_in a holds ∙ rw (w.reads, w.writes) refl
 
-pub rom_some : (m : AddressMap) → IsMap m → 1 ≤ m.rom_len
+pub rom_some : (m : MapView) → IsMap m → 1 ≤ m.rom_len
 rom_some m h =
     let w = rom_zone m h in
     let last : w.zone.last + 1 ≡ m.rom_len = w.last in
     omega arith
 
-pub rom_fits : (m : AddressMap) → IsMap m → m.rom_len ≤ 0x10000
+pub rom_fits : (m : MapView) → IsMap m → m.rom_len ≤ 0x10000
 rom_fits m h =
     let w = rom_zone m h in
     let last : w.zone.last + 1 ≡ m.rom_len = w.last in
@@ -258,7 +260,7 @@ rom-use uses.LatchWithEnable a e = elim (cases_Bool (a % 8 == 1)) [
 ]
 rom-use _ a e = cc
 
-in_rom : (m : AddressMap) → IsMap m → (a : ℕ) → (z : HasZone m a) → names_rom z.zone ≡ true → a < m.rom_len
+in_rom : (m : MapView) → IsMap m → (a : ℕ) → (z : HasZone m a) → names_rom z.zone ≡ true → a < m.rom_len
 in_rom m h a z named =
     let w = rom_zone m h in
     let last : w.zone.last + 1 ≡ m.rom_len = w.last in
@@ -266,8 +268,8 @@ in_rom m h a z named =
     let l : z.zone.last ≡ w.zone.last = ap (λ y. y.last) (w.only z.zone z.is_in named) in
     omega arith
 
--- and no others are ROM, neither for writing nor for reading
-pub rom_write : (m : AddressMap) → IsMap m → (a : ℕ) → (class_of m a).write ≡ writes.Rom → a < m.rom_len
+-- no other address is ROM, for writing or for reading
+pub rom_write : (m : MapView) → IsMap m → (a : ℕ) → (class_of m a).write ≡ writes.Rom → a < m.rom_len
 rom_write m h a e = elim (cases_lt a 0x10000) [
   | inl near ↦
       let z = zone_of m h a near in
@@ -276,7 +278,7 @@ rom_write m h a e = elim (cases_lt a 0x10000) [
   | inr far ↦ let e' = sym (ap (λ c. c.write) (no_class m h a far)) ∙ e in (cc)
 ]
 
-pub rom_read : (m : AddressMap) → IsMap m → (a : ℕ) → (class_of m a).read ≡ reads.Rom → a < m.rom_len
+pub rom_read : (m : MapView) → IsMap m → (a : ℕ) → (class_of m a).read ≡ reads.Rom → a < m.rom_len
 rom_read m h a e = elim (cases_lt a 0x10000) [
   | inl near ↦
       let z = zone_of m h a near in
@@ -291,7 +293,7 @@ kinds-same Video Video e = refl
 kinds-same Object Object e = refl
 kinds-same _ _ e = cc
 
--- where no other RAM is named, an address of a RAM for writing has a use of that RAM
+-- an address that writes a RAM lies in a zone with that use
 ram-use : (u : WriteUse) (a : ℕ) (k : RamKind) → write_class u a ≡ writes.Ram k → u ≡ uses.Ram k
 ram-use (uses.Ram j) a k e = cc
 ram-use uses.LatchWithEnable a k e = elim (cases_Bool (a % 8 == 1)) [
@@ -310,14 +312,14 @@ write-ram : (u : WriteUse) (k : RamKind) → one_ram (reads.Ram k) u ≡ true �
 write-ram (uses.Ram j) k e = ap uses.Ram (sym (kinds-same k j e))
 write-ram _ k e = cc
 
--- a RAM that an address reads is the RAM that it writes, and the other way round
+-- an address reads the RAM that it writes, and conversely
 ram_same : (r : ReadClass) (u : WriteUse) (a : ℕ) → one_ram r u ≡ true → (k : RamKind) → (r ≡ reads.Ram k) ↔ (write_class u a ≡ writes.Ram k)
 ram_same r u a e k = (
   λ h. ap (λ v. write_class v a) (write-ram u k (subst (λ v. one_ram v u ≡ true) h e)),
   λ h. read-ram r k (subst (λ v. one_ram r v ≡ true) (ram-use u a k h) e),
 )
 
-pub ram_both : (m : AddressMap) → IsMap m → (a : ℕ) (k : RamKind) → ((class_of m a).read ≡ reads.Ram k) ↔ ((class_of m a).write ≡ writes.Ram k)
+pub ram_both : (m : MapView) → IsMap m → (a : ℕ) (k : RamKind) → ((class_of m a).read ≡ reads.Ram k) ↔ ((class_of m a).write ≡ writes.Ram k)
 ram_both m h a k = elim (cases_lt a 0x10000) [
   | inl near ↦
       let z = zone_of m h a near in

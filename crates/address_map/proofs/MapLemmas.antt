@@ -1,11 +1,12 @@
--- The zone of an address of a map, and what a zone's use says of its addresses.
+-- The zone of an address, and the class that it gives.
 use Rattle.std.proofs.Common.{◌≡◌, ◌≤◌, ◌<◌, ◌%◌, ℕ, true, inl, inr, refl, ap, arith, nat_lt, Option, Some, None, ◌==◌}
 use Rattle.std.specs.List.{count_by}
 use Rattle.std.proofs.lemmas.Bool.{cases_Bool, and_parts, leb-true, ltb-true, eqb-true}
 use Rattle.address_map.proofs.ZoneLemmas.{In, In-all, first_zone-only, first_zone-in, first_zone-passes}
-use Rattle.address_map.specs.AddressMap.{AddressMap}
+use Rattle.address_map.specs.AddressMap.{MapView}
 use Rattle.address_map.specs.MapLaw.{IsMap, zones_at}
-use Rattle.address_map.specs.Class.{class_of, cell_of_class}
+use Rattle.address_map.specs.Class.{class_of}
+use Rattle.address_map.specs.Cell.{cell_of_class}
 use Rattle.address_map.specs.Shared.{writes_open, writes_enable}
 use Rattle.address_map.specs.Zone.{in_zone, class_in, write_class}
 use Rattle.address_map.specs.ZoneUse.{writes_rom, writes_work}
@@ -16,16 +17,16 @@ use Rattle.address_map.specs.declared.zone.WriteUse.{WriteUse}
 use Rattle.address_map.specs.declared.zone.WriteUse.TheVariants as uses
 use Rattle.address_map.specs.declared.zone.Zone.{Zone}
 
-one_at : (m : AddressMap) → IsMap m → (a : ℕ) → a < 0x10000 → count_by (in_zone a) m.zones ≡ 1
+one_at : (m : MapView) → IsMap m → (a : ℕ) → a < 0x10000 → count_by (in_zone a) m.zones ≡ 1
 unfolding zones_at
 one_at m h a lt = h.one_zone a lt
 
--- no zone of a map holds an address above FFFF
-pub zone_ends : (m : AddressMap) → IsMap m → (z : Zone) → In z m.zones → z.last < 0x10000
+-- no zone of a map contains an address above FFFF
+pub zone_ends : (m : MapView) → IsMap m → (z : Zone) → In z m.zones → z.last < 0x10000
 zone_ends m h z i = ltb-true _ _ (In-all (λ y. nat_lt y.last 0x10000) m.zones z h.ends i)
 
--- an address is of the class that the zone says in which it lies
-pub class_of-in : (m : AddressMap) → IsMap m → (z : Zone) → In z m.zones → (a : ℕ) → in_zone a z ≡ true → class_of m a ≡ class_in z a
+-- the class of an address is that of the zone that contains it
+pub class_of-in : (m : MapView) → IsMap m → (z : Zone) → In z m.zones → (a : ℕ) → in_zone a z ≡ true → class_of m a ≡ class_in z a
 unfolding class_of
 class_of-in m h z i a e =
     let last : z.last < 0x10000 = zone_ends m h z i in
@@ -34,20 +35,20 @@ class_of-in m h z i a e =
     ap (λ y. class_in y a) (first_zone-only (in_zone a) m.zones z (omega arith) i e)
 
 -- the zone of an address
-pub record HasZone (m : AddressMap) (a : ℕ) : Type 0 where
+pub record HasZone (m : MapView) (a : ℕ) : Type 0 where
   pub zone : Zone
   pub is_in : In zone m.zones
   pub holds : in_zone a zone ≡ true
   pub class : class_of m a ≡ class_in zone a
 
-pub zone_of : (m : AddressMap) → IsMap m → (a : ℕ) → a < 0x10000 → HasZone m a
+pub zone_of : (m : MapView) → IsMap m → (a : ℕ) → a < 0x10000 → HasZone m a
 zone_of m h a lt =
     let one = one_at m h a lt in
     let i = first_zone-in (in_zone a) m.zones (omega arith) in
     let e = first_zone-passes (in_zone a) m.zones (omega arith) in
     record { zone = _; is_in = i; holds = e; class = class_of-in m h _ i a e }
 
--- what the uses say of an address
+-- the class that each use gives
 pub rom-class : (u : WriteUse) (a : ℕ) → writes_rom u ≡ true → write_class u a ≡ writes.Rom
 rom-class uses.Rom a e = refl
 rom-class _ a e = cc

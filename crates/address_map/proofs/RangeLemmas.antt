@@ -1,12 +1,13 @@
--- What the zones of a map say of the addresses of a range.
+-- The zones of a map decide about the addresses of a range.
 use Rattle.std.proofs.Common.{◌≡◌, ◌≤◌, ◌<◌, ◌+◌, ◌-◌, ◌%◌, ◌↔◌, ℕ, Bool, true, inl, inr, sym, ◌∙◌, ap, subst, arith, Some}
 use Rattle.std.specs.List.{list_any}
 use Rattle.std.proofs.lemmas.Bool.{and_parts, and_from, leb-true, le-leb, lt-ltb, ltb-true, eq-eqb, cases_lt}
 use Rattle.address_map.proofs.MapLemmas.{class_of-in, zone_of, rom-class, class-rom, open-class, class-open, enable-class, class-enable, work-cell, cell-work}
 use Rattle.address_map.proofs.ZoneLemmas.{In-any, In-from-any}
-use Rattle.address_map.specs.AddressMap.{AddressMap}
+use Rattle.address_map.specs.AddressMap.{MapView}
 use Rattle.address_map.specs.MapLaw.{IsMap}
-use Rattle.address_map.specs.Class.{class_of, cell_of, cell_of_class}
+use Rattle.address_map.specs.Class.{class_of}
+use Rattle.address_map.specs.Cell.{cell_of, cell_of_class}
 use Rattle.address_map.specs.Ranges.{SomeWrite, SomeAtCell, SomeInRegion}
 use Rattle.address_map.specs.Shared.{rom_in, unmapped_in, enable_in, cell_in, share_cell, low_in, high_in}
 use Rattle.address_map.specs.Zone.{in_zone, class_in}
@@ -15,17 +16,17 @@ use Rattle.address_map.specs.declared.map.Class.{Class}
 use Rattle.address_map.specs.declared.map.WriteClass.TheVariants as writes
 use Rattle.address_map.specs.declared.region.Region.{Region}
 use Rattle.address_map.specs.declared.zone.Zone.{Zone}
-use Rattle.intervals.specs.Range.{Interval, Within}
+use Rattle.intervals.specs.Range.{RangeView, Within}
 
 holds-from : (z : Zone) (a : ℕ) → z.first ≤ a → a ≤ z.last → in_zone a z ≡ true
 holds-from z a f l = and_from _ _ (le-leb _ _ f) (le-leb _ _ l)
 
--- an address of the range in the zone, of which P holds
-abbrev pub Found : (Class → ℕ → Type 0) → Interval → Zone → Type 0
+-- an address of the range in the zone with the property P
+abbrev pub Found : (Class → ℕ → Type 0) → RangeView → Zone → Type 0
 Found P range z = (a : ℕ) × (low_in range z ≤ a) × (a ≤ high_in range z) × P (class_in z a) a
 
--- a test of zones answers for the addresses
-pub some_iff : (P : Class → ℕ → Type 0) (t : Zone → Bool) (m : AddressMap) (range : Interval) → IsMap m → range.high < 0x10000
+-- a test of zones decides about the addresses
+pub some_iff : (P : Class → ℕ → Type 0) (t : Zone → Bool) (m : MapView) (range : RangeView) → IsMap m → range.high < 0x10000
     → ((z : Zone) → t z ≡ true → Found P range z) → ((z : Zone) → Found P range z → t z ≡ true)
     → (list_any t m.zones ≡ true) ↔ ((a : ℕ) × Within range a × P (class_of m a) a)
 some_iff P t m range h high to from = (
@@ -43,7 +44,7 @@ some_iff P t m range h high to from = (
       In-any t m.zones z.zone z.is_in (from z.zone (s.0, omega arith, omega arith, subst (λ c. P c s.0) z.class s.2)),
 )
 
-pub some_rom : (m : AddressMap) (range : Interval) → IsMap m → range.high < 0x10000 → (list_any (rom_in range) m.zones ≡ true) ↔ SomeWrite m range writes.Rom
+pub some_rom : (m : MapView) (range : RangeView) → IsMap m → range.high < 0x10000 → (list_any (rom_in range) m.zones ≡ true) ↔ SomeWrite m range writes.Rom
 some_rom m range h high = some_iff (λ c a. c.write ≡ writes.Rom) (rom_in range) m range h high
     (λ z e. let p = and_parts _ _ e in
     let meet = leb-true _ _ p.1 in
@@ -52,7 +53,7 @@ some_rom m range h high = some_iff (λ c a. c.write ≡ writes.Rom) (rom_in rang
     let hi : f.0 ≤ high_in range z = f.2 in
     and_from _ _ (class-rom z.write f.0 f.3) (le-leb _ _ (omega arith)))
 
-pub some_unmapped : (m : AddressMap) (range : Interval) → IsMap m → range.high < 0x10000 → (list_any (unmapped_in range) m.zones ≡ true) ↔ SomeWrite m range writes.Unmapped
+pub some_unmapped : (m : MapView) (range : RangeView) → IsMap m → range.high < 0x10000 → (list_any (unmapped_in range) m.zones ≡ true) ↔ SomeWrite m range writes.Unmapped
 some_unmapped m range h high = some_iff (λ c a. c.write ≡ writes.Unmapped) (unmapped_in range) m range h high
     (λ z e. let p = and_parts _ _ e in
     let meet = leb-true _ _ p.1 in
@@ -67,7 +68,7 @@ one_of_eight high h = omega arith
 enable_below : (low a high : ℕ) → low ≤ a → a ≤ high → a % 8 ≡ 1 → low + (high + 7) % 8 ≤ high
 enable_below low a high l h one = omega arith
 
-pub some_enable : (m : AddressMap) (range : Interval) → IsMap m → range.high < 0x10000 → (list_any (enable_in range) m.zones ≡ true) ↔ SomeWrite m range writes.NmiEnable
+pub some_enable : (m : MapView) (range : RangeView) → IsMap m → range.high < 0x10000 → (list_any (enable_in range) m.zones ≡ true) ↔ SomeWrite m range writes.NmiEnable
 some_enable m range h high = some_iff (λ c a. c.write ≡ writes.NmiEnable) (enable_in range) m range h high
     (λ z e. let p = and_parts _ _ e in
     let meet = leb-true _ _ p.1 in
@@ -78,7 +79,7 @@ some_enable m range h high = some_iff (λ c a. c.write ≡ writes.NmiEnable) (en
     let c = class-enable z.write f.0 f.3 in
     and_from _ _ c.0 (le-leb _ _ (enable_below (low_in range z) f.0 (high_in range z) lo hi c.1)))
 
--- two numbers that are the same modulo 400h
+-- two numbers that are congruent modulo 400h
 pub record Sharing (low high from end : ℕ) : Type 0 where
   pub address : ℕ
   pub other : ℕ
@@ -137,11 +138,11 @@ share-from low high from end small s =
     and_from _ _ (and_from _ _ (le-leb _ _ lh) (lt-ltb _ _ fe))
     (le-leb _ _ (share_bound low high from end s.address s.other s.above_low s.below_high s.above_from s.below_end small s.same))
 
--- an address of the range of which the cell is that of a number from `from` to `end` - 1
+-- an address of the range folds to the cell of a number from `from` to `end` - 1
 abbrev pub FoldsFrom : ℕ → ℕ → Class → ℕ → Type 0
 FoldsFrom from end c a = (other : ℕ) × (from ≤ other) × (other < end) × (cell_of_class c.write a ≡ Some (Work, other % 0x400))
 
-pub some_cell : (m : AddressMap) (range : Interval) (from end : ℕ) → IsMap m → range.high < 0x10000 → end ≤ 0x10000
+pub some_cell : (m : MapView) (range : RangeView) (from end : ℕ) → IsMap m → range.high < 0x10000 → end ≤ 0x10000
     → (list_any (cell_in from end range) m.zones ≡ true) ↔ ((a : ℕ) × Within range a × FoldsFrom from end (class_of m a) a)
 some_cell m range from end h high small = some_iff (FoldsFrom from end) (cell_in from end range) m range h high
     (λ z e. let p = and_parts _ _ e in
@@ -168,7 +169,7 @@ some_cell m range from end h high small = some_iff (FoldsFrom from end) (cell_in
       same = c.1;
     })))
 
-pub at_cell : (m : AddressMap) (range : Interval) (index : ℕ) → IsMap m → range.high < 0x10000 → index < 0x10000
+pub at_cell : (m : MapView) (range : RangeView) (index : ℕ) → IsMap m → range.high < 0x10000 → index < 0x10000
     → (list_any (cell_in index (index + 1) range) m.zones ≡ true) ↔ SomeAtCell m range index
 at_cell m range index h high small =
     let i = some_cell m range index (index + 1) h high (omega arith) in (
@@ -180,6 +181,6 @@ at_cell m range index h high small =
       λ s. i.1 (s.0, s.1, (index, omega arith, omega arith, s.2)),
     )
 
-pub in_region : (m : AddressMap) (range : Interval) (region : Region) → IsMap m → range.high < 0x10000 → region.top ≤ 0x10000
+pub in_region : (m : MapView) (range : RangeView) (region : Region) → IsMap m → range.high < 0x10000 → region.top ≤ 0x10000
     → (list_any (cell_in region.low region.top range) m.zones ≡ true) ↔ SomeInRegion m range region
 in_region m range region h high small = some_cell m range region.low region.top h high small

@@ -1,4 +1,4 @@
--- Lists of zones: which zones are in them, how many pass a test, and the first that does.
+-- Lists of zones: membership, how many pass a test, and the first that does.
 use Rattle.std.proofs.Common.{◌≡◌, ◌≤◌, ◌<◌, ◌+◌, ℕ, suc, Bool, true, false, ◌⊎◌, inl, inr, List, [], ◌∷◌, length, get_or, drop, refl, sym, ◌∙◌, ap, subst, arith, add-one, drop-cons}
 use Rattle.std.proofs.Math.Bool.{cond}
 use Rattle.std.specs.List.{count_by, list_any, list_all}
@@ -7,7 +7,7 @@ use Rattle.std.proofs.lemmas.Bool.{cases_Bool, and_parts, or_cases, or_left, or_
 use Rattle.address_map.specs.Zone.{first_zone, no_zone}
 use Rattle.address_map.specs.declared.zone.Zone.{Zone}
 
--- a zone is one of a list
+-- a zone is a member of the list
 abbrev pub In : Zone → List Zone → Type 0
 In z [] = ⊥
 In z (x ∷ xs) = (x ≡ z) ⊎ In z xs
@@ -36,7 +36,7 @@ count-some p (x ∷ xs) z i e = elim (cases_Bool (p x)) [
   ]
 ]
 
--- where at most one zone passes, it is the first
+-- if at most one zone passes, the first that passes is it
 pub first_zone-only : (p : Zone → Bool) (zs : List Zone) (z : Zone) → count_by p zs ≤ 1 → In z zs → p z ≡ true → first_zone p zs ≡ z
 first_zone-only p [] z h i e = absurd i
 first_zone-only p (x ∷ xs) z h i e = elim (cases_Bool (p x)) [
@@ -50,7 +50,7 @@ first_zone-only p (x ∷ xs) z h i e = elim (cases_Bool (p x)) [
   ]
 ]
 
--- where some zone passes, the first is one of the list, and passes
+-- if some zone passes, the first that passes is in the list and passes
 pub first_zone-in : (p : Zone → Bool) (zs : List Zone) → 1 ≤ count_by p zs → In (first_zone p zs) zs
 first_zone-in p [] h = absurd (omega arith)
 first_zone-in p (x ∷ xs) h = elim (cases_Bool (p x)) [
@@ -69,7 +69,7 @@ first_zone-passes p (x ∷ xs) h = elim (cases_Bool (p x)) [
       subst (λ z. p z ≡ true) e (first_zone-passes p xs (omega (arith, count-no p x xs f)))
 ]
 
--- where no zone passes, there is none
+-- if no zone passes, the result is the empty zone
 pub first_zone-none : (p : Zone → Bool) (zs : List Zone) → ((z : Zone) → In z zs → p z ≡ false) → first_zone p zs ≡ no_zone
 first_zone-none p [] h = refl
 first_zone-none p (x ∷ xs) h =

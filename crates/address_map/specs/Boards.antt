@@ -1,13 +1,10 @@
--- Helper: the address maps of the boards (docs/BOARD.md, "Addresses"), as zones and as tables.
-use Rattle.std.specs.Prelude.{ℕ, ◌-◌, ◌%◌, if◌then◌else◌, nat_lt, List, [], ◌∷◌}
-use Rattle.address_map.specs.AddressMap.{AddressMap, map_of}
-use Rattle.address_map.specs.Zone.{upper_latch}
+-- Trusted: the address maps of the boards (docs/BOARD.md, "Addresses"), as zones.
+use Rattle.std.specs.Prelude.{ℕ, ◌-◌, if◌then◌else◌, nat_lt, List, [], ◌∷◌}
+use Rattle.address_map.specs.AddressMap.{MapView, map_of}
 use Rattle.address_map.specs.declared.cell.RamKind.TheVariants.{Work, Video, Object}
-use Rattle.address_map.specs.declared.map.Class.{Class}
 use Rattle.address_map.specs.declared.map.Input.TheVariants as inputs
 use Rattle.address_map.specs.declared.map.ReadClass.{ReadClass}
 use Rattle.address_map.specs.declared.map.ReadClass.TheVariants as reads
-use Rattle.address_map.specs.declared.map.WriteClass.TheVariants as writes
 use Rattle.address_map.specs.declared.zone.WriteUse.{WriteUse}
 use Rattle.address_map.specs.declared.zone.WriteUse.TheVariants as uses
 use Rattle.address_map.specs.declared.zone.Zone.{Zone}
@@ -18,7 +15,7 @@ zone first last read write = record { first = first; last = last; read = read; w
 abbrev pub open_zone : ℕ → ℕ → Zone
 open_zone first last = zone first last reads.Open uses.Open
 
--- the ROM from 0000 on, then the zones behind 3FFF; what lies between them is open
+-- the ROM from 0000, an open zone from its end to 3FFF, and the zones after that
 abbrev pub with_rom : ℕ → List Zone → List Zone
 with_rom rom_len behind = zone 0 (rom_len - 1) reads.Rom uses.Rom
     ∷ (if nat_lt rom_len 0x4000 then open_zone rom_len 0x3FFF ∷ behind else behind)
@@ -36,7 +33,7 @@ galaxian_zones = zone 0x4000 0x47FF (reads.Ram Work) (uses.Ram Work)
     ∷ open_zone 0x8000 0xFFFF
     ∷ []
 
--- the zones of the raised board from 4000 on: those of 4000 to 7FFF stand 4000h higher
+-- the zones of the raised board from 4000 on: those of 4000 to 7FFF, 4000h higher
 abbrev pub raised_zones : List Zone
 raised_zones = open_zone 0x4000 0x7FFF
     ∷ zone 0x8000 0x87FF (reads.Ram Work) (uses.Ram Work)
@@ -50,44 +47,10 @@ raised_zones = open_zone 0x4000 0x7FFF
     ∷ open_zone 0xC000 0xFFFF
     ∷ []
 
--- the Galaxian board's map for a ROM of this length
-unfoldable pub galaxian : ℕ → AddressMap
+-- the map of the Galaxian board for a ROM of this length
+unfoldable pub galaxian : ℕ → MapView
 galaxian rom_len = map_of (with_rom rom_len galaxian_zones) rom_len
 
--- the raised board's map for a ROM of this length
-unfoldable pub raised : ℕ → AddressMap
+-- the map of the raised board for a ROM of this length
+unfoldable pub raised : ℕ → MapView
 raised rom_len = map_of (with_rom rom_len raised_zones) rom_len
-
-abbrev pub open_class : Class
-open_class = record { read = reads.Open; write = writes.Unmapped }
-
--- the table of the Galaxian board: what an address reads and writes where the ROM has this length
-abbrev pub galaxian_class : ℕ → ℕ → Class
-galaxian_class rom_len address =
-    if nat_lt address rom_len then record { read = reads.Rom; write = writes.Rom }
-    else if nat_lt address 0x4000 then open_class
-    else if nat_lt address 0x4800 then record { read = reads.Ram Work; write = writes.Ram Work }
-    else if nat_lt address 0x5000 then open_class
-    else if nat_lt address 0x5800 then record { read = reads.Ram Video; write = writes.Ram Video }
-    else if nat_lt address 0x6000 then record { read = reads.Ram Object; write = writes.Ram Object }
-    else if nat_lt address 0x6800 then record { read = reads.Input inputs.In0; write = writes.Latch (address % 8) }
-    else if nat_lt address 0x7000 then record { read = reads.Input inputs.In1; write = writes.Latch (address % 8) }
-    else if nat_lt address 0x7800 then record { read = reads.Input inputs.In2; write = upper_latch (address % 8) }
-    else if nat_lt address 0x8000 then record { read = reads.Open; write = writes.Pitch }
-    else open_class
-
--- the table of the raised board
-abbrev pub raised_class : ℕ → ℕ → Class
-raised_class rom_len address =
-    if nat_lt address rom_len then record { read = reads.Rom; write = writes.Rom }
-    else if nat_lt address 0x4000 then open_class
-    else if nat_lt address 0x8000 then open_class
-    else if nat_lt address 0x8800 then record { read = reads.Ram Work; write = writes.Ram Work }
-    else if nat_lt address 0x9000 then open_class
-    else if nat_lt address 0x9800 then record { read = reads.Ram Video; write = writes.Ram Video }
-    else if nat_lt address 0xA000 then record { read = reads.Ram Object; write = writes.Ram Object }
-    else if nat_lt address 0xA800 then record { read = reads.Input inputs.In0; write = writes.Latch (address % 8) }
-    else if nat_lt address 0xB000 then record { read = reads.Input inputs.In1; write = writes.Latch (address % 8) }
-    else if nat_lt address 0xB800 then record { read = reads.Input inputs.In2; write = upper_latch (address % 8) }
-    else if nat_lt address 0xC000 then record { read = reads.Open; write = writes.Pitch }
-    else open_class

@@ -1,5 +1,8 @@
--- The definitions of address maps. The first line of each file says whether the word "safe" reaches it (Trusted) or not (Helper).
+-- The definitions of address maps. The first line of each file says whether `Safe` depends on it (Trusted) or not
+-- (Helper).
 pub mod AddressMap
+pub mod BoardTables
+pub mod Cell
 pub mod MapLaw
 pub mod Boards
 pub mod Class

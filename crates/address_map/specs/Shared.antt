@@ -1,23 +1,23 @@
--- Helper: the tests by which `ranges` looks at what a zone and a range share.
+-- Helper: the tests on what a zone and a range share.
 use Rattle.std.specs.Prelude.{ℕ, ◌+◌, ◌-◌, ◌%◌, Bool, true, false, ◌&&◌, nat_le, nat_lt, min, max}
 use Rattle.address_map.specs.ZoneUse.{writes_rom, writes_work}
 use Rattle.address_map.specs.declared.zone.WriteUse.{WriteUse}
 use Rattle.address_map.specs.declared.zone.WriteUse.TheVariants as uses
 use Rattle.address_map.specs.declared.zone.Zone.{Zone}
-use Rattle.intervals.specs.Range.{Interval}
+use Rattle.intervals.specs.Range.{RangeView}
 
--- the lowest and the highest address that the zone and a range may share
-abbrev pub low_in : Interval → Zone → ℕ
+-- the lower and the upper end of what the zone and a range share
+abbrev pub low_in : RangeView → Zone → ℕ
 low_in range z = max z.first range.low
 
-abbrev pub high_in : Interval → Zone → ℕ
+abbrev pub high_in : RangeView → Zone → ℕ
 high_in range z = min z.last range.high
 
-abbrev pub meets : Interval → Zone → Bool
+abbrev pub meets : RangeView → Zone → Bool
 meets range z = nat_le (low_in range z) (high_in range z)
 
--- some number from low to high is, modulo 400h, one from `from` to `end` - 1: between the differences of theirs stands a
--- multiple of 400h
+-- some number from `low` to `high` is congruent, modulo 400h, to one from `from` to `end` - 1: a multiple of 400h lies
+-- among their differences
 abbrev pub share_cell : ℕ → ℕ → ℕ → ℕ → Bool
 share_cell low high from end =
     (nat_le low high && nat_lt from end)
@@ -31,14 +31,14 @@ abbrev pub writes_enable : WriteUse → Bool
 writes_enable uses.LatchWithEnable = true
 writes_enable _ = false
 
-abbrev pub rom_in : Interval → Zone → Bool
+abbrev pub rom_in : RangeView → Zone → Bool
 rom_in range z = writes_rom z.write && meets range z
 
-abbrev pub unmapped_in : Interval → Zone → Bool
+abbrev pub unmapped_in : RangeView → Zone → Bool
 unmapped_in range z = writes_open z.write && meets range z
 
-abbrev pub enable_in : Interval → Zone → Bool
+abbrev pub enable_in : RangeView → Zone → Bool
 enable_in range z = writes_enable z.write && nat_le (low_in range z + (high_in range z + 7) % 8) (high_in range z)
 
-abbrev pub cell_in : ℕ → ℕ → Interval → Zone → Bool
+abbrev pub cell_in : ℕ → ℕ → RangeView → Zone → Bool
 cell_in from end range z = writes_work z.write && share_cell (low_in range z) (high_in range z) from end

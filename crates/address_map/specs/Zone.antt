@@ -1,4 +1,4 @@
--- Trusted: what one zone of an address map holds, and what its addresses read and write.
+-- Trusted: the addresses of a zone and their class.
 use Rattle.std.specs.Prelude.{ℕ, ◌%◌, Bool, ◌&&◌, nat_le, ◌==◌, if◌then◌else◌, List, [], ◌∷◌}
 use Rattle.address_map.specs.declared.map.Class.{Class}
 use Rattle.address_map.specs.declared.map.ReadClass.TheVariants as reads
@@ -12,11 +12,11 @@ use Rattle.address_map.specs.declared.zone.Zone.{Zone}
 abbrev pub in_zone : ℕ → Zone → Bool
 in_zone address z = nat_le z.first address && nat_le address z.last
 
--- the latch of a number from 0 to 7 in a zone with the NMI enable, which is number 1
+-- the latch with this number, 0 to 7, in a zone with the NMI enable, which is number 1
 abbrev pub upper_latch : ℕ → WriteClass
 upper_latch number = if number == 1 then writes.NmiEnable else writes.Latch number
 
--- what an address writes in a zone of this use
+-- the class of an address for writing, in a zone with this use
 abbrev pub write_class : WriteUse → ℕ → WriteClass
 write_class uses.Rom address = writes.Rom
 write_class (uses.Ram ram) address = writes.Ram ram
@@ -25,15 +25,15 @@ write_class uses.LatchWithEnable address = upper_latch (address % 8)
 write_class uses.Pitch address = writes.Pitch
 write_class uses.Open address = writes.Unmapped
 
--- what an address of the zone reads and writes
+-- the class of an address of the zone
 abbrev pub class_in : Zone → ℕ → Class
 class_in z address = record { read = z.read; write = write_class z.write address }
 
--- a zone that holds no address, and is open
+-- an empty, open zone
 abbrev pub no_zone : Zone
 no_zone = record { first = 1; last = 0; read = reads.Open; write = uses.Open }
 
--- the first zone that passes a test; one without addresses where there is none
+-- the first zone that passes a test, or an empty zone
 abbrev pub first_zone : (Zone → Bool) → List Zone → Zone
 first_zone test [] = no_zone
 first_zone test (z ∷ zs) = if test z then z else first_zone test zs

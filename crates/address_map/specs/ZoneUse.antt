@@ -1,4 +1,4 @@
--- Helper: what is asked of the zones of a map.
+-- Helper: the rules on single zones of a map.
 use Rattle.std.specs.Prelude.{ℕ, ◌+◌, ◌%◌, ◌/◌, Bool, true, false, not, ◌&&◌, ◌||◌, nat_le, ◌==◌}
 use Rattle.address_map.specs.declared.cell.RamKind.{RamKind}
 use Rattle.address_map.specs.declared.cell.RamKind.TheVariants.{Work, Video, Object}
@@ -8,7 +8,7 @@ use Rattle.address_map.specs.declared.zone.WriteUse.{WriteUse}
 use Rattle.address_map.specs.declared.zone.WriteUse.TheVariants as uses
 use Rattle.address_map.specs.declared.zone.Zone.{Zone}
 
--- whether an address with these eight high bits may lie in the zone
+-- whether the zone may contain an address with these eight high bits
 abbrev pub reaches : ℕ → Zone → Bool
 reaches page z = nat_le (z.first / 0x100) page && nat_le page (z.last / 0x100)
 
@@ -18,7 +18,7 @@ same_kind Video Video = true
 same_kind Object Object = true
 same_kind _ _ = false
 
--- the zone names a RAM kind for reading and for writing, the same, or for neither
+-- the zone names the same RAM for reading and for writing, or no RAM
 abbrev pub one_ram : ReadClass → WriteUse → Bool
 one_ram (reads.Ram read) (uses.Ram written) = same_kind read written
 one_ram (reads.Ram read) _ = false
@@ -37,8 +37,8 @@ writes_work _ = false
 abbrev pub names_work : Zone → Bool
 names_work z = reads_work z.read || writes_work z.write
 
--- what is asked of each zone's RAM: one kind for both; where it is work RAM, a first address that is a multiple of
--- 400h and at least 400h addresses
+-- The rule on each zone's RAM: one RAM for both. Work RAM also begins at a multiple of 400h and has at least 400h
+-- addresses.
 abbrev pub fits_ram : Zone → Bool
 fits_ram z =
     one_ram z.read z.write && (not (names_work z) || (z.first % 0x400 == 0 && nat_le (z.first + 0x400) (z.last + 1)))
@@ -55,7 +55,7 @@ writes_rom _ = false
 abbrev pub names_rom : Zone → Bool
 names_rom z = reads_rom z.read || writes_rom z.write
 
--- what is asked of a zone that names the ROM: that it is ROM for both, from 0000 to the ROM's last byte
+-- the rule on a zone that names the ROM: ROM for both, from 0000 to the ROM's last byte
 abbrev pub fits_rom : ℕ → Zone → Bool
 fits_rom rom_len z =
     not (names_rom z) || ((reads_rom z.read && writes_rom z.write) && (z.first == 0 && z.last + 1 == rom_len))

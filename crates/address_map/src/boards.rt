@@ -1,4 +1,4 @@
-// The address maps of the Galaxian board and of the raised one.
+// The address maps of the Galaxian and of the raised board.
 ghost use Rattle.std.specs.Prelude.{◌≡◌, ◌≤◌, length};
 ghost use Rattle.address_map.specs.Boards.{galaxian, raised, galaxian_zones, raised_zones, with_rom};
 
@@ -8,7 +8,6 @@ use crate::rom::ROM_LIMIT;
 use crate::zone::{WriteUse, Zone};
 use arrayvec::ArrayVec;
 
-/// A zone of these addresses.
 fn zone(first: u16, last: u16, read: ReadClass, write: WriteUse) -> Zone
     ensures { result ≡ record { first = first; last = last; read = read; write = write } }
 {
@@ -20,28 +19,46 @@ fn zone(first: u16, last: u16, read: ReadClass, write: WriteUse) -> Zone
     }
 }
 
-/// A zone that is open.
+/// An open zone.
 fn open(first: u16, last: u16) -> Zone
-    ensures { result ≡ record { first = first; last = last; read = ReadClass.Open; write = WriteUse.Open } }
+    ensures { result ≡ record {
+      first = first;
+      last = last;
+      read = ReadClass.Open;
+      write =
+          WriteUse.Open;
+    } }
 {
     zone(first, last, ReadClass::Open, WriteUse::Open)
 }
 
-/// A zone of one RAM.
+/// A zone of one RAM, for reading and writing.
 fn ram(first: u16, last: u16, kind: RamKind) -> Zone
-    ensures { result ≡ record { first = first; last = last; read = ReadClass.Ram kind; write = WriteUse.Ram kind } }
+    ensures { result ≡ record {
+      first = first;
+      last = last;
+      read = ReadClass.Ram kind;
+      write =
+          WriteUse.Ram kind;
+    } }
 {
     zone(first, last, ReadClass::Ram(kind), WriteUse::Ram(kind))
 }
 
 /// A zone that reads an input.
 fn input(first: u16, last: u16, input: Input, write: WriteUse) -> Zone
-    ensures { result ≡ record { first = first; last = last; read = ReadClass.Input input; write = write } }
+    ensures { result ≡ record {
+      first = first;
+      last = last;
+      read = ReadClass.Input input;
+      write =
+          write;
+    } }
 {
     zone(first, last, ReadClass::Input(input), write)
 }
 
-/// The zones of the Galaxian board from 4000 on.
+/// The zones of the Galaxian board from 4000 to FFFF.
 fn galaxian_zones() -> [Zone; 9]
     ensures { result ≡ galaxian_zones }
 {
@@ -58,7 +75,7 @@ fn galaxian_zones() -> [Zone; 9]
     ]
 }
 
-/// The zones of the raised board from 4000 on.
+/// The zones of the raised board from 4000 to FFFF.
 fn raised_zones() -> [Zone; 10]
     ensures { result ≡ raised_zones }
 {
@@ -76,7 +93,7 @@ fn raised_zones() -> [Zone; 10]
     ]
 }
 
-/// The ROM from 0000 on, what is open between it and 3FFF, and the zones behind.
+/// The ROM from 0000, an open zone from its end to 3FFF, and the zones after that.
 fn with_rom(rom_len: u16, behind: &[Zone]) -> ArrayVec<Zone, 16>
     requires some { 1 ≤ rom_len }
     requires fits { length behind.now ≤ 14 }
@@ -94,7 +111,7 @@ fn with_rom(rom_len: u16, behind: &[Zone]) -> ArrayVec<Zone, 16>
 }
 
 impl Map {
-    /// The Galaxian board's map for a ROM of 1 to 16,384 bytes.
+    /// The map of the Galaxian board for a ROM of 1 to 16,384 bytes (docs/BOARD.md, "Addresses").
     pub fn galaxian(rom_len: u16) -> Map
         requires some { 1 ≤ rom_len }
         requires fits { rom_len ≤ 0x4000 }
@@ -104,8 +121,8 @@ impl Map {
         Map::made(with_rom(rom_len, &galaxian_zones()), rom_len)
     }
 
-    /// The raised board's map for a ROM of 1 to 16,384 bytes: this project's own, with all that the Galaxian board has
-    /// from 4000 to 7FFF standing 4000h higher.
+    /// The map of the raised board for a ROM of 1 to 16,384 bytes. The board is this project's own: what the Galaxian
+    /// board has from 4000 to 7FFF is 4000h higher (docs/BOARD.md, "Addresses").
     pub fn raised(rom_len: u16) -> Map
         requires some { 1 ≤ rom_len }
         requires fits { rom_len ≤ 0x4000 }

@@ -1,4 +1,4 @@
-// The RAMs of a board, and one byte of them.
+// The RAMs of a board and their cells.
 ghost use Rattle.std.specs.Prelude.{◌≡◌, ℕ, ◌<◌};
 ghost use Rattle.address_map.specs.RamKind.{size_of};
 ghost use Rattle.address_map.specs.ZoneUse.{same_kind};
@@ -8,16 +8,16 @@ use std::marker::Model;
 /// One of the three RAMs of the board (docs/BOARD.md, "Addresses").
 #[derive(Clone, Copy, PartialEq, Eq)]
 pub enum RamKind {
-    /// 1,024 bytes that hold the stack and the variables.
+    /// 1,024 bytes for the stack and the variables.
     Work,
-    /// 1,024 bytes of the picture.
+    /// 1,024 bytes of picture.
     Video,
-    /// 256 bytes of sprites and columns.
+    /// 256 bytes of sprites and column attributes.
     Object,
 }
 
 impl RamKind {
-    /// How many bytes the RAM has: 1,024 or 256.
+    /// The size of the RAM in bytes, 1,024 or 256.
     pub fn size(self) -> u16
         ensures { result ≡ size_of self }
     {
@@ -27,7 +27,7 @@ impl RamKind {
         }
     }
 
-    /// Whether this is the same RAM as another.
+    /// Whether both are the same RAM.
     pub(crate) fn is(self, other: RamKind) -> bool
         ensures { result ≡ same_kind self other }
     {
@@ -40,7 +40,7 @@ impl RamKind {
     }
 }
 
-/// One byte of RAM: its RAM, and its number there from 0.
+/// A cell: one byte of a RAM. Its index counts from 0.
 #[derive(Drop)]
 pub struct Cell {
     ram: RamKind,
@@ -61,7 +61,7 @@ impl Model for Cell {
 }
 
 impl Cell {
-    /// The cell of a RAM with a number below the RAM's size.
+    /// The cell of a RAM at an index, which must be below the RAM's size.
     pub fn new(ram: RamKind, index: u16) -> Cell
         requires { index < size_of ram }
         ensures { result ≡ (ram, index) }
@@ -69,14 +69,14 @@ impl Cell {
         Cell { ram, index }
     }
 
-    /// The RAM that the cell is of.
+    /// The cell's RAM.
     pub fn ram(&self) -> RamKind
         ensures { result ≡ self.now.0 }
     {
         self.ram
     }
 
-    /// The number of the cell in its RAM, from 0.
+    /// The index of the cell in its RAM, from 0.
     pub fn index(&self) -> u16
         ensures value { result ≡ self.now.1 }
         ensures in_range { result < size_of self.now.0 }

@@ -1,4 +1,4 @@
-// The address map of a board (docs/BOARD.md): its zones, what each address reads and writes, the cells of RAM, and the
+// The address map of a board (docs/BOARD.md, "Addresses"): zones, the class of each address, the cells of RAM, and the
 // ROM with its starts.
 #![tactic(auto)]
 

@@ -1,15 +1,15 @@
-// What is asked of a list of zones.
+// Searches and counts in lists of zones.
 ghost use Rattle.std.specs.Prelude.{◌≡◌, ◌≢◌, ◌≤◌, ◌<◌, ◌/◌, nat_lt, true, get_or};
 ghost use Rattle.std.specs.List.{count_by, list_all};
 ghost use Rattle.address_map.specs.MapLaw.{OneZoneBelow, zones_at, has_work, has_rom};
-ghost use Rattle.address_map.specs.Pages.{IsTable};
+ghost use Rattle.address_map.specs.Pages.{ArePages};
 ghost use Rattle.address_map.specs.Zone.{first_zone, in_zone, class_in, no_zone};
 ghost use Rattle.address_map.specs.ZoneUse.{names_work, names_rom, fits_ram, fits_rom, reaches};
 
 use crate::map::Class;
 use crate::zone::Zone;
 
-/// In how many zones an address lies.
+/// The number of zones that contain an address.
 #[tactic(auto, unfolding(crate::specs::MapLaw::zones_at))]
 pub(crate) fn zones_at(zones: &[Zone], address: u16) -> usize
     ensures { result ≡ zones_at zones.now address }
@@ -17,12 +17,13 @@ pub(crate) fn zones_at(zones: &[Zone], address: u16) -> usize
     zones.iter().filter(|zone| zone.holds(address)).count()
 }
 
-/// The lower of two addresses, of which the second is or is not in exactly one zone; 10000h stands for none.
+/// `address` if it is below `least` and not in exactly one zone, else `least`. 10000h means none.
 fn earlier_fault(zones: &[Zone], least: u32, address: u32) -> u32
     requires least { least ≤ 0x10000 }
     ensures least { result ≤ least }
     ensures here { address < result → zones_at zones.now address ≡ 1 }
-    ensures kept { (least < 0x10000 → zones_at zones.now least ≢ 1) → result < 0x10000 → zones_at zones.now result ≢ 1 }
+    ensures kept { (least < 0x10000 → zones_at zones.now least ≢ 1) → result < 0x10000
+        → zones_at zones.now result ≢ 1 }
 {
     if address < least && zones_at(zones, address as u16) != 1 {
         address
@@ -31,8 +32,8 @@ fn earlier_fault(zones: &[Zone], least: u32, address: u32) -> u32
     }
 }
 
-/// The lowest address that does not lie in exactly one zone; 10000h where each does. Where the number of zones changes
-/// from an address to the next, a zone begins there or has just ended, so that only these addresses are looked at.
+/// The lowest address that is not in exactly one zone, or 10000h. The number of zones changes only where a zone begins
+/// or just after one ends, so only these addresses are tested.
 pub(crate) fn first_fault(zones: &[Zone]) -> u32
     ensures within { result ≤ 0x10000 }
     ensures below { OneZoneBelow zones.now result }
@@ -47,21 +48,21 @@ pub(crate) fn first_fault(zones: &[Zone]) -> u32
     least
 }
 
-/// How many zones name work RAM.
+/// The number of zones that name work RAM.
 fn count_work(zones: &[Zone]) -> usize
     ensures { result ≡ count_by names_work zones.now }
 {
     zones.iter().filter(|zone| zone.names_work()).count()
 }
 
-/// Whether each zone's RAM is as it must be.
+/// Whether the RAM of each zone obeys the rules of a map.
 fn all_fit_ram(zones: &[Zone]) -> bool
     ensures { result ≡ list_all fits_ram zones.now }
 {
     zones.iter().all(|zone| zone.fits_ram())
 }
 
-/// Whether there is work RAM as there must be.
+/// Whether work RAM obeys the rules of a map.
 #[tactic(auto, unfolding(crate::specs::MapLaw::has_work))]
 pub(crate) fn has_work(zones: &[Zone]) -> bool
     ensures { result ≡ has_work zones.now }
@@ -69,21 +70,21 @@ pub(crate) fn has_work(zones: &[Zone]) -> bool
     count_work(zones) == 1 && all_fit_ram(zones)
 }
 
-/// How many zones name the ROM.
+/// The number of zones that name the ROM.
 fn count_rom(zones: &[Zone]) -> usize
     ensures { result ≡ count_by names_rom zones.now }
 {
     zones.iter().filter(|zone| zone.names_rom()).count()
 }
 
-/// Whether each zone that names the ROM is as it must be for a ROM of this length.
+/// Whether each zone that names the ROM is right for this length.
 fn all_fit_rom(zones: &[Zone], rom_len: u16) -> bool
     ensures { result ≡ list_all (fits_rom rom_len) zones.now }
 {
     zones.iter().all(|zone| zone.fits_rom(rom_len))
 }
 
-/// Whether there is a ROM of this length as there must be.
+/// Whether the ROM obeys the rules of a map.
 #[tactic(auto, unfolding(crate::specs::MapLaw::has_rom))]
 pub(crate) fn has_rom(zones: &[Zone], rom_len: u16) -> bool
     ensures { result ≡ has_rom rom_len zones.now }
@@ -91,7 +92,7 @@ pub(crate) fn has_rom(zones: &[Zone], rom_len: u16) -> bool
     count_rom(zones) == 1 && all_fit_rom(zones, rom_len)
 }
 
-/// The first zone that names work RAM; one without addresses where there is none.
+/// The first zone that names work RAM, or an empty zone.
 pub(crate) fn first_work(zones: &[Zone]) -> Zone
     ensures { result ≡ first_zone names_work zones.now }
 {
@@ -103,7 +104,7 @@ pub(crate) fn first_work(zones: &[Zone]) -> Zone
     Zone::default()
 }
 
-/// What an address reads and writes by the first of these zones that holds it; by none, it is open.
+/// The class of an address in the first zone that contains it; open without one.
 fn class_among(zones: &[Zone], address: u16) -> Class
     ensures { result ≡ class_in (first_zone (in_zone address) zones.now) address }
 {
@@ -115,7 +116,7 @@ fn class_among(zones: &[Zone], address: u16) -> Class
     Zone::default().class(address)
 }
 
-/// The first zone that may hold an address, by the table.
+/// The page table's zone for an address.
 #[inline]
 fn zone_by(pages: &[Zone; 256], address: u16) -> &Zone
     ensures { result.now ≡ get_or pages.now (address / 0x100) no_zone }
@@ -123,12 +124,11 @@ fn zone_by(pages: &[Zone; 256], address: u16) -> &Zone
     &pages[usize::from(address / 0x100)]
 }
 
-/// What an address reads and writes by the first of these zones that holds it; by none, it is open. The first zone that
-/// may hold it mostly does, and the table has it.
+/// The class of an address in the first zone that contains it; open without one. The page table mostly has that zone.
 #[inline]
 #[tactic(auto, using(crate::proofs::PageLemmas::table_says, crate::proofs::PageLemmas::first_of_page))]
 pub(crate) fn class_by(zones: &[Zone], pages: &[Zone; 256], address: u16) -> Class
-    requires { IsTable zones.now pages.now }
+    requires { ArePages zones.now pages.now }
     ensures { result ≡ class_in (first_zone (in_zone address) zones.now) address }
 {
     let zone = zone_by(pages, address);
@@ -139,7 +139,7 @@ pub(crate) fn class_by(zones: &[Zone], pages: &[Zone; 256], address: u16) -> Cla
     }
 }
 
-/// The first zone that may hold an address with these eight high bits; one without addresses where none may.
+/// The first zone that may contain an address with these eight high bits, or an empty zone.
 fn first_reaching(zones: &[Zone], page: u16) -> Zone
     ensures { result ≡ first_zone (reaches page) zones.now }
 {
@@ -151,9 +151,9 @@ fn first_reaching(zones: &[Zone], page: u16) -> Zone
     Zone::default()
 }
 
-/// The table by the high bits of an address.
+/// The page table: for each eight high bits of an address, the first zone that may contain it.
 pub(crate) fn pages_of(zones: &[Zone]) -> [Zone; 256]
-    ensures { IsTable zones.now result }
+    ensures { ArePages zones.now result }
 {
     let mut pages = [Zone::default(); 256];
     for page in 0..256u16 {

@@ -1,8 +1,9 @@
-// The address map of a board: zones, of which each address lies in exactly one.
+// The address map of a board: zones that contain each address exactly once.
 ghost use Rattle.std.specs.Prelude.{◌≡◌, ◌≢◌, IfOk, IfErr, true, false};
 ghost use Rattle.address_map.specs.AddressMap.{map_of};
 ghost use Rattle.address_map.specs.MapLaw.{IsMap, IsFirstFault};
-ghost use Rattle.address_map.specs.Class.{class_of, cell_of};
+ghost use Rattle.address_map.specs.Class.{class_of};
+ghost use Rattle.address_map.specs.Cell.{cell_of};
 ghost use Rattle.address_map.specs.WorkRam.{work_class, work_start};
 ghost use Rattle.address_map.specs.declared.cell.RamKind.TheVariants as rams;
 ghost use Rattle.address_map.specs.declared.map.WriteClass.TheVariants as writes;
@@ -14,8 +15,8 @@ use crate::zone::Zone;
 use arrayvec::ArrayVec;
 use std::marker::Model;
 
-/// The address map of a board, at most 16 zones: each address from 0000 to FFFF lies in exactly one of them, one of
-/// them is the ROM and one is work RAM.
+/// The address map of a board: at most 16 zones, and each address from 0000 to FFFF lies in exactly one. One zone is
+/// the ROM and one is work RAM.
 #[derive(Drop)]
 pub struct Map {
     work_start: u16,
@@ -26,16 +27,16 @@ pub struct Map {
 }
 
 impl Model for Map {
-    ghost use Rattle.address_map.specs.AddressMap.{AddressMap, map_of};
+    ghost use Rattle.address_map.specs.AddressMap.{MapView, map_of};
     ghost use Rattle.address_map.specs.MapLaw.{IsMap};
-    ghost use Rattle.address_map.specs.Pages.{IsTable};
+    ghost use Rattle.address_map.specs.Pages.{ArePages};
     ghost use Rattle.address_map.specs.WorkRam.{IsWork};
 
-    ghost Value = { AddressMap };
+    ghost Value = { MapView };
 
     ghost view = { λ m. map_of m.zones.items m.rom_len };
 
-    ghost invariant = { λ m. IsMap (map_of m.zones.items m.rom_len) × IsTable m.zones.items m.pages × IsWork (map_of m.zones.items m.rom_len) m.work_start m.work_last };
+    ghost invariant = { λ m. IsMap (map_of m.zones.items m.rom_len) × ArePages m.zones.items m.pages × IsWork (map_of m.zones.items m.rom_len) m.work_start m.work_last };
 }
 
 /// One of the board's three inputs.
@@ -46,33 +47,33 @@ pub enum Input {
     In2,
 }
 
-/// What an address reads.
+/// What a read of an address finds.
 #[derive(Clone, Copy, PartialEq, Eq)]
 pub enum ReadClass {
     Rom,
     Ram(RamKind),
     Input(Input),
-    /// Nothing drives the bus: the byte is the environment's.
+    /// Nothing drives the bus; the environment gives the byte.
     Open,
 }
 
-/// What an address writes.
+/// What a write to an address does.
 #[derive(Clone, Copy, PartialEq, Eq)]
 pub enum WriteClass {
-    /// A program may not write here: the ROM.
+    /// The ROM: a data write here is a trap.
     Rom,
     Ram(RamKind),
-    /// A latch with no state of its own here, by its number from 0 to 7.
+    /// A latch without state in this model, by its number, 0 to 7.
     Latch(u8),
-    /// The latch whose bit 0 lets NMIs through.
+    /// The latch with the NMI enable, in bit 0.
     NmiEnable,
-    /// The pitch of the sound, which has no state here.
+    /// The pitch of the sound, without state in this model.
     Pitch,
-    /// A program may not write here: nothing listens.
+    /// Unmapped: a data write here is a trap.
     Unmapped,
 }
 
-/// What an address reads and writes (docs/BOARD.md, "Addresses").
+/// What an address is for reading and for writing (docs/BOARD.md, "Addresses").
 #[derive(Clone, Copy, PartialEq, Eq)]
 pub struct Class {
     pub read: ReadClass,
@@ -80,11 +81,11 @@ pub struct Class {
 }
 
 impl Map {
-    /// The map of these zones for a ROM of this length, 0 to 65,535 bytes.
+    /// The map made of these zones, for a ROM of `rom_len` bytes.
     ///
     /// # Errors
     ///
-    /// The first fault of `MapFault` that fits.
+    /// The first fault, in the order of `MapFault`.
     pub fn of(zones: ArrayVec<Zone, 16>, rom_len: u16) -> Result<Map, MapFault>
         ensures ok { IfOk result (λ m. m ≡ map_of zones.items rom_len) }
         ensures law { IfOk result IsMap }
@@ -107,7 +108,7 @@ impl Map {
         }
     }
 
-    /// The map of zones that keep the law.
+    /// The map made of zones that obey the rules.
     #[tactic(auto, unfolding(crate::specs::WorkRam::work_start, crate::specs::WorkRam::work_last))]
     pub(crate) fn made(zones: ArrayVec<Zone, 16>, rom_len: u16) -> Map
         requires { IsMap (map_of zones.items rom_len) }
@@ -124,7 +125,8 @@ impl Map {
         }
     }
 
-    /// What every map is: each address from 0000 to FFFF lies in exactly one zone, one zone is work RAM, one the ROM.
+    /// A law: a map obeys its rules. Each address from 0000 to FFFF lies in exactly one zone, one zone is work RAM and
+    /// one is the ROM.
     pub fn is_map(&self)
         ensures { IsMap self.now }
     {
@@ -138,7 +140,7 @@ impl Map {
         self.zones.as_slice()
     }
 
-    /// The number of the ROM's bytes, 1 to 65,535.
+    /// The length of the ROM in bytes, 1 to 65,535.
     pub fn rom_len(&self) -> u16
         ensures { result ≡ self.now.rom_len }
     {
@@ -152,7 +154,7 @@ impl Map {
         self.work_start
     }
 
-    /// Whether an address, 0 to 65,535, is one of work RAM, for reading and for writing. It costs less than `class`.
+    /// Whether an address belongs to work RAM, for reading and writing. Faster than `class`.
     #[inline(always)]
     pub fn is_work(&self, address: u16) -> bool
         ensures work { result ≡ true → class_of self.now address ≡ work_class }
@@ -161,7 +163,7 @@ impl Map {
         self.work_start <= address && address <= self.work_last
     }
 
-    /// What an address, 0 to 65,535, reads and writes.
+    /// The class of an address.
     #[inline]
     #[tactic(auto, unfolding(crate::specs::Class::class_of))]
     pub fn class(&self, address: u16) -> Class
@@ -170,7 +172,7 @@ impl Map {
         list::class_by(self.zones.as_slice(), &self.pages, address)
     }
 
-    /// The cell of RAM that an address, 0 to 65,535, reads and writes; None where there is no RAM.
+    /// The cell of RAM that an address reads and writes, or None where there is no RAM.
     #[inline]
     pub fn cell(&self, address: u16) -> Option<Cell>
         ensures { result ≡ cell_of self.now address }

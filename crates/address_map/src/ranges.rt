@@ -1,4 +1,4 @@
-// What is asked of the addresses of a range: each question costs by zones, and none by addresses.
+// Questions about the addresses of a range. The time depends on the number of zones, not of addresses.
 ghost use Rattle.std.specs.Prelude.{◌≡◌, ◌↔◌, ◌≤◌, ◌<◌, IsTrue, min, max};
 ghost use Rattle.std.specs.List.{list_any};
 ghost use Rattle.address_map.specs.Ranges.{AllData, SomeWrite, SomeAtCell, SomeInRegion};
@@ -10,7 +10,7 @@ use crate::region::Region;
 use crate::zone::{WriteUse, Zone};
 use intervals::WordRange;
 
-/// Whether an address from `low` to `high` is the same, modulo 400h, as one from `from` to `end - 1`.
+/// Whether an address from `low` to `high` is congruent, modulo 400h, to one from `from` to `end - 1`.
 fn share_cell(low: u16, high: u16, from: u32, end: u32) -> bool
     requires from { from < 0x10000 }
     requires end { end ≤ 0x10000 }
@@ -19,42 +19,42 @@ fn share_cell(low: u16, high: u16, from: u32, end: u32) -> bool
     if low > high || from >= end {
         return false;
     }
-    // An address less one of the others is any number from low - end + 1 to high - from: 10000h is added to both, and a
-    // multiple of 400h is looked for.
+    // The differences of two such addresses are all numbers from low - end + 1 to high - from. With 10000h added to
+    // both ends, the test looks for a multiple of 400h among them.
     let most = u32::from(high) + 0x10000 - from;
     u32::from(low) + 0x10001 <= most - most % 0x400 + end
 }
 
 impl Zone {
-    /// The lowest address that the zone and a range may share.
+    /// The lower end of what the zone and a range share.
     fn low(&self, range: WordRange) -> u16
         ensures { result ≡ max self.now.first range.low }
     {
         self.first.max(range.low())
     }
 
-    /// The highest address that the zone and a range may share; they share none where it is below the lowest.
+    /// The upper end of what the zone and a range share. They share nothing if it is below the lower end.
     fn high(&self, range: WordRange) -> u16
         ensures { result ≡ min self.now.last range.high }
     {
         self.last.min(range.high())
     }
 
-    /// Whether an address of the range is of this zone, and ROM for writing.
+    /// Whether some address of the range lies in this zone and is ROM for writing.
     fn has_rom(&self, range: WordRange) -> bool
         ensures { result ≡ rom_in range self.now }
     {
         matches!(self.write, WriteUse::Rom) && self.low(range) <= self.high(range)
     }
 
-    /// Whether an address of the range is of this zone, and unmapped.
+    /// Whether some address of the range lies in this zone and is unmapped.
     fn has_unmapped(&self, range: WordRange) -> bool
         ensures { result ≡ unmapped_in range self.now }
     {
         matches!(self.write, WriteUse::Open) && self.low(range) <= self.high(range)
     }
 
-    /// Whether an address of the range is of this zone, and the NMI enable.
+    /// Whether some address of the range lies in this zone and is the NMI enable.
     fn has_enable(&self, range: WordRange) -> bool
         ensures { result ≡ enable_in range self.now }
     {
@@ -63,7 +63,8 @@ impl Zone {
             && u32::from(self.low(range)) + (high + 7) % 8 <= high
     }
 
-    /// Whether an address of the range is of this zone, and folds to a cell to which one from `from` to `end - 1` does.
+    /// Whether some address of the range lies in this zone and folds to the cell of an address from `from` to `end -
+    /// 1`.
     fn has_cell(&self, range: WordRange, from: u32, end: u32) -> bool
         requires from { from < 0x10000 }
         requires end { end ≤ 0x10000 }
@@ -75,15 +76,14 @@ impl Zone {
 }
 
 impl Map {
-    /// Whether each address of a range takes data: none is ROM or unmapped, and none folds to a cell of work RAM that one
-    /// of the region's addresses folds to.
+    /// Whether each address of the range takes data: none is ROM or unmapped, and none folds to a cell of the region.
     pub fn all_data(&self, range: WordRange, region: Region) -> bool
         ensures { IsTrue result ↔ AllData self.now range region }
     {
         !self.some_rom(range) && !self.some_unmapped(range) && !self.some_in_region(range, region)
     }
 
-    /// Whether some address of a range is ROM for writing.
+    /// Whether some address of the range is ROM for writing.
     pub fn some_rom(&self, range: WordRange) -> bool
         ensures { IsTrue result ↔ SomeWrite self.now range WriteClass.Rom }
     {
@@ -91,7 +91,7 @@ impl Map {
         any_rom(self.zones(), range)
     }
 
-    /// Whether some address of a range is unmapped for writing.
+    /// Whether some address of the range is unmapped for writing.
     pub fn some_unmapped(&self, range: WordRange) -> bool
         ensures { IsTrue result ↔ SomeWrite self.now range WriteClass.Unmapped }
     {
@@ -99,7 +99,7 @@ impl Map {
         any_unmapped(self.zones(), range)
     }
 
-    /// Whether some address of a range is the NMI enable.
+    /// Whether some address of the range is the NMI enable.
     pub fn some_enable(&self, range: WordRange) -> bool
         ensures { IsTrue result ↔ SomeWrite self.now range WriteClass.NmiEnable }
     {
@@ -107,7 +107,7 @@ impl Map {
         any_enable(self.zones(), range)
     }
 
-    /// Whether some address of a range folds to the cell of work RAM with this number modulo 400h.
+    /// Whether some address of the range folds to the cell of work RAM with the number `index` modulo 400h.
     pub fn some_at_cell(&self, range: WordRange, index: u16) -> bool
         ensures { IsTrue result ↔ SomeAtCell self.now range index }
     {
@@ -115,7 +115,7 @@ impl Map {
         any_cell(self.zones(), range, u32::from(index), u32::from(index) + 1)
     }
 
-    /// Whether some address of a range folds to a cell of work RAM that one of the region's addresses folds to.
+    /// Whether some address of the range folds to the same cell of work RAM as an address of the region.
     pub fn some_in_region(&self, range: WordRange, region: Region) -> bool
         ensures { IsTrue result ↔ SomeInRegion self.now range region }
     {

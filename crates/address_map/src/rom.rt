@@ -3,10 +3,10 @@ ghost use Rattle.std.specs.Prelude.{◌≡◌, ◌≤◌, ◌<◌, ◌↔◌, le
 
 use std::marker::Model;
 
-/// The most bytes that a ROM has.
+/// The greatest length of a ROM in bytes.
 pub const ROM_LIMIT: u16 = 0x4000;
 
-/// The bytes of a ROM, lent: 1 to 16,384 of them, from address 0000 on.
+/// A ROM that borrows its bytes: 1 to 16,384, at the addresses from 0000 on.
 #[derive(Drop)]
 pub struct Rom<'a> {
     bytes: &'a [u8],
@@ -23,7 +23,7 @@ impl<'a> Model for Rom<'a> {
 }
 
 impl<'a> Rom<'a> {
-    /// Lends 1 to 16,384 bytes as a ROM; None for any other number.
+    /// A ROM that borrows these bytes, or None if they are not 1 to 16,384.
     pub fn of(bytes: &'a [u8]) -> Option<Rom<'a>>
         ensures fits { IsSome result ↔ ((1 ≤ length bytes.now) × (length bytes.now ≤ 0x4000)) }
         ensures value { IfSome result (λ rom. rom ≡ bytes.now) }
@@ -35,7 +35,7 @@ impl<'a> Rom<'a> {
         }
     }
 
-    /// How many bytes the ROM has, 1 to 16,384.
+    /// The length of the ROM in bytes, 1 to 16,384.
     pub fn len(&self) -> u16
         ensures value { result ≡ length self.now }
         ensures some { 1 ≤ result }
@@ -44,7 +44,7 @@ impl<'a> Rom<'a> {
         self.bytes.len() as u16
     }
 
-    /// The bytes from an address, 0 to 65,535, to the ROM's end; none from behind the end on.
+    /// The bytes from an address to the ROM's end; empty past the end.
     pub fn bytes_from(&self, address: u16) -> &'a [u8]
         ensures { result.now ≡ drop address self.now }
     {

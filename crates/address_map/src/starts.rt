@@ -1,10 +1,10 @@
-// The addresses at which instructions start.
+// Starts: the addresses where instructions may start.
 ghost use Rattle.std.specs.Prelude.{◌≡◌, ◌≢◌, ◌<◌, ℕ, false, true};
 ghost use Rattle.address_map.specs.Starts.{is_start};
 
 use std::marker::Model;
 
-/// A set of addresses below 4000h, at which instructions start, in fixed room.
+/// A set of addresses below 4000h where instructions may start. It has a fixed size.
 #[derive(Drop)]
 pub struct Starts {
     flags: [bool; 0x4000],
@@ -28,16 +28,17 @@ impl Starts {
         }
     }
 
-    /// Adds an address below 4000h.
+    /// Adds an address, which must be below 4000h.
     pub fn insert(&mut self, address: u16)
         requires { address < 0x4000 }
         ensures added { is_start self.new address ≡ true }
-        ensures others { (other : ℕ) → other ≢ address → is_start self.new other ≡ is_start self.old other }
+        ensures others { (other : ℕ) → other ≢ address
+            → is_start self.new other ≡ is_start self.old other }
     {
         self.flags[usize::from(address)] = true;
     }
 
-    /// Whether an address, 0 to 65,535, is in the set.
+    /// Whether an address is in the set.
     pub fn contains(&self, address: u16) -> bool
         ensures { result ≡ is_start self.now address }
     {

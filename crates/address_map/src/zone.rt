@@ -1,4 +1,4 @@
-// A zone of an address map: its addresses, and what they are for reading and for writing.
+// Zones of an address map.
 ghost use Rattle.std.specs.Prelude.{◌≡◌, ◌<◌};
 ghost use Rattle.address_map.specs.Zone.{in_zone, class_in, write_class, upper_latch, no_zone};
 ghost use Rattle.address_map.specs.ZoneUse.{reaches, names_work, fits_ram, names_rom, fits_rom};
@@ -9,21 +9,21 @@ use crate::map::{Class, ReadClass, WriteClass};
 /// What a zone is for writing.
 #[derive(Clone, Copy, PartialEq, Eq)]
 pub enum WriteUse {
-    /// A program may not write here: the ROM.
+    /// The ROM: a data write here is a trap.
     Rom,
     Ram(RamKind),
-    /// Latches with no state here, by the address modulo 8.
+    /// Latches without state in this model, numbered by the address modulo 8.
     Latch,
-    /// The same, but the latch with number 1 lets NMIs through.
+    /// The same, but latch number 1 is the NMI enable.
     LatchWithEnable,
-    /// The pitch of the sound, which has no state here.
+    /// The pitch of the sound, without state in this model.
     Pitch,
-    /// A program may not write here: nothing listens.
+    /// Unmapped: a data write here is a trap.
     Open,
 }
 
-/// The addresses from `first` to `last`, both included, each 0 to 65,535, and what they are for reading and for
-/// writing. Where `first` is above `last` the zone holds no address.
+/// The addresses from `first` to `last`, both included, with one use for reading and one for writing. If `first` is
+/// above `last`, the zone is empty.
 #[derive(Clone, Copy, PartialEq, Eq)]
 pub struct Zone {
     pub first: u16,
@@ -35,7 +35,7 @@ pub struct Zone {
 impl Default for Zone {
     ghost is_default = { λ z. z ≡ no_zone };
 
-    /// A zone that holds no address, and is open.
+    /// An empty, open zone.
     fn default() -> Zone {
         Zone {
             first: 1,
@@ -47,7 +47,7 @@ impl Default for Zone {
 }
 
 impl Zone {
-    /// Whether an address, 0 to 65,535, lies in the zone.
+    /// Whether an address lies in the zone.
     #[inline]
     pub fn holds(&self, address: u16) -> bool
         ensures { result ≡ in_zone address self.now }
@@ -55,7 +55,7 @@ impl Zone {
         self.first <= address && address <= self.last
     }
 
-    /// What an address of the zone, 0 to 65,535, reads and writes.
+    /// The class of an address of the zone.
     #[inline]
     pub fn class(&self, address: u16) -> Class
         ensures { result ≡ class_in self.now address }
@@ -76,14 +76,14 @@ impl Zone {
         }
     }
 
-    /// Whether an address with these eight high bits may lie in the zone.
+    /// Whether the zone may contain an address with these eight high bits.
     pub(crate) fn reaches(&self, page: u16) -> bool
         ensures { result ≡ reaches page self.now }
     {
         self.first / 0x100 <= page && page <= self.last / 0x100
     }
 
-    /// Whether the zone names work RAM.
+    /// Whether the zone names work RAM for reading or for writing.
     pub(crate) fn names_work(&self) -> bool
         ensures { result ≡ names_work self.now }
     {
@@ -91,7 +91,7 @@ impl Zone {
             || matches!(self.write, WriteUse::Ram(RamKind::Work))
     }
 
-    /// Whether the zone's RAM is as it must be in a map.
+    /// Whether the RAM of the zone obeys the rules of a map.
     pub(crate) fn fits_ram(&self) -> bool
         ensures { result ≡ fits_ram self.now }
     {
@@ -106,14 +106,14 @@ impl Zone {
                     && u32::from(self.first) + 0x400 <= u32::from(self.last) + 1))
     }
 
-    /// Whether the zone names the ROM.
+    /// Whether the zone names the ROM for reading or for writing.
     pub(crate) fn names_rom(&self) -> bool
         ensures { result ≡ names_rom self.now }
     {
         matches!(self.read, ReadClass::Rom) || matches!(self.write, WriteUse::Rom)
     }
 
-    /// Whether the zone, where it names the ROM, is as it must be for a ROM of this length.
+    /// Whether the zone, if it names the ROM, is right for a ROM of this length.
     pub(crate) fn fits_rom(&self, rom_len: u16) -> bool
         ensures { result ≡ fits_rom rom_len self.now }
     {

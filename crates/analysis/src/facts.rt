@@ -1,10 +1,10 @@
-// The facts that are put on the rows of an address.
+// The annotated facts that hold at an address.
 
 use abs_state::AbsState;
 use annotations::FactNote;
 use loop_bounds::{Linear, Variable};
 
-/// The facts at an address.
+/// The facts at an address. The facts have to be sorted by address.
 pub fn facts_at(facts: &[FactNote], address: u16) -> &[FactNote] {
     let first = facts.partition_point(|fact| fact.at < address);
     let behind = facts.partition_point(|fact| fact.at <= address);
@@ -15,7 +15,7 @@ pub fn facts_at(facts: &[FactNote], address: u16) -> &[FactNote] {
     }
 }
 
-/// Whether a linear names no slot from this number on.
+/// Whether each slot that a linear names has a number below `slots`.
 pub fn names_slots_below(linear: &Linear, slots: usize) -> bool {
     linear.terms().iter().all(|term| match term.variable {
         Variable::Slot(number, _) => usize::from(number.number()) < slots,
@@ -23,7 +23,8 @@ pub fn names_slots_below(linear: &Linear, slots: usize) -> bool {
     })
 }
 
-/// Tightens a state by those of some facts that name none but its slots, once each and in their order, up to one that leaves nothing.
+/// Tightens a state by facts, each once and in their order. A fact that names a slot which the state does not have is
+/// left out; the first fact that leaves nothing ends it.
 pub(crate) fn tighten_by(facts: &[FactNote], state: &mut AbsState) {
     for note in facts {
         if names_slots_below(&note.fact, state.shape.len()) && !state.tighten(&note.fact) {

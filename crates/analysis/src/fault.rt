@@ -6,10 +6,9 @@ use thiserror::Error;
 /// Why an analysis ends early.
 #[derive(Clone, Copy, Debug, Error, PartialEq, Eq)]
 pub enum FlowFault {
-    /// There are more rows or more procedures than a certificate has.
+    /// There are more rows or procedures than a certificate can have.
     #[error("a certificate has no room for it")]
     Limit,
-    /// Memory was refused.
     #[error("out of memory")]
     NoMemory,
 }

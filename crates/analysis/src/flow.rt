@@ -1,49 +1,46 @@
-// The rows that the analysis found so far, and those that wait for their ways on to be followed.
+// The worklist solver: the rows found so far, and the places that wait.
 
 ghost use Rattle.std.specs.Prelude.{◌≡◌, ◌+◌, ◌*◌};
 
 use crate::facts::facts_at;
 use crate::fault::FlowFault;
 use crate::noted::Noted;
-use crate::place::{MAIN, NMI, Place, sub_of};
+use crate::program_point::{MAIN, NMI, ProgramPoint, sub_of};
 use crate::task::Task;
 use crate::ways::ways_on;
 use abs_state::AbsState;
 use abs_step::{Next, NextKind, Nexts, Reason};
-use rom_fetch::fetch;
+use board_fetch::fetch;
+use cert_form::{PROC_LIMIT, ROW_LIMIT};
 use std::alloc::Global;
 use std::collections::{BTreeMap, BTreeSet};
+use z80_moves::NMI_ADDRESS;
 
-/// The most rows that a certificate has.
-const ROWS: usize = 65_535;
-
-/// The most procedures that a certificate has.
-const PROCS: usize = 1_024;
-
-/// More turns than there can be: each row changes at most so often that its ranges are full, and a few times more.
+/// More turns than there can be: each row changes at most 10,000 times before its ranges are full, and a few times
+/// after that.
 const TURNS: u64 = 65_535 * 12_000;
 
-/// The rows found so far, the procedures that are called, and what waits.
+/// The rows found so far, the called procedures, and the places that wait.
 #[derive(Drop)]
 pub struct Flow {
     rows: BTreeMap<u64, Noted>,
-    /// The places whose ways on are to be followed.
+    /// The places whose successors are to be computed.
     waiting: BTreeSet<u64>,
-    /// The entries of procedures that are called.
+    /// The entries of called procedures.
     entries: BTreeSet<u16>,
-    /// A procedure that is called, and the place of a call of it.
+    /// The number of a called procedure, with the place of a call of it.
     calls: BTreeSet<u128>,
-    /// The numbers of timed procedures: the NMI routine, and all that it calls.
+    /// The numbers of timed procedures: the NMI routine and all that it calls.
     timed: BTreeSet<u32>,
 }
 
-/// Room for the place of a caller.
+/// A factor that leaves room for the place of a caller.
 const CALLERS: u128 = 0x1_0000_0000_0000_0000;
 
-/// Room for the number of a procedure.
+/// A modulus for the number of a procedure.
 const PROCEDURES: u128 = 0x1_0000_0000;
 
-/// A number for a call, by which calls of one procedure stand together.
+/// A number for a call; calls of one procedure have adjacent numbers.
 fn call_number(callee: u32, caller: u64) -> u128
     ensures { result ≡ callee * 0x10000000000000000 + caller }
 {
@@ -51,11 +48,12 @@ fn call_number(callee: u32, caller: u64) -> u128
 }
 
 impl Flow {
-    /// Follows all ways on from the entries of main and of the NMI routine, if there is one.
+    /// Computes the fixpoint from the entries of main and of the NMI routine, if there is one (docs/ANALYSIS.md,
+    /// "Rows").
     ///
     /// # Errors
     ///
-    /// `Limit` where there are more than 65,535 rows or 1,024 procedures; `NoMemory` where memory was refused.
+    /// `Limit` if there are more than 65,535 rows or 1,024 procedures; `NoMemory` where memory was refused.
     pub fn run(alloc: Global, task: &Task) -> Result<Flow, FlowFault> {
         let mut flow = Flow::begin(alloc, task)?;
         for _ in 0..TURNS {
@@ -67,7 +65,7 @@ impl Flow {
         Err(FlowFault::Limit)
     }
 
-    /// The rows at the entries.
+    /// The rows at the entries, which wait.
     fn begin(alloc: Global, task: &Task) -> Result<Flow, FlowFault> {
         let mut flow = Flow {
             rows: BTreeMap::new(alloc),
@@ -76,7 +74,7 @@ impl Flow {
             calls: BTreeSet::new(alloc),
             timed: BTreeSet::new(alloc),
         };
-        let main = Place {
+        let main = ProgramPoint {
             proc: MAIN,
             address: 0,
             part: 0,
@@ -84,9 +82,9 @@ impl Flow {
         flow.arrive(task, main, &AbsState::of_main())?;
         if task.has_routine() {
             flow.timed.insert(NMI)?;
-            let nmi = Place {
+            let nmi = ProgramPoint {
                 proc: NMI,
-                address: 0x66,
+                address: NMI_ADDRESS,
                 part: 0,
             };
             flow.arrive(task, nmi, &task.routine_state())?;
@@ -94,17 +92,18 @@ impl Flow {
         Ok(flow)
     }
 
-    /// The rows by rising places.
+    /// The rows, ordered by the numbers of their places.
     pub fn rows(&self) -> &BTreeMap<u64, Noted> {
         &self.rows
     }
 
-    /// The row at a place, by its number.
+    /// The row at the place with this number.
     pub fn row(&self, number: u64) -> Option<&Noted> {
         self.rows.get(&number)
     }
 
-    /// The calls: the number of the procedure that is called, and the place of the row that calls it.
+    /// The calls: the number of the called procedure, and the place of the row that calls it. The error is refused
+    /// memory.
     pub fn calls(&self, alloc: Global) -> Result<Vec<(u32, u64)>, FlowFault> {
         let mut calls = Vec::new(alloc);
         for call in self.calls.iter() {
@@ -116,49 +115,59 @@ impl Flow {
         Ok(calls)
     }
 
-    /// The entries of procedures that are called, rising.
+    /// The entries of called procedures, rising.
     pub fn entries(&self) -> &BTreeSet<u16> {
         &self.entries
     }
 
-    /// Whether a procedure is timed.
     pub fn is_timed(&self, proc: u32) -> bool {
         self.timed.contains(&proc)
     }
 
-    /// The first row that is refused for itself, and why.
-    pub fn first_refused(&self) -> Option<(Place, Reason)> {
+    /// The first row to which a reason applies that makes it lead nowhere, with that reason.
+    pub fn first_refused(&self) -> Option<(ProgramPoint, Reason)> {
         for (number, row) in self.rows.iter() {
             if let Some(reason) = row.reason {
-                return Some((Place::of(*number), reason));
+                return Some((ProgramPoint::of(*number), reason));
             }
         }
         None
     }
 
-    /// A state comes to an address of a procedure, told apart as its place says: at a split it comes to each part that it has something of.
-    fn arrive(&mut self, task: &Task, place: Place, state: &AbsState) -> Result<(), FlowFault> {
+    /// A state comes to an address of a procedure. At a split it comes to each part that it has something of, cut to
+    /// it.
+    fn arrive(
+        &mut self,
+        task: &Task,
+        place: ProgramPoint,
+        state: &AbsState,
+    ) -> Result<(), FlowFault> {
         let Some(split) = task.split_at(place.address) else {
             let part = if task.is_until(place.address) {
                 0
             } else {
                 place.part
             };
-            return self.take(task, Place { part, ..place }, state);
+            return self.take(task, ProgramPoint { part, ..place }, state);
         };
         let mut part = 0u16;
         for range in split.parts.as_slice() {
             part = part.saturating_add(1);
             let mut cut = state.copied();
             if cut.cut_byte(split.register, *range) {
-                self.take(task, Place { part, ..place }, &cut)?;
+                self.take(task, ProgramPoint { part, ..place }, &cut)?;
             }
         }
         Ok(())
     }
 
-    /// A state comes to a row.
-    fn take(&mut self, task: &Task, place: Place, state: &AbsState) -> Result<(), FlowFault> {
+    /// A state comes to a place. If its row changes, it waits.
+    fn take(
+        &mut self,
+        task: &Task,
+        place: ProgramPoint,
+        state: &AbsState,
+    ) -> Result<(), FlowFault> {
         let number = place.number();
         let facts = facts_at(task.said().facts(), place.address);
         if let Some(row) = self.rows.get_mut(&number) {
@@ -166,7 +175,7 @@ impl Flow {
                 return Ok(());
             }
         } else {
-            if self.rows.len() >= ROWS {
+            if self.rows.len() >= ROW_LIMIT {
                 return Err(FlowFault::Limit);
             }
             self.rows.insert(number, Noted::first(state, facts))?;
@@ -175,12 +184,12 @@ impl Flow {
         Ok(())
     }
 
-    /// Follows the ways on of a row.
+    /// Computes the successors of a row.
     fn go_on(&mut self, alloc: Global, task: &Task, number: u64) -> Result<(), FlowFault> {
         let Some(row) = self.rows.get(&number) else {
             return Ok(());
         };
-        let place = Place::of(number);
+        let place = ProgramPoint::of(number);
         let state = row.state.copied();
         match ways_on(alloc, task, place, self.is_timed(place.proc), &state) {
             Ok(nexts) => {
@@ -192,14 +201,15 @@ impl Flow {
         }
     }
 
-    /// Notes the most bytes that a row has on the stack, or where it leads.
+    /// Stores the most bytes of stack that a row and its successors have.
     fn note_bytes(&mut self, number: u64, bytes: u16) {
         if let Some(row) = self.rows.get_mut(&number) {
             row.bytes = bytes;
         }
     }
 
-    /// Notes why a row is refused for itself, and how it leaves its procedure. Where that is new, the procedure's callers wait.
+    /// Stores why a row leads nowhere, and in which state it leaves its procedure. If the latter is new, the
+    /// procedure's callers wait.
     fn note(
         &mut self,
         alloc: Global,
@@ -215,10 +225,10 @@ impl Flow {
             return Ok(());
         }
         row.exit = exit;
-        self.wake_callers(alloc, Place::of(number).proc)
+        self.wake_callers(alloc, ProgramPoint::of(number).proc)
     }
 
-    /// The rows that call a procedure wait.
+    /// Lets the rows that call a procedure wait.
     fn wake_callers(&mut self, alloc: Global, callee: u32) -> Result<(), FlowFault> {
         let mut callers = Vec::new(alloc);
         for call in self
@@ -233,18 +243,18 @@ impl Flow {
         Ok(())
     }
 
-    /// The states that a row leads to come to their rows.
+    /// The states of a row's successors come to their places.
     fn lead(
         &mut self,
         alloc: Global,
         task: &Task,
-        place: Place,
+        place: ProgramPoint,
         nexts: &Nexts,
     ) -> Result<(), FlowFault> {
         for next in nexts.as_slice() {
             match next.kind {
                 NextKind::Jump => {
-                    let to = Place {
+                    let to = ProgramPoint {
                         address: next.address,
                         ..place
                     };
@@ -257,19 +267,19 @@ impl Flow {
         Ok(())
     }
 
-    /// A row calls: the callee is entered, and each of its exits comes back.
+    /// A row calls: its state comes to the callee's entry, and each exit of the callee comes back.
     fn call(
         &mut self,
         alloc: Global,
         task: &Task,
-        place: Place,
+        place: ProgramPoint,
         next: &Next,
     ) -> Result<(), FlowFault> {
         let callee = sub_of(next.address);
         self.enter(next.address)?;
         self.calls.insert(call_number(callee, place.number()))?;
         self.time_callee(alloc, place.proc, callee)?;
-        let entry = Place {
+        let entry = ProgramPoint {
             proc: callee,
             address: next.address,
             part: 0,
@@ -278,7 +288,7 @@ impl Flow {
         let Ok((_, len)) = fetch(task.rom(), place.address) else {
             return Ok(());
         };
-        let back = Place {
+        let back = ProgramPoint {
             address: place.address.wrapping_add(u16::from(len)),
             ..place
         };
@@ -288,27 +298,26 @@ impl Flow {
         Ok(())
     }
 
-    /// A procedure is called, perhaps for the first time.
+    /// Adds a called procedure.
     fn enter(&mut self, entry: u16) -> Result<(), FlowFault> {
         self.entries.insert(entry)?;
-        // Main, and perhaps the NMI routine, stand beside them.
-        if self.entries.len() >= PROCS {
+        // Main and perhaps the NMI routine come in addition to these.
+        if self.entries.len() >= PROC_LIMIT {
             return Err(FlowFault::Limit);
         }
         Ok(())
     }
 
-    /// A callee of a timed procedure is timed. Where that is new, all its rows wait.
+    /// A callee of a timed procedure is timed. If that is new, all its rows wait.
     fn time_callee(&mut self, alloc: Global, caller: u32, callee: u32) -> Result<(), FlowFault> {
         if !self.timed.contains(&caller) || self.timed.contains(&callee) {
             return Ok(());
         }
         self.timed.insert(callee)?;
         let mut rows = Vec::new(alloc);
-        for (number, _) in self
-            .rows
-            .range(Place::first_of(callee)..=Place::last_of(callee))
-        {
+        for (number, _) in self.rows.range(
+            ProgramPoint::first_of(callee)..=ProgramPoint::last_of(callee),
+        ) {
             rows.push(*number)?;
         }
         for number in rows {
@@ -322,7 +331,7 @@ impl Flow {
         let mut exits = Vec::new(alloc);
         for (_, row) in self
             .rows
-            .range(Place::first_of(proc)..=Place::last_of(proc))
+            .range(ProgramPoint::first_of(proc)..=ProgramPoint::last_of(proc))
         {
             if let Some(exit) = &row.exit {
                 exits.push(exit.copied())?;
@@ -332,7 +341,7 @@ impl Flow {
     }
 }
 
-/// The state of the exit among some ways on, or None.
+/// The state of the exit among the successors, if there is one.
 fn exit_among(nexts: &[Next]) -> Option<AbsState> {
     for next in nexts {
         if next.kind == NextKind::Exit {
@@ -342,7 +351,7 @@ fn exit_among(nexts: &[Next]) -> Option<AbsState> {
     None
 }
 
-/// The most bytes on the stack in a state and in those of some ways on.
+/// The most bytes of stack in a state and in those of its successors.
 fn bytes_among(state: &AbsState, nexts: &[Next]) -> u16 {
     let mut most = state.shape.bytes();
     for next in nexts {

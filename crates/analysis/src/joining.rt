@@ -1,11 +1,11 @@
-// States joined, and grown where they have been joined often.
+// The join and the widening of states (docs/ANALYSIS.md, "Rows").
 
 use abs_state::{AbsState, Mode, Pairs};
 use intervals::{ByteRange, Pair, WordRange};
 use stack_shape::{Shape, Slot};
 
-/// Two states joined; None where their shapes have two lengths, where one may have SP unset and the other may be interrupted, and where not all cells, of which
-/// there are so many, would be armed though an NMI may come.
+/// The join of two states. None if their shapes have two lengths, or modes `u` and `n` meet, or the join has mode `n`
+/// and fewer than `cells` armed cells.
 pub(crate) fn joined(state: &AbsState, other: &AbsState, cells: usize) -> Option<AbsState> {
     let both = state.join(other)?;
     if both.mode == Mode::Nmi && usize::from(both.armed) < cells {
@@ -14,8 +14,9 @@ pub(crate) fn joined(state: &AbsState, other: &AbsState, cells: usize) -> Option
     Some(both)
 }
 
-/// What a join made of a state, where each bound that moved goes on to its end: an upper one to the greatest, a lower one to 1, or to 0 where the join made it 0.
-/// The pairs of which a bound moved are in normal form.
+/// The widening: in the join, each bound that differs from the state before goes to its end. An upper one goes to the
+/// greatest value; a lower one goes to 1, or to 0 where the join made it 0. The pairs with a moved bound are put in
+/// normal form.
 pub(crate) fn grown(before: &AbsState, joined: &AbsState) -> AbsState {
     AbsState {
         mode: joined.mode,

@@ -1,4 +1,5 @@
-// The analysis of a ROM: which states come to each address of each procedure, found by running over all ways on until nothing new comes (docs/ANALYSIS.md).
+// The analysis of a ROM: a worklist solver that finds the states that come to each address of each procedure
+// (docs/ANALYSIS.md, "Rows").
 #![tactic(auto)]
 
 mod facts;
@@ -6,7 +7,7 @@ mod fault;
 mod flow;
 mod joining;
 mod noted;
-mod place;
+mod program_point;
 mod reasons;
 mod task;
 mod ways;
@@ -15,5 +16,5 @@ pub use facts::{facts_at, names_slots_below};
 pub use fault::FlowFault;
 pub use flow::Flow;
 pub use noted::Noted;
-pub use place::{MAIN, NMI, Place, sub_of};
+pub use program_point::{MAIN, NMI, ProgramPoint, sub_of};
 pub use task::Task;

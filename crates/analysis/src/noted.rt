@@ -6,10 +6,10 @@ use abs_state::AbsState;
 use abs_step::Reason;
 use annotations::FactNote;
 
-/// How many joins change a row before a bound that moves goes on to its end.
+/// After how many joins that changed a row its bounds are widened.
 const JOINS: u16 = 8;
 
-/// How many changes of a row there are before its ranges are full, so that the analysis ends (docs/DECISIONS.md).
+/// After how many changes of a row its ranges become full, so that the analysis ends (docs/DECISIONS.md).
 const CHANGES: u16 = 10_000;
 
 /// A row as the analysis knows it so far.
@@ -18,15 +18,15 @@ pub struct Noted {
     pub state: AbsState,
     /// The state in which the row leaves its procedure, if it does.
     pub exit: Option<AbsState>,
-    /// Why the row is refused for itself, whatever rows there are besides.
+    /// The reason that makes the row lead nowhere, if one applies.
     pub reason: Option<Reason>,
-    /// The most bytes that the row's procedure has on the stack, its return address aside, at the row or where it leads, 0 to 128.
+    /// The most bytes of slots on the stack at the row and its successors, 0 to 128; the return address is not counted.
     pub bytes: u16,
     joins: u16,
 }
 
 impl Noted {
-    /// A row that a state comes to first, tightened by the facts of its address.
+    /// The row of the first state that comes, tightened by the facts of its address.
     pub(crate) fn first(state: &AbsState, facts: &[FactNote]) -> Noted {
         let mut state = state.copied();
         tighten_by(facts, &mut state);
@@ -39,7 +39,7 @@ impl Noted {
         }
     }
 
-    /// Joins a state that comes to the row, where there are so many cells; whether that changed the row.
+    /// Joins a state that comes to the row; there are `cells` kept cells. The result is whether the row changed.
     pub(crate) fn take(&mut self, state: &AbsState, facts: &[FactNote], cells: usize) -> bool {
         let Some(both) = joined(&self.state, state, cells) else {
             return false;
@@ -56,7 +56,7 @@ impl Noted {
         true
     }
 
-    /// What a join makes of the row's state.
+    /// The row's state after a join: widened after `JOINS` joins, full after `CHANGES`, and else as the join.
     fn changed(&self, both: &AbsState, facts: &[FactNote]) -> AbsState {
         if self.joins >= CHANGES {
             return widest(both);
@@ -70,7 +70,7 @@ impl Noted {
         left
     }
 
-    /// Whether two rows leave in the same state, or neither leaves.
+    /// Whether the row's exit is the same as this one.
     pub(crate) fn leaves_as(&self, exit: &Option<AbsState>) -> bool {
         match (&self.exit, exit) {
             (None, None) => true,

@@ -1,4 +1,4 @@
-// What an analysis works on.
+// The context of an analysis.
 
 ghost use Rattle.std.specs.Prelude.{◌≡◌, ◌≤◌, length};
 
@@ -6,12 +6,10 @@ use abs_draft::Ground;
 use abs_state::{AbsState, KeptCell};
 use address_map::{Map, Rom};
 use annotations::{Annotations, SplitNote};
+use cert_form::CELL_LIMIT;
 use std::marker::Model;
 
-/// The most cells that a certificate has.
-const CELLS: usize = 256;
-
-/// A ROM, its map, and what is said of it beside.
+/// A ROM, its map and its annotations.
 #[derive(Drop)]
 pub struct Task<'a> {
     rom: &'a Rom<'a>,
@@ -22,9 +20,9 @@ pub struct Task<'a> {
 
 impl<'a> Model for Task<'a> {
     ghost use Rattle.std.specs.Prelude.{◌≡◌, ◌≤◌, length};
-    ghost use Rattle.abs_draft.specs.Ground.{Ground};
+    ghost use Rattle.abs_draft.specs.Ground.{GroundView};
 
-    ghost Value = { Ground };
+    ghost Value = { GroundView };
 
     ghost view = { λ t. record { rom = t.rom.now; map = t.map.now; cells = t.cells.now } };
 
@@ -32,12 +30,12 @@ impl<'a> Model for Task<'a> {
 }
 
 impl<'a> Task<'a> {
-    /// A ROM with its map, which has the ROM's length, and what is said of it; None where more than 256 cells are.
+    /// The task for a ROM, a map for a ROM of this length, and annotations; None if these have more than 256 cells.
     pub fn of(rom: &'a Rom<'a>, map: &'a Map, said: &'a Annotations) -> Option<Task<'a>>
         requires { map.now.rom_len ≡ length rom.now }
     {
         let cells = said.cells();
-        if cells.len() > CELLS {
+        if cells.len() > CELL_LIMIT {
             return None;
         }
         Some(Task {
@@ -48,14 +46,12 @@ impl<'a> Task<'a> {
         })
     }
 
-    /// The ROM.
     pub fn rom(&self) -> &'a Rom<'a>
         ensures { result.now ≡ self.now.rom }
     {
         self.rom
     }
 
-    /// Its map.
     pub fn map(&self) -> &'a Map
         ensures value { result.now ≡ self.now.map }
         ensures len { result.now.rom_len ≡ length self.now.rom }
@@ -63,26 +59,27 @@ impl<'a> Task<'a> {
         self.map
     }
 
-    /// What is said of it.
     pub fn said(&self) -> &'a Annotations {
         self.said
     }
 
     /// The kept cells, at most 256.
     pub fn cells(&self) -> &'a [KeptCell]
-        ensures { length result.now ≤ 256 }
+        ensures value { result.now ≡ self.now.cells }
+        ensures few { length result.now ≤ 256 }
     {
         self.cells
     }
 
-    /// What never changes beside a row.
+    /// The ground: the ROM, its map and the kept cells.
     pub(crate) fn ground(&self) -> Ground<'a>
-        ensures { length result.cells ≤ 256 }
+        ensures value { result ≡ self.now }
+        ensures cells { length result.cells ≤ 256 }
     {
         Ground::of(self.rom, self.map, self.cells)
     }
 
-    /// The split at an address, or None.
+    /// The split at an address, if there is one.
     pub fn split_at(&self, address: u16) -> Option<&'a SplitNote> {
         let splits = self.said.splits();
         let place = splits.partition_point(|split| split.at < address);
@@ -94,7 +91,7 @@ impl<'a> Task<'a> {
         }
     }
 
-    /// Whether states are told apart no longer at an address.
+    /// Whether a split ends at an address: from there on its states are one again.
     pub fn is_until(&self, address: u16) -> bool {
         self.said
             .splits()
@@ -102,7 +99,7 @@ impl<'a> Task<'a> {
             .any(|split| split.until == address)
     }
 
-    /// Whether the address is that of an inline call.
+    /// Whether the call at an address is marked inline.
     pub fn is_inline(&self, address: u16) -> bool {
         let inlines = self.said.inlines();
         let place = inlines.partition_point(|at| *at < address);
@@ -112,12 +109,12 @@ impl<'a> Task<'a> {
         }
     }
 
-    /// Whether there is an NMI routine.
+    /// Whether the annotations say that there is an NMI routine.
     pub fn has_routine(&self) -> bool {
         self.said.budget().is_some()
     }
 
-    /// What is known at the entry of the NMI routine.
+    /// The state at the entry of the NMI routine.
     pub fn routine_state(&self) -> AbsState {
         AbsState::of_nmi(self.cells.len() as u16)
     }

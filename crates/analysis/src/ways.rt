@@ -1,33 +1,36 @@
-// Where a row leads on, or why it is refused for itself.
+// The successors of a row, or why it leads nowhere.
 
-use crate::place::{MAIN, Place};
+use crate::program_point::{MAIN, ProgramPoint};
 use crate::reasons::{later_reason, place_reason};
 use crate::task::Task;
 use abs_state::AbsState;
-use abs_step::{Nexts, Reason, data_writes, successors};
+use abs_step::{Nexts, Reason, RowStep, row_step};
+use board_fetch::fetch;
 use std::alloc::Global;
 
-/// The ways on of a row that nothing is against for itself, or the lowest reason that is.
+/// The successors of a row, or the lowest of the reasons that make it lead nowhere.
 pub(crate) fn ways_on(
     alloc: Global,
     task: &Task,
-    place: Place,
+    place: ProgramPoint,
     timed: bool,
     state: &AbsState,
 ) -> Result<Nexts, Reason> {
-    let cells = task.cells();
-    let nexts = successors(
+    let (instr, len) = match fetch(task.rom(), place.address) {
+        Ok(found) => found,
+        Err(fault) => return Err(Reason::Decode(fault)),
+    };
+    let RowStep { writes, answer } = row_step(
         alloc,
-        task.rom(),
-        task.map(),
-        cells,
+        &task.ground(),
         place.address,
         place.proc == MAIN,
         task.is_inline(place.address),
+        &instr,
+        len,
         state,
     );
-    let writes = data_writes(alloc, task.rom(), task.map(), cells, place.address, state);
-    match nexts {
+    match answer {
         Ok(nexts) => {
             if let Some(reason) = place_reason(task, place, state, writes.as_slice()) {
                 return Err(reason);
@@ -36,6 +39,7 @@ pub(crate) fn ways_on(
                 task,
                 place,
                 timed,
+                &instr,
                 state,
                 writes.as_slice(),
                 nexts.as_slice(),

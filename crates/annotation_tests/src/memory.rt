@@ -1,5 +1,5 @@
-// Memory that is refused once, at each of the growths in turn (`tools/memory.sh annotation_tests`): the call answers `NoMemory`, and
-// the next one as if nothing had been. A refusal is told by a line.
+// Memory is refused once, at each growth in turn (`tools/memory.sh annotation_tests`). The call then answers
+// `NoMemory`, a line reports it, and the next call gives the right answer.
 
 use annotations::{AnnotationFault, Annotations};
 use std::test::Fail;

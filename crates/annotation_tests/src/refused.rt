@@ -1,10 +1,10 @@
-// Texts that are refused, and the key that is told.
+// Texts that are refused, and the key that is reported.
 
 use annotations::{AnnotationFault, Annotations};
 use std::alloc::Global;
 use std::test::Fail;
 
-/// What is no TOML.
+/// Texts that are no TOML.
 const NO_TEXTS: &[&[u8]] = &[
     b"low",
     b"low = 1\ntop = 2\nx = \"\xFF\"\n",
@@ -14,7 +14,7 @@ const NO_TEXTS: &[&[u8]] = &[
     b"\xFE",
 ];
 
-/// Whole texts, each with the key that is told.
+/// Whole texts, each with the key that is reported.
 const TEXTS: &[(&str, &str)] = &[
     ("", "low"),
     ("top = 2", "low"),
@@ -23,7 +23,7 @@ const TEXTS: &[(&str, &str)] = &[
     ("low = 1.0\ntop = 2", "low"),
     ("low = 1", "top"),
     ("low = 1\ntop = \"2\"", "top"),
-    // Every key from one on is bad, and stands behind those that come after it: the first in the order of the keys is told.
+    // All keys from one on are bad and come in reverse order; the first in the order of the keys is reported.
     (
         "a = 1\nmap = 0\ncell = 0\nloop = 0\nfact = 0\nsplit = 0\ninline = 0\nnmi = 0\ntop = -1\nlow = -1\n",
         "low",
@@ -56,10 +56,10 @@ const TEXTS: &[(&str, &str)] = &[
     ("a = 1\nmap = 0\nlow = 1\ntop = 1\n", "map"),
 ];
 
-/// What stands before each of the lines below.
+/// The text before each of the lines below.
 const HEAD: &str = "low = 0x4380\ntop = 0x4400\n";
 
-/// Lines behind a good head, each with the key that is told.
+/// Lines after a good head, each with the key that is reported.
 const LINES: &[(&str, &str)] = &[
     ("nmi = 1", "nmi"),
     ("nmi = \"true\"", "nmi"),
@@ -161,7 +161,7 @@ const LINES: &[(&str, &str)] = &[
         "cell",
     ),
     ("budget = 1\ninline = 0", "budget"),
-    // What is no key is told last, the lowest first.
+    // Unknown keys are reported last, the lowest first.
     ("b = 1\nZ = 1\n\"\u{e4}\" = 2\naa = 1", "Z"),
     ("b = 1\naa = 1\n\"\" = 3", ""),
     ("a = 1\nmap = 3", "map"),
@@ -176,7 +176,7 @@ fn names(alloc: Global, text: &str, key: &str) -> bool {
     }
 }
 
-/// Whether this line, behind a good head, is refused with this key.
+/// Whether this line, after a good head, is refused with this key.
 fn names_behind(alloc: Global, line: &str, key: &str) -> Result<bool, Fail> {
     let mut text = String::from_str(alloc, HEAD)?;
     text.push_str(line)?;

@@ -1,4 +1,4 @@
--- The cells that the tables of an array say, one table after another.
+-- The cells that the tables of an array give, one table after another.
 use Rattle.std.proofs.Common.{◌≡◌, ℕ, ◌+◌, ◌<◌, Bool, true, nat_lt, List, [], ◌∷◌, ◌++◌, Bor, length, get_or, take, sym, subst, subst₂}
 use Rattle.std.proofs.lemmas.Fn.{always_returns_same}
 use Rattle.std.proofs.lemmas.List.{take_more}
@@ -11,7 +11,7 @@ use Rattle.annotations.specs.Said.{SayEach, SaysCell}
 use Rattle.toml.specs.View.{items_view, view}
 use Rattle.toml.specs.declared.value.Value.{Value}
 
--- one more table says one more cell
+-- one more table gives one more cell
 say_each-push : (values : List Value) (value : Value) (cells : List KeptCell) (cell : KeptCell) → SayEach (items_view values) cells → SaysCell (view value) cell →
     SayEach (items_view (values ++ value ∷ [])) (cells ++ cell ∷ [])
 say_each-push [] value [] cell before here = (here, tt)
@@ -19,7 +19,7 @@ say_each-push [] value (c ∷ cells) cell before here = absurd before
 say_each-push (v ∷ values) value [] cell before here = absurd before
 say_each-push (v ∷ values) value (c ∷ cells) cell before here = (before.0, say_each-push values value cells cell before.1 here)
 
--- the tables up to this one and itself
+-- the tables up to this one, and this one
 pub say_each-more : (values : List Value) (i : ℕ) (value : Value) (cells : List KeptCell) (cell : KeptCell) → i < length values → value ≡ get_or values i value →
     SayEach (items_view (take i values)) cells → SaysCell (view value) cell → SayEach (items_view (take (i + 1) values)) (cells ++ cell ∷ [])
 say_each-more values i value cells cell within is before here =
@@ -27,7 +27,7 @@ say_each-more values i value cells cell within is before here =
     (sym (take_more values i value within))
     (say_each-push (take i values) (get_or values i value) cells cell before (subst (λ (v : Value). SaysCell (view v) cell) is here))
 
--- cells of which each was found below the next
+-- cells in which each was found below the next one
 pub rising_from : {F : Type 0} {g : Mut F (Bor KeptCell × (Bor KeptCell × Unit {0})) Bool} {f : F} (list cells : List KeptCell) (answer : Bool) →
     ((e : KeptCell → KeptCell → Bool) → ComputesOnPairs g e f → IsAllAdjacentAnswer (λ x y b. b ≡ e x y) list answer) →
     ((a : Bor KeptCell × (Bor KeptCell × Unit {0})) (r : Bool) (f' : F) → Called g f a r f' → (r ≡ nat_lt a.0.now.at a.1.0.now.at) × (f' ≡ f)) →

@@ -1,2 +1,3 @@
--- What the answers of annotations cite.
+-- Lemmas for the contracts of annotations.
 pub mod CellLemmas
+pub mod KeyLemmas

@@ -1,2 +1,2 @@
--- The definitions of what annotations say.
+-- Definitions of the meaning of annotations.
 pub mod Said

@@ -1,7 +1,7 @@
-// All that a programmer says of a ROM.
+// The annotations of a ROM.
 
-ghost use Rattle.std.specs.Prelude.{◌≡◌, IsUtf8, IfOk, IfSome, Err, None, Some, Ok, codes};
-ghost use Rattle.annotations.specs.Said.{Says, SaysBoard, SaysBudget, nmi_said};
+ghost use Rattle.std.specs.Prelude.{◌≡◌, Contains, IsUtf8, IfOk, IfErr, IfSome, Err, None, Some, Ok, codes};
+ghost use Rattle.annotations.specs.Said.{NamesKeyIn, NamesKeyOf, NamesOnly, Says, SaysBoard, SaysBudget, known_keys, nmi_said};
 ghost use Rattle.toml.specs.Data.{Members, get_member};
 ghost use Rattle.toml.specs.Parse.{parse_document};
 ghost use Rattle.toml.specs.View.{table_view};
@@ -15,12 +15,10 @@ use address_map::Region;
 use cert_lines::BoardMap;
 use std::alloc::Global;
 use std::marker::Model;
+use t_states::MAX_BUDGET;
 use toml::Table;
 
-/// The greatest budget of T-states that annotations can ask for, so that no NMI comes while its routine runs.
-const BUDGET_LIMIT: u16 = 50_665;
-
-/// What is said of a ROM beside its bytes (docs/ANNOTATIONS.md).
+/// What a programmer says about a ROM (docs/ANNOTATIONS.md).
 #[derive(Drop)]
 pub struct Annotations {
     region: Region,
@@ -34,26 +32,32 @@ pub struct Annotations {
 }
 
 impl Model for Annotations {
-    ghost use Rattle.annotations.specs.Said.{Said};
+    ghost use Rattle.annotations.specs.Said.{AnnotationsView};
 
-    ghost Value = { Said };
+    ghost Value = { AnnotationsView };
 
     ghost view = { λ a. record { region = a.region; budget = a.budget; board = a.board; cells = a.cells.items } };
 }
 
 impl Annotations {
-    /// Reads annotations from a TOML text (docs/ANNOTATIONS.md). Memory is taken for the text's values and for the lists.
+    /// Reads annotations from a TOML text (docs/ANNOTATIONS.md). Memory is taken for the text's values and for the
+    /// lists.
     ///
     /// # Errors
     ///
-    /// `Text` where the bytes are not in UTF-8 or no TOML; else `Key` with the first key that is missing, whose value is of a wrong
-    /// form, or that annotations do not have: first those that they have, in the order of the table, then others in the order of their
-    /// bytes. `NoMemory` where memory was refused.
+    /// `Text` if the bytes are not UTF-8 or no TOML. Else `Key` has the first key that is missing, whose value has a
+    /// wrong form, or that annotations do not have (docs/ANNOTATIONS.md, "What is refused"): first the keys of
+    /// annotations, in the order of their table, then unknown ones in the order of their bytes. `NoMemory` where memory
+    /// was refused.
     pub fn read(alloc: Global, text: &[u8]) -> Result<Annotations, AnnotationFault>
-        // What is said of the whole, and the cells, are what the document says.
-        ensures found { IfOk result (λ said. (members : Members) × (parse_document text.now ≡ Some members) × Says members said) }
-        // A text that is refused as such is none.
-        ensures text { result ≡ Err AnnotationFault.Text → IsUtf8 text.now → parse_document text.now ≡ None }
+        // The region, the budget, the board and the cells are those of the document.
+        ensures found { IfOk result (λ said. (members : Members)
+            × (parse_document text.now ≡ Some members) × Says members said) }
+        // A text is refused as no TOML only if it is none.
+        ensures text { result ≡ Err AnnotationFault.Text → IsUtf8 text.now
+            → parse_document text.now ≡ None }
+        // A refused key is one that annotations have, or one of the document.
+        ensures key { IfErr result (NamesKeyIn text.now) }
     {
         let table = match toml::table_from_slice(alloc, text) {
             Ok(table) => table,
@@ -67,48 +71,48 @@ impl Annotations {
         }
     }
 
-    /// The bytes that the stack may use.
+    /// The addresses that the stack may use.
     pub fn region(&self) -> Region
         ensures { result ≡ self.now.region }
     {
         self.region
     }
 
-    /// The T-states that the NMI routine may take, 0 to 50,665; None where there is no such routine.
+    /// The T-states that the NMI routine may take, 0 to 50,665; None if there is no routine.
     pub fn budget(&self) -> Option<u16>
         ensures { result ≡ self.now.budget }
     {
         self.budget
     }
 
-    /// The board's map.
+    /// The board whose map the ROM uses.
     pub fn board(&self) -> BoardMap
         ensures { result ≡ self.now.board }
     {
         self.board
     }
 
-    /// The addresses of inline calls, rising.
+    /// The addresses of inline calls, rising and each once.
     pub fn inlines(&self) -> &[u16] {
         self.inlines.as_slice()
     }
 
-    /// The splits, by rising address.
+    /// The splits, by rising address; no two at one address.
     pub fn splits(&self) -> &[SplitNote] {
         self.splits.as_slice()
     }
 
-    /// The facts, by address, those of one address in the order in which they were written.
+    /// The facts, by address; those of one address in the order of the text.
     pub fn facts(&self) -> &[FactNote] {
         self.facts.as_slice()
     }
 
-    /// The loops, by rising address.
+    /// The loops, by rising address; no two at one address.
     pub fn loops(&self) -> &[LoopNote] {
         self.loops.as_slice()
     }
 
-    /// The kept cells, by rising address.
+    /// The kept cells, by rising address; no two at one address.
     pub fn cells(&self) -> &[KeptCell]
         ensures { result.now ≡ self.now.cells }
     {
@@ -116,10 +120,12 @@ impl Annotations {
     }
 }
 
-/// What the keys of a table say that annotations have.
+/// The annotations in a table. Unknown keys are ignored here.
+#[tactic(auto, using(crate::proofs::KeyLemmas::nmi_known, crate::proofs::KeyLemmas::budget_known, crate::proofs::KeyLemmas::inline_known, crate::proofs::KeyLemmas::split_known, crate::proofs::KeyLemmas::fact_known, crate::proofs::KeyLemmas::loop_known, crate::proofs::KeyLemmas::cell_known, crate::proofs::KeyLemmas::map_known))]
 fn of_table(alloc: Global, table: &Table) -> Result<Annotations, AnnotationFault>
     ensures found { IfOk result (Says (table_view table.now)) }
     ensures text { result ≡ Err AnnotationFault.Text → ⊥ }
+    ensures key { IfErr result (NamesKeyOf (table_view table.now)) }
 {
     let low = judged(alloc, "low", number(table, "low"))?;
     let top = judged(alloc, "top", number(table, "top"))?;
@@ -142,10 +148,11 @@ fn of_table(alloc: Global, table: &Table) -> Result<Annotations, AnnotationFault
     })
 }
 
-/// What a key says, or that it is wrong.
+/// The value of a key, or its fault.
 fn judged<T>(alloc: Global, key: &str, read: Result<T, Wrong>) -> Result<T, AnnotationFault>
     ensures found { IfOk result (λ value. read ≡ Ok value) }
     ensures text { result ≡ Err AnnotationFault.Text → ⊥ }
+    ensures key { IfErr result (NamesOnly key.now) }
 {
     match read {
         Ok(value) => Ok(value),
@@ -156,7 +163,8 @@ fn judged<T>(alloc: Global, key: &str, read: Result<T, Wrong>) -> Result<T, Anno
 
 /// The fault of a key.
 fn bad_key(alloc: Global, key: &str) -> AnnotationFault
-    ensures { result ≡ AnnotationFault.Text → ⊥ }
+    ensures text { result ≡ AnnotationFault.Text → ⊥ }
+    ensures key { NamesOnly key.now result }
 {
     match String::from_str(alloc, key) {
         Ok(name) => AnnotationFault::Key(name),
@@ -164,9 +172,10 @@ fn bad_key(alloc: Global, key: &str) -> AnnotationFault
     }
 }
 
-/// Whether there is an NMI routine; there is none where nothing is said of it.
+/// Whether there is an NMI routine; there is none if the key is missing.
 fn has_nmi(table: &Table) -> Result<bool, Wrong>
-    ensures { IfOk result (λ nmi. nmi_said (get_member (codes "nmi") (table_view table.now)) ≡ Some nmi) }
+    ensures { IfOk result (λ nmi. nmi_said (get_member (codes "nmi") (table_view table.now))
+        ≡ Some nmi) }
 {
     match value_at(table, "nmi") {
         Some(value) => formed(value.as_bool()),
@@ -174,14 +183,14 @@ fn has_nmi(table: &Table) -> Result<bool, Wrong>
     }
 }
 
-/// The budget of the NMI routine, which is there exactly if the routine is.
+/// The budget of the NMI routine. It has to be there exactly if the routine is.
 fn budget(table: &Table, nmi: bool) -> Result<Option<u16>, Wrong>
     requires { nmi_said (get_member (codes "nmi") (table_view table.now)) ≡ Some nmi }
     ensures { IfOk result (SaysBudget (table_view table.now)) }
 {
     if nmi {
         let budget = number(table, "budget")?;
-        if budget > BUDGET_LIMIT {
+        if u32::from(budget) > MAX_BUDGET {
             return Err(Wrong::Form);
         }
         return Ok(Some(budget));
@@ -192,16 +201,12 @@ fn budget(table: &Table, nmi: bool) -> Result<Option<u16>, Wrong>
     }
 }
 
-/// The map that is named, or None where no map is so called; without a name it is the Galaxian's.
+/// The board with the map that is named, the Galaxian one without a name; None if no map has the name.
 fn board(table: &Table) -> Option<BoardMap>
     ensures { IfSome result (SaysBoard (table_view table.now)) }
 {
     match value_at(table, "map") {
-        Some(value) => match value.as_str() {
-            Some("galaxian") => Some(BoardMap::Galaxian),
-            Some("raised") => Some(BoardMap::Raised),
-            _ => None,
-        },
+        Some(value) => BoardMap::named(value.as_str()?.as_bytes()),
         None => Some(BoardMap::Galaxian),
     }
 }

@@ -1,22 +1,22 @@
-// Why a text says nothing of a ROM.
+// Why a text is no annotations.
 
 use thiserror::Error;
 
-/// Why a text is no annotations (docs/ANNOTATIONS.md).
+/// Why a text is no annotations (docs/ANNOTATIONS.md, "What is refused").
 #[derive(Debug, Drop, Error, PartialEq)]
 pub enum AnnotationFault {
-    /// It is not in UTF-8, or no TOML.
+    /// The text is not UTF-8 or no TOML.
     #[error("bad annotation text")]
     Text,
-    /// The value of this key is missing or of a wrong form, or no key is so called.
+    /// This key is missing, its value has a wrong form, or annotations have no such key.
     #[error("bad annotation {0}")]
     Key(String),
-    /// There was no memory for what it says.
+    /// Memory was refused.
     #[error("out of memory")]
     NoMemory,
 }
 
-/// Why a value is not what its key asks for.
+/// Why a value does not suit its key.
 pub(crate) enum Wrong {
     Form,
     NoMemory,

@@ -1,4 +1,4 @@
-// What a programmer says of a ROM beside its bytes, in TOML (docs/ANNOTATIONS.md).
+// What a programmer says about a ROM, in TOML (docs/ANNOTATIONS.md).
 #![tactic(auto)]
 
 mod annotations;

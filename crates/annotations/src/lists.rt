@@ -1,4 +1,4 @@
-// The lists of annotations: what is said of addresses, in the order of these.
+// The lists of annotations, sorted by address.
 
 ghost use Rattle.std.specs.Prelude.{◌≡◌, ◌++◌, [], ◌∷◌, true, IfOk, OnOk};
 ghost use Rattle.annotations.specs.Said.{SayEach, SaysCell, SaysCells};
@@ -26,7 +26,7 @@ pub(crate) fn inlines(alloc: Global, table: &Table) -> Result<Vec<u16>, Wrong> {
     Ok(addresses)
 }
 
-/// The splits, of which no two are at one address.
+/// The splits; two at one address are a fault.
 pub(crate) fn splits(alloc: Global, table: &Table) -> Result<Vec<SplitNote>, Wrong> {
     let mut splits = Vec::new(alloc);
     for item in items(table, "split")? {
@@ -37,7 +37,6 @@ pub(crate) fn splits(alloc: Global, table: &Table) -> Result<Vec<SplitNote>, Wro
     Ok(splits)
 }
 
-/// A split.
 fn split(alloc: Global, item: &Value) -> Result<SplitNote, Wrong> {
     let inner = table_with(item, &["at", "register", "parts", "until"])?;
     Ok(SplitNote {
@@ -48,7 +47,7 @@ fn split(alloc: Global, item: &Value) -> Result<SplitNote, Wrong> {
     })
 }
 
-/// The parts of a split, in the order in which they are written.
+/// The parts of a split, in the order of the text.
 fn parts(alloc: Global, value: &Value) -> Result<Vec<ByteRange>, Wrong> {
     let Some(items) = value.as_array() else {
         return Err(Wrong::Form);
@@ -60,7 +59,7 @@ fn parts(alloc: Global, value: &Value) -> Result<Vec<ByteRange>, Wrong> {
     Ok(parts)
 }
 
-/// The facts, those of one address in the order in which they are written.
+/// The facts, by address; those of one address in the order of the text.
 pub(crate) fn facts(alloc: Global, table: &Table) -> Result<Vec<FactNote>, Wrong> {
     let mut facts = Vec::new(alloc);
     for item in items(table, "fact")? {
@@ -77,7 +76,7 @@ pub(crate) fn facts(alloc: Global, table: &Table) -> Result<Vec<FactNote>, Wrong
     Ok(facts)
 }
 
-/// The loops, of which no two are at one address.
+/// The loops; two at one address are a fault.
 pub(crate) fn loops(alloc: Global, table: &Table) -> Result<Vec<LoopNote>, Wrong> {
     let mut loops = Vec::new(alloc);
     for item in items(table, "loop")? {
@@ -93,7 +92,7 @@ pub(crate) fn loops(alloc: Global, table: &Table) -> Result<Vec<LoopNote>, Wrong
     Ok(loops)
 }
 
-/// The kept cells, each in the first 400h addresses of the board's work RAM, no two at one address.
+/// The kept cells. Each has to be in the first 400h addresses of the board's work RAM; two at one address are a fault.
 pub(crate) fn cells(alloc: Global, table: &Table, board: BoardMap) -> Result<Vec<KeptCell>, Wrong>
     ensures { IfOk result (λ cells. SaysCells (table_view table.now) cells.items) }
 {
@@ -103,7 +102,7 @@ pub(crate) fn cells(alloc: Global, table: &Table, board: BoardMap) -> Result<Vec
     Ok(cells)
 }
 
-/// The kept cells of these tables, in their order.
+/// The kept cells of these tables, in their order. Work RAM begins at `start`.
 fn cells_written(alloc: Global, items: &[Value], start: u16) -> Result<Vec<KeptCell>, Wrong>
     ensures { IfOk result (λ cells. SayEach (items_view items.now) cells.items) }
 {
@@ -114,7 +113,7 @@ fn cells_written(alloc: Global, items: &[Value], start: u16) -> Result<Vec<KeptC
     Ok(cells)
 }
 
-/// A kept cell of the work RAM that begins at this address.
+/// The kept cell of a table. Work RAM begins at `start`.
 fn cell(item: &Value, start: u16) -> Result<KeptCell, Wrong>
     ensures { IfOk result (λ cell. SaysCell (view item.now) cell) }
 {
@@ -129,14 +128,14 @@ fn cell(item: &Value, start: u16) -> Result<KeptCell, Wrong>
     })
 }
 
-/// A list of which no two elements are at one address.
+/// A fault if two elements are at one address.
 fn each_once(is_so: bool) -> Result<(), Wrong>
     ensures { OnOk result (is_so ≡ true) }
 {
     if is_so { Ok(()) } else { Err(Wrong::Form) }
 }
 
-/// A list with one more element.
+/// Appends to a list.
 fn keep<T: Drop>(list: &mut Vec<T>, item: T) -> Result<(), Wrong>
     ensures { OnOk result (list.new.items ≡ list.old.items ++ item ∷ []) }
 {

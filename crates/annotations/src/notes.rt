@@ -1,16 +1,16 @@
-// What is said of an address.
+// What annotations say about one address.
 
 use intervals::ByteRange;
 use loop_bounds::{Linear, Variable};
 use z80_decode::Register8;
 
-/// An address from which on states are told apart by the part that a register's value lies in.
+/// A split: from this address on, states are distinguished by the part that a register's value is in.
 #[derive(Drop)]
 pub struct SplitNote {
     pub at: u16,
     pub register: Register8,
     pub parts: Vec<ByteRange>,
-    /// The address at which they are told apart no longer.
+    /// The address from which on they are one state again.
     pub until: u16,
 }
 
@@ -21,7 +21,7 @@ pub struct FactNote {
     pub fact: Linear,
 }
 
-/// An address of a loop, and the variable that counts its turns.
+/// The address of a loop, and the variable that counts its turns.
 #[derive(Clone, Copy)]
 pub struct LoopNote {
     pub at: u16,

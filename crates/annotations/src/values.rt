@@ -4,8 +4,8 @@ ghost use Rattle.std.specs.Prelude.{◌≡◌, pos, IfSome};
 ghost use Rattle.toml.specs.Data.{integer};
 ghost use Rattle.toml.specs.View.{view};
 
+use cert_fields::variable_field;
 use intervals::ByteRange;
-use linear_fields::variable_field;
 use loop_bounds::{Linear, Term, Variable};
 use toml::Value;
 use z80_decode::Register8;
@@ -30,7 +30,7 @@ pub(crate) fn byte(value: &Value) -> Option<u8>
     }
 }
 
-/// A number that 32 bits hold, with its sign.
+/// A number of 32 bits with a sign.
 pub(crate) fn signed(value: &Value) -> Option<i32> {
     match value.as_integer() {
         Some(number) => i32::try_from(number).ok(),
@@ -38,15 +38,15 @@ pub(crate) fn signed(value: &Value) -> Option<i32> {
     }
 }
 
-/// The register of a letter.
+/// The register with this letter.
 pub(crate) fn register(value: &Value) -> Option<Register8> {
     match value.as_str() {
-        Some(name) => row_fields::register_field(name.as_bytes()),
+        Some(name) => cert_fields::register_field(name.as_bytes()),
         None => None,
     }
 }
 
-/// The variable of a name.
+/// The variable with this name.
 pub(crate) fn variable(value: &Value) -> Option<Variable> {
     match value.as_str() {
         Some(name) => variable_field(name.as_bytes()),
@@ -54,7 +54,7 @@ pub(crate) fn variable(value: &Value) -> Option<Variable> {
     }
 }
 
-/// The two elements of an array that has no more.
+/// The elements of an array of two.
 fn both(value: &Value) -> Option<(&Value, &Value)> {
     match value.as_array() {
         Some(items) => match items.as_slice() {
@@ -65,20 +65,21 @@ fn both(value: &Value) -> Option<(&Value, &Value)> {
     }
 }
 
-/// The bytes from one to another, which is not below it.
+/// The bytes from `low` to `high`; None if `high` is below `low`.
 pub(crate) fn byte_range(low: &Value, high: &Value) -> Option<ByteRange>
-    ensures { IfSome result (λ range. (view low.now ≡ integer (pos range.low)) × (view high.now ≡ integer (pos range.high))) }
+    ensures { IfSome result (λ range. (view low.now ≡ integer (pos range.low))
+        × (view high.now ≡ integer (pos range.high))) }
 {
     ByteRange::new(byte(low)?, byte(high)?)
 }
 
-/// A range of bytes as an array of its two ends.
+/// A range of bytes, as an array of its two ends.
 pub(crate) fn part(value: &Value) -> Option<ByteRange> {
     let (low, high) = both(value)?;
     byte_range(low, high)
 }
 
-/// A multiple of a variable, as an array of the variable's name and of the coefficient.
+/// A term, as an array of a variable's name and a coefficient.
 fn term(value: &Value) -> Option<Term> {
     let (name, coefficient) = both(value)?;
     Some(Term {
@@ -87,7 +88,7 @@ fn term(value: &Value) -> Option<Term> {
     })
 }
 
-/// What is 0 where a sum of terms, in any order, is a number.
+/// The linear that is 0 where a sum of terms, in any order, is a number.
 pub(crate) fn fact(sum: &Value, is: &Value) -> Option<Linear> {
     let number = signed(is)?;
     let Some(items) = sum.as_array() else {
@@ -100,7 +101,7 @@ pub(crate) fn fact(sum: &Value, is: &Value) -> Option<Linear> {
     Some(linear)
 }
 
-/// A linear with one more term, put where its variable's rank says.
+/// A linear with one more term, in its place by the rank of its variable.
 fn with_term(linear: &Linear, term: Term) -> Option<Linear> {
     let rank = term.variable.rank();
     let place = linear

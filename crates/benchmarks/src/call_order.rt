@@ -1,15 +1,15 @@
-// The order of 65,535 calls between 1,024 procedures, without a circle and with one.
+// The order of 65,535 calls between 1,024 procedures, without a cycle and with one.
 
 use call_graph::{Edge, GraphFault, ProcId, order};
 use std::alloc::{AllocError, Global};
 
 const PROCS: u16 = 1024;
 
-/// How many calls there are.
+/// The number of calls.
 pub const CALLS: usize = 65_535;
 
-/// This many calls from a procedure to a later one, the nearest first. Each procedure but the last calls the next,
-/// so the one order is 1023 to 0.
+/// `count` calls from procedures to later ones, the nearest first. Each procedure but the last calls the next one, so
+/// the only order is 1023 to 0.
 pub fn calls_down(alloc: Global, count: usize) -> Result<Vec<Edge>, AllocError> {
     let mut calls = Vec::new(alloc);
     for distance in 1..PROCS {
@@ -18,7 +18,7 @@ pub fn calls_down(alloc: Global, count: usize) -> Result<Vec<Edge>, AllocError> 
     Ok(calls)
 }
 
-/// Adds the calls over this distance, up to this many in all.
+/// Adds the calls over this distance, up to `count` calls in total.
 fn add_calls(calls: &mut Vec<Edge>, distance: u16, count: usize) -> Result<(), AllocError> {
     for caller in 0..PROCS.saturating_sub(distance) {
         if calls.len() >= count {
@@ -32,7 +32,7 @@ fn add_calls(calls: &mut Vec<Edge>, distance: u16, count: usize) -> Result<(), A
     Ok(())
 }
 
-/// The same with a circle: 1023 calls 1022, which calls it. Nothing lower lies on one.
+/// The same with a cycle: 1023 calls 1022, which calls it. No lower procedure is on a cycle.
 pub fn calls_with_circle(alloc: Global) -> Result<Vec<Edge>, AllocError> {
     let mut calls = calls_down(alloc, CALLS - 1)?;
     calls.push(Edge {
@@ -42,7 +42,7 @@ pub fn calls_with_circle(alloc: Global) -> Result<Vec<Edge>, AllocError> {
     Ok(calls)
 }
 
-/// How many procedures the answer names, with its first and its last one.
+/// The number of procedures in the answer, and the first and last of them.
 fn ends(list: &[ProcId]) -> (usize, ProcId, ProcId) {
     (
         list.len(),
@@ -51,7 +51,7 @@ fn ends(list: &[ProcId]) -> (usize, ProcId, ProcId) {
     )
 }
 
-/// The answer to these calls, found this many times.
+/// The answer for these calls, computed `times` times.
 pub fn answer(alloc: Global, calls: &[Edge], times: u64) -> (usize, ProcId, ProcId) {
     let mut last = (0, 0, 0);
     for _ in 0..times {

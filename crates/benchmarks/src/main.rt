@@ -1,7 +1,14 @@
-// The program that bench/ times and compares. Its arguments are EVENTS of a mixed loop on the checked step, ORDERS of calls without a circle
-// and CIRCLES with one, CALLS of `successors`, TWINS events of a ROM on the runner beside the checked step, CHECKED events of it on the
-// checked step alone and KNOWN on the known one, WALKS and POTENTIALS of a procedure of 20,000 rows (each skipped where it is 0), BRANCHES,
-// 0 where that procedure is straight code, a SEED, and the files of the ROM and of its certificate. Standard input tells steps, one a line.
+// The program that bench/ times and compares. Its arguments are, in this order:
+// - EVENTS of a mixed loop on the checked step,
+// - ORDERS of calls without a cycle, and CIRCLES with one,
+// - CALLS of `successors`,
+// - TWINS, events of a ROM on the runner and on the checked step side by side,
+// - CHECKED and KNOWN, events of that ROM on the checked step and on the known step,
+// - WALKS and POTENTIALS of a procedure of 20,000 rows,
+// - BRANCHES, 0 if that procedure is straight code,
+// - a SEED, and the files of the ROM and of its certificate.
+//
+// Each count of 0 skips its part. Each line of standard input describes a step (vectors.rt).
 #![tactic(auto)]
 
 mod call_order;
@@ -21,7 +28,7 @@ use runner::{Summary, summary_lines};
 use std::io::Write;
 use std::{env, fs, io};
 
-/// The first eleven arguments: 0 where there is none.
+/// The first eleven arguments. A missing one is 0.
 fn counts(rt: &HostRuntime) -> [u64; 11] {
     let mut counts = [0; 11];
     let Ok(words) = env::args(rt) else {
@@ -107,7 +114,8 @@ fn print_rules(rt: &HostRuntime, calls: u64) -> io::Result<()> {
     }
 }
 
-/// Does so many events of a ROM in each of three ways: on two machines side by side, by the checked step and by the known one.
+/// Runs a ROM in each of three ways: on the runner and the checked step side by side, on the checked step, and on the
+/// known step.
 fn print_events(rt: &HostRuntime, counts: [u64; 3], seed: u64) -> io::Result<()> {
     let words = env::args(rt)?.collect::<Vec<String>>(rt.alloc())?;
     let (Some(rom), Some(certificate)) = (words.get(12), words.get(13)) else {
@@ -144,7 +152,7 @@ fn print_twins(
     }
 }
 
-/// Prints the lines that a run ends with.
+/// Prints the lines at the end of a run.
 fn print_summary(rt: &HostRuntime, summary: Option<Summary>) -> io::Result<()> {
     match summary {
         Some(summary) => rt.stdout().write_all(summary_lines(&summary).bytes()),
@@ -152,7 +160,7 @@ fn print_summary(rt: &HostRuntime, summary: Option<Summary>) -> io::Result<()> {
     }
 }
 
-/// Finds the longest walk and the potentials so many times, and prints them.
+/// Finds the longest walk and the potentials this many times, and prints them.
 fn print_paths(rt: &HostRuntime, walks: u64, potentials: u64, branches: bool) -> io::Result<()> {
     let shape = if branches { BRANCHES } else { STRAIGHT };
     let Ok(bytes) = shape.rom(rt.alloc()) else {

@@ -5,8 +5,8 @@ use address_map::{Map, Region, Rom, Starts};
 use board_step::{Board, Env, Inputs, Profile, Reset};
 use z80_alu::Regs;
 
-/// LD SP,4400; LD IX,4000; LD B,0; then LD A,(IX+5); ADD A,3; LD (IX+5),A; LD HL,4010; ADD A,(HL);
-/// LD (HL),A; LD C,A; CALL 0020; DJNZ back; JR to LD B,0. At 0020: INC A; ADD A,B; RET.
+/// LD SP,4400; LD IX,4000; LD B,0; then LD A,(IX+5); ADD A,3; LD (IX+5),A; LD HL,4010; ADD A,(HL); LD (HL),A; LD C,A;
+/// CALL 0020; DJNZ back; JR to LD B,0. At 0020: INC A; ADD A,B; RET.
 const PROGRAM: [u8; 0x23] = [
     0x31, 0x00, 0x44, 0xDD, 0x21, 0x00, 0x40, 0x06, 0x00, 0xDD, 0x7E, 0x05, 0xC6, 0x03, 0xDD, 0x77,
     0x05, 0x21, 0x10, 0x40, 0x86, 0x77, 0x4F, 0xCD, 0x20, 0x00, 0x10, 0xED, 0x18, 0xE9, 0x00, 0x00,
@@ -28,7 +28,7 @@ fn quiet() -> Env {
     }
 }
 
-/// What the loop leaves in A and B after so many events; None where one trapped.
+/// The values of A and B after this many events. None if an event trapped.
 pub fn played(events: u64) -> Option<(u8, u8)> {
     let rom = Rom::of(&PROGRAM)?;
     let map = Map::galaxian(rom.len());

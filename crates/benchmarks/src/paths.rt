@@ -1,4 +1,5 @@
-// The longest walk and the potentials of a procedure of 20,000 rows, two at each of its addresses: of straight code, or of branches.
+// The longest walk and the potentials of a procedure of 20,000 rows, two at each address. Its code is straight or has
+// branches.
 
 ghost use Rattle.std.specs.Prelude.{◌≡◌, ◌<◌, length};
 
@@ -8,8 +9,8 @@ use path_time::{longest, potentials};
 use std::alloc::{AllocError, Global};
 use std::string::String;
 
-/// A procedure at 0008: code that comes over and over, how many bytes it has, at which of them rows stand, how often it comes, and what
-/// the two rows at an address say of BC.
+/// A procedure at 0008 that repeats `code`, of `len` bytes, `times` times. `starts` are the offsets in `code` that have
+/// rows. `halves` are the ranges of BC in the two rows at an address.
 #[derive(Drop)]
 pub struct Shape {
     code: &'static [u8],
@@ -19,7 +20,7 @@ pub struct Shape {
     halves: [&'static str; 2],
 }
 
-/// NOP; each row leads to one.
+/// NOP. Each row has one successor.
 pub const STRAIGHT: Shape = Shape {
     code: &[0x00],
     len: 1,
@@ -28,7 +29,7 @@ pub const STRAIGHT: Shape = Shape {
     halves: ["0000-FF7F:00-FF:00-7F", "0080-FFFF:00-FF:80-FF"],
 };
 
-/// JR NZ over a NOP, and that; each row leads to two, or to four.
+/// JR NZ over a NOP, and the NOP. Each row has two successors or four.
 pub const BRANCHES: Shape = Shape {
     code: &[0x20, 0x01, 0x00],
     len: 3,
@@ -45,7 +46,7 @@ const MAIN_ROWS: &str = "row 0 0000 u * * * * * * * * * * - - - -\n\
     row 0 0006 s * * * * * * * * * * - - - -\n";
 
 impl Shape {
-    /// The ROM, with RET at its end.
+    /// The ROM of this shape. It ends with RET.
     pub fn rom(&self, alloc: Global) -> Result<Vec<u8>, AllocError> {
         let mut rom = Vec::from_slice(alloc, &MAIN)?;
         for _ in 0..self.times {
@@ -55,7 +56,7 @@ impl Shape {
         Ok(rom)
     }
 
-    /// The text of a certificate without potentials.
+    /// The text of a certificate without potentials. `rom_len` is the length of the ROM in bytes.
     pub fn text(&self, alloc: Global, rom_len: usize) -> Result<String, AllocError> {
         let mut text = format!(in alloc;
             "galcert 1\nrom {rom_len}\nstack 4380 4400\nbudget -\nproc main 0000 1 2 -\nproc sub 0008 0 2 1000000\n{MAIN_ROWS}"
@@ -82,13 +83,13 @@ impl Shape {
     }
 }
 
-/// The certificate of a shape's ROM.
+/// The certificate of the shape's ROM. None if the text can't be built or read.
 pub fn certificate_of(alloc: Global, shape: &Shape, rom_len: usize) -> Option<Certificate> {
     let text = shape.text(alloc, rom_len).ok()?;
     read(alloc, text.as_bytes()).ok()
 }
 
-/// The T-states of the longest walk and its number of rows, found so many times.
+/// The T-states of the longest walk and its number of rows. The search runs `times` times.
 pub fn walked(alloc: Global, rom: &Rom, certificate: &Certificate, times: u64) -> (u32, usize)
     requires { certificate.now.rom_len ≡ length rom.now }
 {
@@ -104,7 +105,7 @@ pub fn walked(alloc: Global, rom: &Rom, certificate: &Certificate, times: u64) -
     last
 }
 
-/// The first potential and their number, found so many times.
+/// The constant of the first potential and the number of potentials. They are found `times` times.
 pub fn paid(alloc: Global, rom: &Rom, certificate: &Certificate, times: u64) -> (i32, usize)
     requires { certificate.now.rom_len ≡ length rom.now }
 {

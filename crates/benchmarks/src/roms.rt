@@ -1,4 +1,4 @@
-// Events of a ROM that goes round for ever, on the checked step and on the known one: all that a run takes from outside is 0.
+// Events of a ROM that loops forever, on the checked step and on the known one. All inputs of the run are 0.
 
 use crate::steps::last_step;
 use address_map::{Map, RamKind, Region, Rom, Starts};
@@ -8,7 +8,7 @@ use runner::cert_checker::check;
 use runner::{Machine, ResetLine, Summary};
 use std::alloc::Global;
 
-/// All 0.
+/// The environment with all inputs 0.
 const QUIET: Env = Env {
     inputs: [Inputs {
         in0: 0,
@@ -21,7 +21,7 @@ const QUIET: Env = Env {
     latch: false,
 };
 
-/// The start with all 0.
+/// A reset at phase 0 that fills with 0.
 const START: ResetLine = ResetLine { phase: 0, fill: 0 };
 
 fn sum(bytes: &[u8]) -> u32 {
@@ -32,7 +32,8 @@ fn sum(bytes: &[u8]) -> u32 {
     sum
 }
 
-/// The board after so many events by the checked step, with no T-states told; None where one trapped. Each address is a start.
+/// The board after `events` events on the checked step. The time in the summary is 0. None if an event trapped. Each
+/// address counts as a start.
 pub fn checked(rom: &[u8], events: u64) -> Option<Summary> {
     let rom = Rom::of(rom)?;
     let map = Map::galaxian(rom.len());
@@ -66,7 +67,8 @@ pub fn checked(rom: &[u8], events: u64) -> Option<Summary> {
     })
 }
 
-/// The board after so many events by the known step, with no T-states told; None where the certificate is not accepted.
+/// The board after `events` events on the known step. The time in the summary is 0. None if the certificate is not
+/// accepted.
 pub fn known(alloc: Global, rom: &[u8], certificate: &[u8], events: u64) -> Option<Summary> {
     let certificate = read(alloc, certificate).ok()?;
     let accepted = check(alloc, rom, certificate).ok()?;

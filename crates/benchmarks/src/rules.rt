@@ -1,4 +1,4 @@
-// Calls of `successors` at all documented codes, from random states.
+// Calls of `successors` for all documented codes, with random states.
 
 use crate::numbers::Numbers;
 use abs_state::{AbsState, FlagFact, KeptCell, Mode};
@@ -10,14 +10,14 @@ use std::alloc::{AllocError, Global};
 use z80_decode::{Register8, decode};
 
 impl Numbers {
-    /// Words from one on, at most 256.
+    /// A range of at most 256 words from `low` on.
     fn words_from(&mut self, low: u16) -> WordRange {
         let high = low.saturating_add(u16::from(self.byte()));
         WordRange::new(low, high).unwrap_or(WordRange::full())
     }
 
-    /// A pair of which nothing is known, one word of the ROM, at most 256 of them, or at most 256 of all words; each fourth
-    /// with an origin.
+    /// A random pair: a full range, one word of the ROM, at most 256 words from one of the ROM, or at most 256 words
+    /// from any. One pair in four has an origin.
     fn pair(&mut self) -> Pair {
         let word = self.word();
         let of_word = match self.byte() % 4 {
@@ -45,7 +45,7 @@ impl Numbers {
         }
     }
 
-    /// A state in mode `s` or `n`, with up to four armed cells and up to seven slots, or none.
+    /// A random state in mode `s` or `n`, with up to four armed cells and up to seven slots.
     fn state(&mut self) -> AbsState {
         let mut state = AbsState::of_main();
         state.mode = if self.byte() < 128 {
@@ -79,14 +79,14 @@ const PAIRS: [RegPair; 10] = [
     RegPair::AlternateHl,
 ];
 
-/// How many bytes the ROM has.
+/// The number of bytes in the ROM.
 const ROM: u16 = 0x4000;
 
-/// How many states there are.
+/// The number of states.
 const STATES: usize = 61;
 
-/// What stands before the opcode: two bytes, the first of them or none. Behind DD CB and FD CB stand a displacement and then
-/// the opcode.
+/// Each prefix of an opcode, with the number of displacement bytes between the prefix and the opcode. Only DD CB and FD
+/// CB have one.
 const PREFIXES: [(u8, &[u8]); 7] = [
     (0, &[]),
     (0, &[0xCB]),
@@ -97,11 +97,11 @@ const PREFIXES: [(u8, &[u8]); 7] = [
     (1, &[0xFD, 0xCB]),
 ];
 
-/// A ROM with each documented code once, and random bytes behind them.
+/// A ROM with each documented code once, filled up with random bytes.
 #[derive(Drop)]
 struct Codes {
     rom: Vec<u8>,
-    /// Where the codes begin.
+    /// The addresses of the codes.
     starts: Vec<u16>,
 }
 
@@ -122,7 +122,8 @@ impl Codes {
         Ok(codes)
     }
 
-    /// Adds what is spelled by a prefix, so many displacements, the opcode and random operands, if anything is.
+    /// Adds the instruction with this prefix, this many displacement bytes, this opcode and random operands. Adds
+    /// nothing if they do not decode.
     fn add(
         &mut self,
         numbers: &mut Numbers,
@@ -149,7 +150,8 @@ impl Codes {
     }
 }
 
-/// How many ways on there were in so many calls, one code and one state after another, and how many calls refused the row.
+/// The number of successors in this many calls, and the number of calls that refused the row. The calls cycle through
+/// the codes and the states.
 pub fn counted(alloc: Global, calls: u64) -> Result<(u64, u64), AllocError> {
     let mut numbers = Numbers::from_seed(1);
     let codes = Codes::of(alloc, &mut numbers)?;
@@ -160,7 +162,7 @@ pub fn counted(alloc: Global, calls: u64) -> Result<(u64, u64), AllocError> {
     Ok(called(alloc, &codes, states.as_slice(), calls))
 }
 
-/// The kept cells are the first four of work RAM, each with any byte below 16.
+/// The kept cells are the first four of work RAM. Each keeps a byte below 16.
 fn kept() -> [KeptCell; 4] {
     let range = ByteRange::at_most(15);
     [0x4000, 0x4001, 0x4002, 0x4003].map(|at| KeptCell { at, range })
@@ -188,7 +190,7 @@ fn called(alloc: Global, codes: &Codes, states: &[AbsState], calls: u64) -> (u64
     (ways, refused)
 }
 
-/// The place behind one of a list of this length, or the first.
+/// The index after `place` in a list of length `len`. The last index wraps to the first.
 fn following(place: usize, len: usize) -> usize {
     let next = place.wrapping_add(1);
     if next < len { next } else { 0 }

@@ -1,12 +1,12 @@
-// Events by the checked step in one environment: the loop that the timings and the vectors share.
+// Events of the checked step in one environment. The timings and the vectors share this loop.
 
 ghost use Rattle.std.specs.Prelude.{◌≡◌, length};
 
 use address_map::Rom;
 use board_step::{Board, Env, Event, Profile, Trap};
 
-/// Does this many events in one environment, or as many as there are before a trap; the last of them, None where there was
-/// none to do.
+/// Runs `events` events in one environment and returns the last of them. None if `events` is 0. The error is the trap
+/// that stopped it.
 pub fn last_step(
     board: &mut Board,
     rom: &Rom,

@@ -1,4 +1,5 @@
-// Runs of an accepted ROM on the runner and, event by event, on the checked step, with random inputs near the vertical blank.
+// Runs of an accepted ROM on the runner and on the checked step side by side, with random inputs near the vertical
+// blank.
 
 use crate::numbers::Numbers;
 use address_map::{RamKind, Starts};
@@ -9,26 +10,27 @@ use runner::cert_checker::{Accepted, check};
 use std::alloc::Global;
 use z80_alu::{RegisterSet, Regs};
 
-/// How many events each run has: those of about two frames of 50,688 T-states.
+/// The number of events in a run, about two frames of 50,688 T-states.
 const EVENTS: u64 = 10_000;
 
-/// The phase at a reset is at most so far before the blank, in T-states.
+/// The largest distance in T-states between the phase at a reset and the blank.
 const NEAR: u32 = 4096;
 
 const FRAME: u32 = 50_688;
 
-/// What came of so many events.
+/// The result of a comparison.
 #[derive(Clone, Copy)]
 pub enum Twins {
-    /// The ROM and the certificate are not accepted.
+    /// The certificate is not accepted for the ROM, or its text is bad.
     Refused,
-    /// The events of which the two differ, or of which the checked step told a trap: the number of the first.
+    /// The number of the first event where the two differ or the checked step traps. If only the RAMs differ, it is the
+    /// number after the last event of that run.
     Differ(u64),
-    /// There is none; and so many NMIs were accepted.
+    /// All events agree. The value is the number of accepted NMIs.
     Agree(u64),
 }
 
-/// Does so many events, by runs from random resets, of a ROM and the text of its certificate.
+/// Compares at least `events` events of a ROM in runs from random resets. `text` is the text of its certificate.
 pub fn compared(alloc: Global, rom: &[u8], text: &[u8], events: u64, seed: u64) -> Twins {
     let Ok(certificate) = read(alloc, text) else {
         return Twins::Refused;
@@ -65,7 +67,8 @@ fn run_twice(accepted: &Accepted, starts: &Starts, events: u64, seed: u64) -> Tw
     Twins::Agree(accepts)
 }
 
-/// How many NMIs are accepted in one run; or the number of the first event that differs, or of the last where the RAMs differ behind it.
+/// The number of NMIs accepted in one run. The error is the number of the first event that differs, or `EVENTS` if only
+/// the RAMs differ after the run.
 fn one_run(accepted: &Accepted, starts: &Starts, numbers: &mut Numbers) -> Result<u64, u64> {
     let reset = numbers.reset();
     if reset.phase >= FRAME {
@@ -95,7 +98,7 @@ fn one_run(accepted: &Accepted, starts: &Starts, numbers: &mut Numbers) -> Resul
     }
 }
 
-/// Whether all but the RAMs is one and the same.
+/// Whether both boards agree in everything but the RAMs.
 fn is_one(a: &Board, b: &Board) -> bool {
     a.regs() == b.regs() && a.phase() == b.phase() && a.kind() == b.kind()
 }
@@ -138,7 +141,7 @@ impl Numbers {
         }
     }
 
-    /// A reset shortly before the blank, with random registers and RAMs of one random byte each.
+    /// A reset shortly before the blank, with random registers. Each RAM is filled with one random byte.
     fn reset(&mut self) -> Reset {
         Reset {
             work: [self.byte(); 0x400],

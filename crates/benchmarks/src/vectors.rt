@@ -1,12 +1,17 @@
-// Steps of the board compared with what Debian's libz80ex 1.1.21 makes of them, at random registers. The lines of the
-// stored run were written by a throw-away C program, one instruction each; bench/steps.c writes any number.
+// Steps of the board compared with those of Debian's libz80ex 1.1.21, with random registers. A C program wrote the
+// lines of the stored run, one instruction each. bench/steps.c writes any number of lines.
 //
-// A line has 58 bytes in hexadecimal and then the instruction's name. The bytes are the ROM (4), the mask of the bits of F
-// that are compared, the registers AF BC DE HL IX IY SP AF' BC' DE' HL', after the instruction the same and I with IFF1 and
-// IFF2 as bits 1 and 0, the program counter, the T-states (1), and the sum of the bytes of work and video RAM, each times
-// its place from 1 (4). Before it I, IFF1, IFF2 and the program counter are 0, cell i of work RAM holds 7i + 3, and cell i
-// of video RAM 5i + 1, modulo 256. The mask leaves out what the manual leaves open: bits 5 and 3 where flags change, H
-// after DAA, S and P/V after BIT, and P/V after LD A,I. Those bits have to be the noise's.
+// A line has 58 bytes in hexadecimal and then the name of the instruction. The bytes are, in this order:
+// - the ROM (4),
+// - the mask of the bits of F that are compared (1),
+// - the registers AF BC DE HL IX IY SP AF' BC' DE' HL' before the instruction,
+// - the same registers after it, I, and a byte with IFF1 in bit 1 and IFF2 in bit 0,
+// - the program counter, and the T-states (1),
+// - the sum over the bytes of work and video RAM, each multiplied by its place from 1 (4).
+//
+// Before the instruction, I, IFF1, IFF2 and the program counter are 0. Cell i of work RAM holds 7i + 3 and cell i of
+// video RAM holds 5i + 1, modulo 256. The mask leaves out the bits that the manual leaves open: bits 5 and 3 where
+// flags change, H after DAA, S and P/V after BIT, and P/V after LD A,I. Those bits have to equal the bits of the noise.
 
 use crate::steps::last_step;
 use address_map::{Map, RamKind, Region, Rom, Starts};
@@ -14,18 +19,18 @@ use board_step::{Board, Env, Event, Inputs, Profile, Reset, Trap};
 use hex::FromHex;
 use z80_alu::{RegisterSet, Regs};
 
-/// The digits of a line as bytes, and the name of its instruction.
+/// The bytes that a line's digits give, and the name of its instruction. The bytes are None if the digits are bad.
 pub fn row_of(line: &str) -> (Option<[u8; 58]>, &str) {
     let (digits, name) = line.split_once(' ').unwrap_or(("", ""));
     (<[u8; 58] as FromHex>::from_hex(digits).ok(), name)
 }
 
-/// Whether the step of a line is as the line says, with the noise 00 and with FF.
+/// Whether the step agrees with the line for the noise 00 and for FF.
 pub fn agrees(row: &[u8; 58]) -> bool {
     agrees_with(row, 0x00) && agrees_with(row, 0xFF)
 }
 
-/// Whether it is with this noise, which the bits of F are that the manual leaves open.
+/// Whether the step agrees for this noise, which gives the bits of F that the manual leaves open.
 fn agrees_with(row: &[u8; 58], noise: u8) -> bool {
     let mut board = board_of(row);
     let Ok(Some(event)) = stepped(&mut board, &row[..4], noise) else {
@@ -109,7 +114,7 @@ fn words_of(regs: &Regs) -> [u16; 12] {
     ]
 }
 
-// The bytes of work and video RAM, each times its place from 1.
+// The sum over the bytes of work and video RAM, each multiplied by its place from 1.
 fn weighed(board: &Board) -> u32 {
     let mut sum: u32 = 0;
     let mut place: u32 = 0;
@@ -122,7 +127,8 @@ fn weighed(board: &Board) -> u32 {
     sum
 }
 
-// One step with the stack in 4380 to 43FF, 0000 the only start, and inputs that differ from one another; none is read.
+// One step with the stack in 4380 to 43FF and 0000 as the only start. The inputs differ from one another, but none is
+// read.
 fn stepped(board: &mut Board, rom: &[u8], noise: u8) -> Result<Option<Event>, Trap> {
     let Some(rom) = Rom::of(rom) else {
         return Err(Trap::FetchOutside);
@@ -147,7 +153,7 @@ fn stepped(board: &mut Board, rom: &[u8], noise: u8) -> Result<Option<Event>, Tr
     last_step(board, &rom, &profile, &env, 1)
 }
 
-// Four bytes that differ: this one, and the next three.
+// Four different bytes: this one and the next three.
 fn inputs_from(byte: u8) -> Inputs {
     Inputs {
         in0: byte,

@@ -1,34 +1,29 @@
-// Laws of the machine (docs/BOARD.md, "Runs"): its numbers stay in range, an event takes 4 to 23 T-states, and
-// from a state in an environment there is one step and one trap. Each law is the contract of a function with an empty body.
+// Laws of the machine (docs/BOARD.md, docs/SHAPES.md): its numbers stay in range, what each instruction does to the
+// words on the stack, and how the phase advances. Each law is the contract of a function with an empty body.
 #![tactic(auto)]
 
-ghost use Rattle.std.specs.Prelude.{◌≡◌, ◌≤◌, Option};
-ghost use Rattle.board_step.specs.State.{AreBytes, State, IsState};
-ghost use Rattle.board_step.specs.Env.{IsEnv};
-ghost use Rattle.board_step.specs.Hardware.{Hardware};
-ghost use Rattle.board_step.specs.Profile.{Profile};
-ghost use Rattle.board_step.specs.Run.{Reached};
-ghost use Rattle.board_step.specs.Step.{Step};
-ghost use Rattle.board_step.specs.Trap.{Traps};
-ghost use Rattle.board_step.specs.declared.env.Env.{Env};
-ghost use Rattle.board_step.specs.declared.event.Event.{Event};
-ghost use Rattle.board_step.specs.declared.profile.Trap.{Trap};
+mod clock;
+mod commits;
+mod instructions;
+mod machine;
+mod moves;
+mod words;
 
-/// A law: where the ROM holds bytes, a step leads from a state in range to one in range, and every state that a run
-/// from a reset reaches is in range.
-pub fn states_stay_in_range()
-    ensures step { (hardware : Hardware) (old new : State) (env : Env) (event : Event) → AreBytes hardware.rom → IsState old → IsEnv env → Step hardware old env event new → IsState new }
-    ensures reached { (hardware : Hardware) (s : State) → AreBytes hardware.rom → Reached hardware s → IsState s }
-{}
-
-/// A law: an event takes 4 to 23 T-states.
-pub fn events_take_time()
-    ensures { (hardware : Hardware) (old new : State) (env : Env) (event : Event) → Step hardware old env event new → (4 ≤ event.t) × (event.t ≤ 23) }
-{}
-
-/// A law: from one state in one environment there is one event and one next state at most, and one trap or none.
-pub fn steps_are_single()
-    ensures event { (hardware : Hardware) (old first second : State) (env : Env) (one other : Event) → Step hardware old env one first → Step hardware old env other second → one ≡ other }
-    ensures state { (hardware : Hardware) (old first second : State) (env : Env) (one other : Event) → Step hardware old env one first → Step hardware old env other second → first ≡ second }
-    ensures trap { (profile : Profile) (s : State) (env : Env) (one other : Option Trap) → Traps profile s env one → Traps profile s env other → one ≡ other }
-{}
+pub use clock::{
+    acceptances_begin_early, events_move_the_clock, phases_follow_the_time,
+    time_changes_the_clock_alone,
+};
+pub use commits::{
+    commits_stay_in_range, drafts_meet_no_trap, drafts_reach_the_board, missed_bytes_stay,
+    time_keeps_words,
+};
+pub use instructions::{
+    acceptances_lay_words, exchanges_swap_words, instructions_are_told_apart,
+    loads_of_sp_begin_a_stack, other_instructions_keep_words, pops_take_words, pushes_lay_words,
+};
+pub use machine::{events_take_time, states_stay_in_range, steps_are_single};
+pub use moves::{
+    calm_moves_keep_sp, drafts_keep_words, exchange_moves_swap_words, pop_moves_take_words,
+    push_moves_lay_words,
+};
+pub use words::{words_are_ordered, words_are_their_bytes, words_place_sp};

@@ -1,4 +1,4 @@
-// What an event starts from, and what it finds outside the processor.
+// The context of an event: the bus that its reads use.
 
 ghost use Rattle.std.specs.Prelude.{◌≡◌, slice_index};
 ghost use Rattle.board_step.specs.Context.{context_of};
@@ -11,7 +11,7 @@ use address_map::{Input, Map, ReadClass, Rom};
 use std::marker::Model;
 use z80_draft::Bus;
 
-/// What an event starts from: the ROM with its map, the board before it, and its environment.
+/// What an event starts from: the ROM, the map, the board before the event, and its environment.
 #[derive(Drop)]
 pub struct Context<'a> {
     rom: &'a Rom<'a>,
@@ -21,16 +21,16 @@ pub struct Context<'a> {
 }
 
 impl<'a> Model for Context<'a> {
-    ghost use Rattle.board_step.specs.Context.{Context as EventContext, context_of};
+    ghost use Rattle.board_step.specs.Context.{ContextView, context_of};
     ghost use Rattle.board_step.specs.Hardware.{hardware_of};
 
-    ghost Value = { EventContext };
+    ghost Value = { ContextView };
 
     ghost view = { λ c. context_of (hardware_of c.rom.now c.map.now) c.board.now c.env.now };
 }
 
 impl<'a> Context<'a> {
-    /// Lends what an event starts from.
+    /// A context that borrows all four.
     pub fn of(rom: &'a Rom<'a>, map: &'a Map, board: &'a Board, env: &'a Env) -> Context<'a>
         ensures { result ≡ context_of (hardware_of rom.now map.now) board.now env.now }
     {
@@ -67,7 +67,7 @@ impl<'a> Bus for Context<'a> {
 
     ghost outside = { outside_of };
 
-    // The inputs of the second set serve the later reads of an event.
+    // The first data read of an event takes the first set of inputs, later reads take the second.
     #[tactic(auto, unfolding(crate::specs::Reads::byte_read))]
     fn read(&self, is_later: bool, at: u16) -> u8 {
         match self.map.class(at).read {

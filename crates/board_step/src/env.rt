@@ -1,8 +1,8 @@
-// What one event takes from outside the machine.
+// The environment of one event.
 
 ghost use Rattle.board_step.specs.Env.{IsEnv, IsInputs};
 
-/// The bytes that the board's inputs give to one read: the three input ports, and the byte of an address that nothing drives.
+/// The bytes that one read may find outside the machine: the three input ports, and the byte of an open address.
 #[derive(Clone, Copy, PartialEq, Eq)]
 pub struct Inputs {
     pub in0: u8,
@@ -14,13 +14,13 @@ pub struct Inputs {
 /// What one event takes from outside the machine (docs/BOARD.md, "Environment").
 #[derive(Clone, Copy, PartialEq, Eq)]
 pub struct Env {
-    /// What the first and the second data byte read of the event find.
+    /// The inputs for the event's first data read, and for its later one.
     pub inputs: [Inputs; 2],
-    /// The value of each flag bit that the manual leaves unknown: bit k of F is bit k of this byte.
+    /// The noise byte: bit k of it is bit k of F wherever the manual leaves that flag undefined.
     pub noise: u8,
-    /// The byte that LD A,R gives.
+    /// The byte that LD A,R loads.
     pub r: u8,
-    /// Whether the vertical blank meets the NMI enable set, where the event changes the enable.
+    /// The latch bit: whether the vertical blank meets the NMI enable set, in an event that changes the enable.
     pub latch: bool,
 }
 
@@ -32,7 +32,7 @@ impl Inputs {
 }
 
 impl Env {
-    /// A law: every number of an environment is a byte.
+    /// A law: an environment has two sets of inputs, and each of its numbers is a byte.
     pub fn is_in_range(self)
         ensures { IsEnv self }
     {

@@ -1,13 +1,13 @@
-// What the machine does in one event.
+// Events of the machine.
 
-/// What the machine does in one event.
+/// The kind of an event (docs/BOARD.md, "Step").
 #[derive(Clone, Copy, PartialEq, Eq)]
 pub enum Kind {
-    /// It accepts an NMI.
+    /// The machine accepts a latched NMI.
     Accept,
-    /// It waits, halted.
+    /// The halted machine waits.
     Idle,
-    /// It does one instruction, or one turn of a repeating block instruction.
+    /// The machine executes one instruction, or one turn of a repeating block instruction.
     Instr,
 }
 
@@ -17,6 +17,6 @@ pub struct Event {
     pub kind: Kind,
     /// The program counter before the event.
     pub at: u16,
-    /// The T-states that the event takes, 4 to 23.
+    /// T-states that the event takes, 4 to 23.
     pub t: u8,
 }

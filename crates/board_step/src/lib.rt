@@ -1,4 +1,4 @@
-// The machine: a Z80 on the board of docs/BOARD.md, one event at a time; its definitions say what it does and what a run of it is.
+// The machine of docs/BOARD.md, one event at a time. The specs define an event, a run and safety.
 #![tactic(auto)]
 
 mod board;
@@ -12,8 +12,8 @@ mod trap;
 pub use board::{Board, Reset};
 pub use env::{Env, Inputs};
 pub use event::{Event, Kind};
-pub use known_instrs::{Costs, Known, may_return};
 pub use profile::{Profile, Trap};
+pub use z80_actions::{Costs, Known, may_return};
 pub use z80_draft::{StackAccess, Write, displace, regs_are_in_range, set_is_in_range};
 pub use z80_moves::{
     ByteRegister, Move, Moves, Test, WordRegister, moves_for, moves_of_acceptance,

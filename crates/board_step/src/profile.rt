@@ -1,9 +1,9 @@
-// What a board's steps are tested against, and why a step can't be done.
+// Profiles and traps.
 
 use address_map::{Map, Region, Starts};
 use thiserror::Error;
 
-/// What a board's steps are tested against, beside the ROM: its address map, where instructions may start, and the bytes that the stack may use.
+/// What a step is tested against, apart from the ROM: the map, where instructions may start, and the stack region.
 #[derive(Clone, Copy)]
 pub struct Profile<'a> {
     pub map: &'a Map,
@@ -11,10 +11,10 @@ pub struct Profile<'a> {
     pub region: Region,
 }
 
-/// Why a step can't be done. Of several reasons the first in this order is told (docs/BOARD.md, "Traps").
+/// Why a step is forbidden. Where several apply, the first in this order is reported (docs/BOARD.md, "Traps").
 #[derive(Clone, Copy, Debug, Error, PartialEq, Eq)]
 pub enum Trap {
-    /// The program counter is no start, or the instruction there goes past the ROM's end.
+    /// The program counter is no start, or the instruction there extends past the end of the ROM.
     #[error("fetch outside an accepted instruction")]
     FetchOutside,
     /// The bytes at the program counter spell no documented instruction.
@@ -23,7 +23,7 @@ pub enum Trap {
     /// A data write to the ROM.
     #[error("write to the ROM")]
     WriteRom,
-    /// A data write to an address where nothing listens.
+    /// A data write to an unmapped address.
     #[error("write to an unmapped address")]
     WriteUnmapped,
     /// A stack access outside the region.

@@ -7,7 +7,7 @@ use crate::profile::Trap;
 use address_map::{Map, Region, WriteClass};
 use z80_draft::{Draft, StackAccess, Write};
 
-/// The first trap of a draft, or None where it may reach the board.
+/// The first trap of a draft, if any: a data write to the ROM or to nothing, or a stack access outside the region.
 #[inline]
 #[tactic(auto, unfolding(crate::specs::Trap::trap_of_draft))]
 pub fn trap_of(draft: &Draft, map: &Map, region: Region) -> Option<Trap>
@@ -20,10 +20,11 @@ pub fn trap_of(draft: &Draft, map: &Map, region: Region) -> Option<Trap>
     }
 }
 
-/// The first trap of these data writes.
+/// The first trap of the data writes.
 #[inline]
 fn trap_of_writes(map: &Map, writes: &[Write]) -> Option<Trap>
-    ensures { result ≡ (if some_write map.now is_rom writes.now then Some Trap.WriteRom else if some_write map.now is_unmapped writes.now then Some Trap.WriteUnmapped else None) }
+    ensures { result ≡ (if some_write map.now is_rom writes.now then Some Trap.WriteRom else if
+        some_write map.now is_unmapped writes.now then Some Trap.WriteUnmapped else None) }
 {
     let mut unmapped = false;
     for write in writes {

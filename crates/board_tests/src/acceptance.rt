@@ -1,8 +1,8 @@
-// The NMI: when it is latched, when it is accepted, and what the flip-flop does. Expected values are worked by
-// hand from docs/BOARD.md; T-states are those of the instructions in docs/INSTRUCTIONS.md.
+// The NMI: when it is latched, when it is accepted, and what the flip-flop does. Expected values are worked by hand
+// from docs/BOARD.md, T-states from docs/INSTRUCTIONS.md.
 
 ghost use Rattle.std.specs.Prelude.{◌<◌};
-ghost use Rattle.frame_times.specs.Frame.{frame};
+ghost use Rattle.t_states.specs.Frame.{frame};
 
 use crate::machine::map_for;
 use address_map::{Cell, RamKind, Region, Rom, Starts};
@@ -31,7 +31,7 @@ fn env(latch: bool) -> Env {
     }
 }
 
-/// A board right after a reset, whose RAM and registers are 0.
+/// A board right after a reset, with all RAM and registers 0.
 fn board(phase: u32) -> Board
     requires { phase < frame }
 {
@@ -44,7 +44,7 @@ fn board(phase: u32) -> Board
     })
 }
 
-/// A main program from address 0 on, and at 0066 the NMI routine NOP; JR to itself.
+/// A main program at 0000, and the NMI routine NOP; JR to itself at 0066.
 fn with_routine(main: &[u8]) -> [u8; 0x69] {
     let mut rom = [0; 0x69];
     for (place, byte) in rom.iter_mut().zip(main) {
@@ -65,7 +65,7 @@ fn starts_at(addresses: &[u16]) -> Starts {
     starts
 }
 
-/// Steps through events with these latches, and gives the last, or the first trap.
+/// Executes one event per latch bit and returns the last event, or the first trap.
 fn steps(board: &mut Board, rom: &[u8], starts: &Starts, latches: &[bool]) -> Result<Event, Trap> {
     let mut last = Event {
         kind: Kind::Idle,
@@ -86,7 +86,7 @@ fn steps(board: &mut Board, rom: &[u8], starts: &Starts, latches: &[bool]) -> Re
     Ok(last)
 }
 
-/// Whether an event is of this kind, at this address and of so many T-states.
+/// Whether an event has this kind, address and number of T-states.
 fn is(event: Event, kind: Kind, at: u16, t: u8) -> bool {
     event.kind == kind && event.at == at && event.t == t
 }
@@ -98,7 +98,7 @@ fn work_byte(board: &Board, index: u16) -> u8 {
 /// LD SP,4400; LD A,1; LD (7001),A; JR to itself.
 const ENABLES: [u8; 10] = [0x31, 0x00, 0x44, 0x3E, 0x01, 0x32, 0x01, 0x70, 0x18, 0xFE];
 
-/// After events of 10, 7, 13 and 12 T-states from phase 50,650 the phase is 4, and the blank was met.
+/// Events of 10, 7, 13 and 12 T-states from phase 50,650 cross the blank and end at phase 4.
 #[test]
 fn an_nmi_is_accepted_after_the_blank(rt: HostRuntime) -> Result<(), Fail> {
     let rom = with_routine(&ENABLES);
@@ -130,9 +130,9 @@ fn an_acceptance_outside_the_region_traps(rt: HostRuntime) -> Result<(), Fail> {
     Ok(())
 }
 
-/// LD SP,4400; LD A,1; LD (7001),A; XOR A; LD (7001),A; JR to itself: the last store crosses the blank, and the
-/// environment says whether the blank meets the enable still set. If it does, an NMI is latched, although the
-/// enable is clear after the event.
+/// LD SP,4400; LD A,1; LD (7001),A; XOR A; LD (7001),A; JR to itself. The last store crosses the blank, and the
+/// environment decides whether the blank meets the enable set. If so, an NMI is latched although the enable is clear
+/// after the event.
 #[test]
 fn the_enable_is_cleared_in_the_very_event(rt: HostRuntime) -> Result<(), Fail> {
     let bytes = [
@@ -140,7 +140,7 @@ fn the_enable_is_cleared_in_the_very_event(rt: HostRuntime) -> Result<(), Fail> 
     ];
     let starts = starts_at(&[0, 3, 5, 8, 9, 12]);
     for (latch, kind) in [(true, Kind::Accept), (false, Kind::Instr)] {
-        // 10 + 7 + 13 + 4 = 34 T-states go by before the store of 13.
+        // 10 + 7 + 13 + 4 = 34 T-states pass before the store of 13.
         let mut board = board(50_688 - 34 - 13);
         steps(
             &mut board,
@@ -154,13 +154,14 @@ fn the_enable_is_cleared_in_the_very_event(rt: HostRuntime) -> Result<(), Fail> 
     Ok(())
 }
 
-/// A blank while the output of the flip-flop is up latches no second NMI: it is cleared by the enable alone.
+/// A blank while the line is set latches no second NMI; only the enable clears the line.
 #[test]
 fn a_line_that_is_up_latches_nothing(rt: HostRuntime) -> Result<(), Fail> {
     let rom = with_routine(&ENABLES);
     let starts = starts_at(&[0, 3, 5, 8, 0x66, 0x67]);
     let mut board = board(50_650);
-    // The acceptance ends at phase 15. NOP takes 4 T-states and each JR 12, so the next blank comes within 4,223 of them.
+    // The acceptance ends at phase 15. NOP takes 4 T-states and each JR 12, so the next blank comes within 4,223 of
+    // them.
     steps(&mut board, &rom, &starts, &[false; 6])?;
     let mut blanks = 0u32;
     for _ in 0..4_230 {
@@ -175,15 +176,15 @@ fn a_line_that_is_up_latches_nothing(rt: HostRuntime) -> Result<(), Fail> {
     Ok(())
 }
 
-/// LD SP,4400; LD A,1; LD (7001),A; HALT: the halted machine waits in turns of 4 T-states and accepts the NMI,
-/// which gives back the address behind HALT.
+/// LD SP,4400; LD A,1; LD (7001),A; HALT. The halted machine idles in turns of 4 T-states and accepts the NMI, which
+/// pushes the address after HALT.
 #[test]
 fn a_halted_machine_accepts(rt: HostRuntime) -> Result<(), Fail> {
     let mut main = ENABLES;
     main[8] = 0x76;
     let rom = with_routine(&main);
     let starts = starts_at(&[0, 3, 5, 8, 0x66, 0x67]);
-    // 10 + 7 + 13 + 4 = 34 T-states to the end of HALT, and two turns to the blank.
+    // 10 + 7 + 13 + 4 = 34 T-states to the end of HALT, and two idle turns to the blank.
     let mut board = board(50_688 - 34 - 8);
     steps(&mut board, &rom, &starts, &[false; 4])?;
     assert!(rt; board.kind() == Kind::Idle);
@@ -197,9 +198,8 @@ fn a_halted_machine_accepts(rt: HostRuntime) -> Result<(), Fail> {
     Ok(())
 }
 
-/// An acceptance never crosses the blank: it follows the event that did, and no event takes more than 23
-/// T-states, so it begins at phase 22 at most and ends at phase 33. Here EX (SP),IX, of 23, begins at the last
-/// phase of the frame.
+/// An acceptance never crosses a blank. It follows the event that did, which takes at most 23 T-states, so it begins at
+/// a phase of 22 at most and ends at 33 at most. Here EX (SP),IX, of 23, begins at the last phase of the frame.
 #[test]
 fn an_acceptance_begins_at_phase_22_at_most(rt: HostRuntime) -> Result<(), Fail> {
     // LD SP,43FE; LD A,1; LD (7001),A; EX (SP),IX; JR to itself.
@@ -208,7 +208,7 @@ fn an_acceptance_begins_at_phase_22_at_most(rt: HostRuntime) -> Result<(), Fail>
     ];
     let rom = with_routine(&main);
     let starts = starts_at(&[0, 3, 5, 8, 10, 0x66, 0x67]);
-    // 10 + 7 + 13 = 30 T-states go by before it.
+    // 10 + 7 + 13 = 30 T-states pass before it.
     let mut board = board(50_687 - 30);
     steps(&mut board, &rom, &starts, &[false; 4])?;
     assert!(rt; board.phase() == 22);
@@ -219,7 +219,7 @@ fn an_acceptance_begins_at_phase_22_at_most(rt: HostRuntime) -> Result<(), Fail>
     Ok(())
 }
 
-/// The phase behind a NOP from this phase on, and the kind of the next event.
+/// The phase after a NOP from this phase on, and the kind of the next event.
 fn after_a_nop(phase: u32) -> Result<(u32, Kind), Trap>
     requires { phase < frame }
 {
@@ -233,7 +233,7 @@ fn after_a_nop(phase: u32) -> Result<(u32, Kind), Trap>
     Ok((board.phase(), board.kind()))
 }
 
-/// The first and the last phase of a frame: NOP from phase 0 leads to 4, from phase 50,687 across the blank to 3.
+/// The first and the last phase of a frame: NOP leads from phase 0 to 4, and from phase 50,687 across the blank to 3.
 #[test]
 fn the_ends_of_the_frame(rt: HostRuntime) {
     assert!(rt; after_a_nop(0) == Ok((4, Kind::Instr)));

@@ -1,37 +1,37 @@
-// What writes of the NMI enable do to the flip-flop, and what a reset and an acceptance do to IFF1 and IFF2; worked by hand
-// from docs/BOARD.md, "Phase and flip-flop" and "Reset".
+// What writes of the NMI enable do to the flip-flop, and what a reset and an acceptance do to IFF1 and IFF2; worked by
+// hand from docs/BOARD.md, "Phase and flip-flop" and "Reset".
 
 use crate::machine::{WIDE, environment, filled, stepped};
 use board_step::{Board, Env, Kind, Reset};
 use std::test::Fail;
 use z80_alu::{RegisterSet, Regs};
 
-/// A program, how many of its events there are up to the one that ends with the blank, the T-states of all of them, the
-/// environment's latch, and what comes next.
+/// A program, the number of its events up to the one that ends at the blank, their T-states, the latch bit, and the
+/// kind of the next event.
 type Latch = (&'static [u8], u32, u32, bool, Kind);
 
 #[rattlefmt::skip]
 const LATCHES: &[Latch] = &[
-    // LD A,1; LD (7001),A: the enable is set in the very event that ends with the blank
+    // LD A,1; LD (7001),A: the enable is set in the very event that ends at the blank.
     (&[0x3E, 0x01, 0x32, 0x01, 0x70], 2, 20, true, Kind::Accept),
     (&[0x3E, 0x01, 0x32, 0x01, 0x70], 2, 20, false, Kind::Instr),
-    // LD A,3 and 2; LD (7001),A; NOP: bit 0 alone counts
+    // LD A,3 or 2; LD (7001),A; NOP: only bit 0 counts.
     (&[0x3E, 0x03, 0x32, 0x01, 0x70, 0x00], 3, 24, false, Kind::Accept),
     (&[0x3E, 0x02, 0x32, 0x01, 0x70, 0x00], 3, 24, true, Kind::Instr),
-    // LD A,1; LD (nn),A; NOP: the enable's mirrors, and what is none
+    // LD A,1; LD (nn),A; NOP: the enable's mirrors, and addresses that are not the enable.
     (&[0x3E, 0x01, 0x32, 0x09, 0x70, 0x00], 3, 24, false, Kind::Accept),
     (&[0x3E, 0x01, 0x32, 0xF9, 0x77, 0x00], 3, 24, false, Kind::Accept),
     (&[0x3E, 0x01, 0x32, 0x00, 0x70, 0x00], 3, 24, true, Kind::Instr),
     (&[0x3E, 0x01, 0x32, 0x02, 0x70, 0x00], 3, 24, true, Kind::Instr),
     (&[0x3E, 0x01, 0x32, 0x01, 0x68, 0x00], 3, 24, true, Kind::Instr),
     (&[0x3E, 0x01, 0x32, 0x01, 0x78, 0x00], 3, 24, true, Kind::Instr),
-    // LD HL,0100 and 0001; LD (7000),HL; NOP: the second byte of a word enables, the first does not
+    // LD HL,0100 or 0001; LD (7000),HL; NOP: the second byte of a word enables, the first does not.
     (&[0x21, 0x00, 0x01, 0x22, 0x00, 0x70, 0x00], 3, 30, false, Kind::Accept),
     (&[0x21, 0x01, 0x00, 0x22, 0x00, 0x70, 0x00], 3, 30, true, Kind::Instr),
-    // LD SP,7002; LD BC,0300 and 0003; PUSH BC; NOP: the high byte goes to 7001
+    // LD SP,7002; LD BC,0300 or 0003; PUSH BC; NOP: the high byte goes to 7001.
     (&[0x31, 0x02, 0x70, 0x01, 0x00, 0x03, 0xC5, 0x00], 4, 35, false, Kind::Accept),
     (&[0x31, 0x02, 0x70, 0x01, 0x03, 0x00, 0xC5, 0x00], 4, 35, true, Kind::Instr),
-    // LD A,1; LD (7001),A; XOR A; LD (7001),A; NOP: it is clear when the blank comes
+    // LD A,1; LD (7001),A; XOR A; LD (7001),A; NOP: the enable is clear when the blank comes.
     (&[0x3E, 0x01, 0x32, 0x01, 0x70, 0xAF, 0x32, 0x01, 0x70, 0x00], 5, 41, true, Kind::Instr),
 ];
 
@@ -42,7 +42,7 @@ fn with_latch(latch: bool) -> Env {
     }
 }
 
-/// What comes after the events of a row; None where their T-states are others.
+/// The kind of the next event after those of a row; None if their T-states differ.
 fn kind_after((rom, events, t, latch, _): Latch) -> Option<Kind> {
     let mut board = filled(0, 50_688u32.saturating_sub(t) % 50_688);
     let time = stepped(&mut board, rom, WIDE, events, &with_latch(latch)).ok()?;
@@ -60,7 +60,7 @@ fn latches_by_the_table(rt: HostRuntime) {
     }
 }
 
-/// EI or DI; LD SP,4400; LD A,1; LD (7001),A; JR to itself, and at 0066 a routine of at most 12 bytes.
+/// EI or DI; LD SP,4400; LD A,1; LD (7001),A; JR to itself; and at 0066 a routine of at most 12 bytes.
 fn with_routine(first: u8, routine: &[u8]) -> [u8; 0x72] {
     let mut rom = [0; 0x72];
     let main = [
@@ -77,7 +77,7 @@ fn with_routine(first: u8, routine: &[u8]) -> [u8; 0x72] {
 
 /// IFF1 and IFF2 after the acceptance and one instruction of the routine.
 fn iff_after(first: u8, routine: &[u8]) -> Option<(bool, bool)> {
-    // 4 + 10 + 7 + 13 = 34 T-states, and the JR of 12 ends with the blank.
+    // 4 + 10 + 7 + 13 = 34 T-states, and the JR of 12 ends at the blank.
     let mut board = filled(0, 50_688 - 46);
     let rom = with_routine(first, routine);
     stepped(&mut board, &rom, WIDE, 7, &environment()).ok()?;
@@ -97,8 +97,8 @@ fn an_acceptance_clears_iff1_alone(rt: HostRuntime) {
     assert!(rt; iff_after(di, &[0xED, 0x45]) == Some((false, false)));
 }
 
-/// The routine clears the enable and sets it again: XOR A; LD (7001),A; INC A; LD (7001),A; JR to itself. That clears the
-/// line, so the next blank is met again; that acceptance finds IFF1 clear and IFF2 set, and keeps IFF2.
+/// The routine clears the enable and sets it again: XOR A; LD (7001),A; INC A; LD (7001),A; JR to itself. That clears
+/// the line, so the next blank latches an NMI again. That acceptance finds IFF1 clear and IFF2 set, and keeps IFF2.
 #[test]
 fn a_cleared_line_latches_again(rt: HostRuntime) -> Result<(), Fail> {
     let routine = [0xAF, 0x32, 0x01, 0x70, 0x3C, 0x32, 0x01, 0x70, 0x18, 0xFE];
@@ -116,7 +116,7 @@ fn a_cleared_line_latches_again(rt: HostRuntime) -> Result<(), Fail> {
     Ok(())
 }
 
-/// A reset clears PC, I, R, IFF1 and IFF2 whatever is handed in, and keeps what else is.
+/// A reset clears PC, I, R, IFF1 and IFF2, whatever is given, and keeps the rest.
 #[test]
 fn a_reset_clears_what_it_must(rt: HostRuntime) {
     let main = RegisterSet {

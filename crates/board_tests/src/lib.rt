@@ -1,4 +1,4 @@
-// The tests of the board: its machine, by rows worked by hand.
+// The tests of the board, worked by hand.
 #![tactic(auto)]
 
 #[cfg(test)]

@@ -1,17 +1,17 @@
-// Steps whose answers come from the manual by hand. Those of another program are in crates/benchmarks.
+// Steps with answers worked by hand from the manual. Comparisons with another program are in crates/benchmarks.
 
 ghost use Rattle.std.specs.Prelude.{◌≡◌, ◌<◌, length};
-ghost use Rattle.frame_times.specs.Frame.{frame};
+ghost use Rattle.t_states.specs.Frame.{frame};
 
 use crate::rows::{BEFORE, BY_HAND, Row, TRAPS, TrapRow};
 use address_map::{Map, RamKind, Region, Rom, Starts};
+use board_fetch::fetch;
 use board_step::{Board, Costs, Env, Event, Inputs, Kind, Known, Profile, Reset, Trap, may_return};
-use rom_fetch::fetch;
 use t_states::cost;
 use z80_actions::Action;
 use z80_alu::{RegisterSet, Regs};
 
-// Each number of it is another, where a step can tell: an open read gives AA first and then BB, and R is 5C.
+// Its numbers are all different where a step can tell: an open read gives AA first and then BB, and R is 5C.
 pub(crate) fn environment() -> Env {
     let first = Inputs {
         in0: 0x10,
@@ -54,7 +54,7 @@ fn regs_of(words: &[u16; 11]) -> Regs {
     }
 }
 
-// The same, and I with IFF1 and IFF2 as bits 1 and 0.
+// The same, and I with IFF1 and IFF2 in bits 1 and 0.
 fn words_of(regs: &Regs) -> [u16; 12] {
     let latches = u16::from(regs.iff1) * 2 + u16::from(regs.iff2);
     [
@@ -84,7 +84,7 @@ fn rising(first: u8, step: u8) -> [u8; 0x400] {
     cells
 }
 
-// Cell i of work RAM holds 7i + 3, cell i of video RAM 5i + 1, modulo 256, and each of object RAM 6D.
+// Cell i of work RAM holds 7i + 3, cell i of video RAM 5i + 1, modulo 256; object RAM holds 6D.
 fn board_with(regs: Regs, phase: u32) -> Board
     requires { phase < frame }
 {
@@ -105,14 +105,14 @@ fn all_starts() -> Starts {
     starts
 }
 
-// The Galaxian board's map for a ROM.
+// The Galaxian map for a ROM.
 pub(crate) fn map_for(rom: &Rom) -> Map
     ensures { result.rom_len ≡ length rom.now }
 {
     Map::galaxian(rom.len())
 }
 
-// The stack's region of a certificate, and one of all addresses.
+// The stack region of a certificate, and one of all addresses.
 const NARROW: Region = Region {
     low: 0x4380,
     top: 0x4400,
@@ -123,7 +123,7 @@ pub(crate) const WIDE: Region = Region {
     top: 0xFFFF,
 };
 
-// Steps with the stack in a region, and each address a start: the T-states, or the trap.
+// Executes steps with a stack region and each address a start; returns the T-states, or the trap.
 pub(crate) fn stepped(
     board: &mut Board,
     rom: &[u8],
@@ -148,7 +148,7 @@ pub(crate) fn stepped(
     Ok(time)
 }
 
-// BEFORE with these changes.
+// The words of BEFORE with these changes.
 fn with(changes: &[(usize, u16)]) -> [u16; 12] {
     let mut words = words_of(&regs_of(&BEFORE));
     for (place, word) in changes {
@@ -169,7 +169,7 @@ fn has(board: &Board, cells: &[(u16, u8)]) -> bool {
     true
 }
 
-/// What differs from a row of BY_HAND after its steps: nothing, as no text, or the first of these.
+/// The first difference from a row of BY_HAND after its steps; empty if there is none.
 fn difference((rom, steps, changes, pc, t, cells): Row) -> &'static str {
     let mut board = board_with(regs_of(&BEFORE), 0);
     if stepped(&mut board, rom, WIDE, steps, &environment()) != Ok(t) {
@@ -195,7 +195,7 @@ fn agrees_with_the_manual(rt: HostRuntime) {
     }
 }
 
-/// What differs from a row of TRAPS, in the same way.
+/// The same for a row of TRAPS.
 fn trap_difference((rom, steps, trap): TrapRow) -> &'static str {
     let mut board = board_with(regs_of(&BEFORE), 0);
     if stepped(
@@ -270,7 +270,7 @@ fn fills_work_ram(rt: HostRuntime) {
 }
 
 // LD SP,4400; LD A,1; LD (7001),A; XOR A; LD (7001),A; JR to itself; at 0066 RETN. The blank comes while the enable is
-// cleared.
+// being cleared.
 fn enabling() -> [u8; 0x68] {
     let mut rom = [0; 0x68];
     let main = [
@@ -284,8 +284,7 @@ fn enabling() -> [u8; 0x68] {
     rom
 }
 
-/// The T-states of seven events from phase 50,650 with this latch, the program counter, the stack pointer, A with F, and
-/// the sum of work RAM behind them.
+/// Seven events from phase 50,650 with this latch bit: their T-states, and then PC, SP, AF, and the sum of work RAM.
 fn after_enabling(latch: bool) -> (Result<u32, Trap>, [u16; 3], u32) {
     let mut board = filled(0, 50_650);
     let env = Env {
@@ -308,7 +307,7 @@ fn latches_an_nmi_as_the_environment_says(rt: HostRuntime) {
     assert!(rt; after_enabling(false) == (Ok(71), regs, 0));
 }
 
-// The next event by what is known of it, where that can be found out.
+// Executes the next event by `step_known`, if the instruction can be decoded.
 fn step_by_known(board: &mut Board, rom: &Rom, map: &Map, env: &Env) -> Option<Event>
     requires { map.now.rom_len ≡ length rom.now }
 {
@@ -333,7 +332,7 @@ fn step_by_known(board: &mut Board, rom: &Rom, map: &Map, env: &Env) -> Option<E
     }
 }
 
-/// The T-states of seven events, each by what is known of it.
+/// The T-states of seven events by `step_known`.
 fn time_by_known(board: &mut Board, bytes: &[u8], env: &Env) -> u32 {
     let mut time: u32 = 0;
     if let Some(rom) = Rom::of(bytes) {

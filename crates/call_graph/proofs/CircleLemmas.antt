@@ -1,19 +1,18 @@
--- Ways of calls, circles, and a search along the calls.
+-- Ways of calls, cycles, and the search along the calls.
 use Rattle.std.proofs.Common.{◌≡◌, ◌≢◌, ℕ, zero, suc, ◌+◌, ◌-◌, ◌<◌, ◌≤◌, ◌⊎◌, take, inl, inr, sym, ◌∙◌, ap, arith, refl, subst, below_more, List, [], ◌∷◌, ◌++◌, length, get_or, set, true, false, Bool, sum_by, length-append, length-set, get_or-set_other}
 use Rattle.std.proofs.Math.ListN.{get_or-append}
-use Rattle.std.proofs.Math.Seq.{get_or-append_seam}
-use Rattle.std.proofs.Math.Seq.{take-suc}
+use Rattle.std.proofs.Math.Seq.{get_or-append_seam, take-suc}
 use Rattle.std.proofs.lemmas.List.{get_or-set_same, take_all}
 use Rattle.std.proofs.lemmas.Bool.{cases_eq, cases_lt}
 use Rattle.std.proofs.lemmas.List.Sums.{sum_by-set}
-use Rattle.call_graph.specs.Calls.{Calls, Way, IsCycle, IsLower}
-use Rattle.call_graph.specs.Circle.{Returns, IsShortestFrom, path_to, Traced, Place, Searched, step_proc, step_from, step_far, seen_at, unseen_one, left}
-use Rattle.call_graph.specs.Walk.{caller_at, callee_at}
+use Rattle.call_graph.specs.Calls.{Calls, CallPath, IsCycle, IsLower}
+use Rattle.call_graph.specs.Circle.{Returns, IsShortestFrom, path_to, Traced, PlaceInCircle, Searched, step_proc, step_from, step_far, seen_at, unseen_one, left}
+use Rattle.call_graph.specs.Walk.{caller_at, callee_of_edge}
 use Rattle.call_graph.proofs.CallLemmas.{numbered}
 use Rattle.call_graph.specs.declared.circle.Step.{Step}
 use Rattle.call_graph.specs.declared.edge.Edge.{Edge}
 
--- p calls the first of the list, each of it the next, and the last is q; of an empty list, p is q
+-- p calls the first of the list, each calls the next, and the last is q. For the empty list p is q.
 abbrev pub Trail : List Edge → ℕ → List ℕ → ℕ → Type 0
 Trail edges p [] q = p ≡ q
 Trail edges p (x ∷ xs) q = Calls edges p x × Trail edges x xs q
@@ -27,7 +26,7 @@ trail_last : (edges : List Edge) (p : ℕ) (xs : List ℕ) (q : ℕ) → Trail e
 trail_last edges p [] q trail = trail
 trail_last edges p (x ∷ xs) q trail = trail_last edges x xs q trail.1
 
--- a trail whose end calls its beginning is a circle
+-- a trail whose end calls its beginning is a cycle
 pub trail_cycle : (edges : List Edge) (p : ℕ) (xs : List ℕ) (q : ℕ) → Trail edges p xs q → Calls edges q p → IsCycle edges (p ∷ xs)
 trail_cycle edges p xs q trail call = record {
   some = omega arith;
@@ -35,9 +34,9 @@ trail_cycle edges p xs q trail call = record {
   back = let last : length (p ∷ xs) - 1 ≡ length xs = omega arith in rw (last, trail_last edges p xs q trail) call;
 }
 
--- where no more steps than are done are so far, calls that lead from the start lead to a step that is done
+-- if all steps up to a distance are done, calls of that number from the start lead to a step that is done
 done_way : (edges : List Edge) (start : ℕ) (seen : List Bool) (steps : List Step) (done : ℕ) → Searched edges start seen steps done → (q n : ℕ) →
-    ((j : ℕ) → j < length steps → step_far steps j ≤ n → j < done) → Way edges start q n → (i : ℕ) × (i < done) × (step_proc steps i ≡ q) × (step_far steps i ≤ n)
+    ((j : ℕ) → j < length steps → step_far steps j ≤ n → j < done) → CallPath edges start q n → (i : ℕ) × (i < done) × (step_proc steps i ≡ q) × (step_far steps i ≤ n)
 done_way edges start seen steps done s q zero all way =
     let near : step_far steps 0 ≡ 0 = s.traced.near in
     (0, all 0 s.traced.some (omega arith), s.traced.start_is ∙ way, omega arith)
@@ -49,19 +48,19 @@ done_way edges start seen steps done s q (suc n) all way =
     let most : step_far steps place.at ≤ suc n = omega arith in
     (place.at, all place.at place.inside most, place.is, most)
 
--- so no call of such a step leads back to the start
+-- so no call from such a step leads back to the start
 no_return : (edges : List Edge) (start : ℕ) (seen : List Bool) (steps : List Step) (done : ℕ) → Searched edges start seen steps done → (n : ℕ) →
     ((j : ℕ) → j < length steps → step_far steps j ≤ n → j < done) → Returns edges start n → ⊥
 no_return edges start seen steps done s n all back =
     let z = done_way edges start seen steps done s back.0 n all back.1 in
     (s.spread z.0 start z.1 (subst (λ x. Calls edges x start) (sym z.2) back.2)).0 refl
 
--- a search whose steps are all done found no circle through the start
+-- a search with all steps done found no cycle through the start
 pub search_none : (edges : List Edge) (start : ℕ) (seen : List Bool) (steps : List Step) (done : ℕ) → Searched edges start seen steps done → length steps ≤ done →
     (n : ℕ) → Returns edges start n → ⊥
 search_none edges start seen steps done s all n back = no_return edges start seen steps done s n (λ j h l. omega arith) back
 
--- ---- of the shortest circles, the search finds the lowest
+-- ---- of the shortest cycles, the search finds the lowest
 lower_front : (xs ys a b : List ℕ) → IsLower xs ys → IsLower (xs ++ a) (ys ++ b)
 lower_front [] ys a b h = absurd h
 lower_front (x ∷ xs) [] a b h = absurd h
@@ -71,11 +70,11 @@ lower_last : (xs : List ℕ) (x y : ℕ) → x < y → IsLower (xs ++ x ∷ []) 
 lower_last [] x y h = inl h
 lower_last (z ∷ xs) x y h = inr (refl, lower_last xs x y h)
 
--- the way to a step beside other procedures, of which the last has a place that is not before that step
+-- the way to a step compared with other procedures, the last of which has a place at or after that step
 abbrev Compared : List Step → ℕ → ℕ → ℕ → List ℕ → Type 0
 Compared steps n i j ws = IsLower (path_to steps n i) ws ⊎ ((path_to steps n i ≡ ws) × (i ≡ j))
 
--- a procedure of another circle has a place, and no way to an earlier step that is as far is above the circle so far
+-- a procedure of another cycle has a place, and no way to an earlier step at that distance is above the cycle so far
 record Reached (steps : List Step) (o : ℕ) (ws : List ℕ) (k : ℕ) : Type 0 where
   at : ℕ
   inside : at < length steps
@@ -164,7 +163,7 @@ search_lowest : (edges : List Edge) (start : ℕ) (seen : List Bool) (steps : Li
 search_lowest edges start seen steps done s next [] cycle first long = absurd (omega (arith, cycle.some))
 search_lowest edges start seen steps done s next (o ∷ ws) cycle first long = lowest_than edges start seen steps done s next o ws cycle first (omega arith)
 
--- a circle by the first step that calls the start is a shortest one, and the lowest of those
+-- the cycle of the first step that calls the start is a shortest one, and the lowest of those
 pub search_shortest : (edges : List Edge) (start : ℕ) (seen : List Bool) (steps : List Step) (done : ℕ) (list : List ℕ) → Searched edges start seen steps done →
     done < length steps → IsCycle edges list → get_or list 0 0 ≡ start → length list ≡ step_far steps done + 1 → list ≡ start ∷ path_to steps (step_far steps done) done → IsShortestFrom edges start list
 search_shortest edges start seen steps done list s inside cycle first long path = record {
@@ -206,7 +205,7 @@ search_begun edges start seen s room proc far from only start_seen = record {
   by_number = λ i j a l h. absurd (omega arith);
 }
 
--- one more step, to p, whom the step that is next calls
+-- one more step, to p, called from the next step
 record Pushed (steps more : List Step) (p done : ℕ) : Type 0 where
   longer : length more ≡ length steps + 1
   old_proc : (i : ℕ) → i < length steps → step_proc more i ≡ step_proc steps i
@@ -232,7 +231,7 @@ pushed steps p done =
       new_far = λ i e. ap (λ v. v.far) (new i e);
     }
 
-place_stays : (steps more : List Step) (p done q most caller : ℕ) → Pushed steps more p done → Place steps q most caller → Place more q most caller
+place_stays : (steps more : List Step) (p done q most caller : ℕ) → Pushed steps more p done → PlaceInCircle steps q most caller → PlaceInCircle more q most caller
 place_stays steps more p done q most caller add place =
     let longer : length more ≡ length steps + 1 = add.longer in
     let inside : place.at < length steps = place.inside in
@@ -358,19 +357,19 @@ pub search_more : (edges : List Edge) (start : ℕ) (seen : List Bool) (steps : 
 search_more edges start seen steps p done old inside fits call others =
     more_searched edges start seen steps (steps ++ (record { proc = p; from = done; far = step_far steps done + 1 }) ∷ []) p done (pushed steps p done) old inside fits call others
 
-pub place_more : (steps : List Step) (p done q most caller : ℕ) → Place steps q most caller → Place (steps ++ (record { proc = p; from = done; far = step_far steps done + 1 }) ∷ []) q most caller
+pub place_more : (steps : List Step) (p done q most caller : ℕ) → PlaceInCircle steps q most caller → PlaceInCircle (steps ++ (record { proc = p; from = done; far = step_far steps done + 1 }) ∷ []) q most caller
 place_more steps p done q most caller place = place_stays steps (steps ++ (record { proc = p; from = done; far = step_far steps done + 1 }) ∷ []) p done q most caller (pushed steps p done) place
 
-pub place_new : (steps : List Step) (p done : ℕ) → Place (steps ++ (record { proc = p; from = done; far = step_far steps done + 1 }) ∷ []) p (step_far steps done + 1) done
+pub place_new : (steps : List Step) (p done : ℕ) → PlaceInCircle (steps ++ (record { proc = p; from = done; far = step_far steps done + 1 }) ∷ []) p (step_far steps done + 1) done
 place_new steps p done =
     let add = pushed steps p done in
     let far = add.new_far (length steps) refl in
     let longer = add.longer in
     record { at = length steps; inside = rw longer (omega arith); is = add.new_proc (length steps) refl; near = rw far (omega arith); from = rw (add.new_from (length steps) refl) (omega arith) }
 
--- the step that was next is done
+-- the next step is done
 pub search_done : (edges : List Edge) (start : ℕ) (seen : List Bool) (steps : List Step) (done : ℕ) → Searched edges start seen steps done → done < length steps →
-    ((p : ℕ) → Calls edges (step_proc steps done) p → (p ≢ start) × Place steps p (step_far steps done + 1) done) → Searched edges start seen steps (done + 1)
+    ((p : ℕ) → Calls edges (step_proc steps done) p → (p ≢ start) × PlaceInCircle steps p (step_far steps done + 1) done) → Searched edges start seen steps (done + 1)
 search_done edges start seen steps done old inside all = record {
   room = old.room;
   traced = old.traced;
@@ -379,22 +378,22 @@ search_done edges start seen steps done old inside all = record {
       let x : step_far steps j ≤ step_far steps done + 1 = old.within j h inside in
       let y : step_far steps done ≤ step_far steps (done + 1) = old.rising done (done + 1) (omega arith) d in omega arith;
   placed = old.placed;
-  spread = λ i p l c. below_more (λ i. (p : ℕ) → Calls edges (step_proc steps i) p → (p ≢ start) × Place steps p (step_far steps i + 1) i) done (λ i l p c. old.spread i p l c) all i l p c;
+  spread = λ i p l c. below_more (λ i. (p : ℕ) → Calls edges (step_proc steps i) p → (p ≢ start) × PlaceInCircle steps p (step_far steps i + 1) i) done (λ i l p c. old.spread i p l c) all i l p c;
   marked = old.marked;
   behind = λ i h. let x : step_from steps i ≤ done = old.behind i h in omega arith;
   in_turn = old.in_turn;
   by_number = old.by_number;
 }
 
--- the same by the numbers of the calls: those before this number, and none from it on
+-- the same by the indices of the calls: those below this index, and none from it on
 pub search_passed : (edges : List Edge) (start : ℕ) (seen : List Bool) (steps : List Step) (done number : ℕ) → Searched edges start seen steps done → done < length steps →
-    ((i : ℕ) → i < number → i < length edges → caller_at edges i ≡ step_proc steps done → (callee_at edges i ≢ start) × Place steps (callee_at edges i) (step_far steps done + 1) done) →
+    ((i : ℕ) → i < number → i < length edges → caller_at edges i ≡ step_proc steps done → (callee_of_edge edges i ≢ start) × PlaceInCircle steps (callee_of_edge edges i) (step_far steps done + 1) done) →
     ((i : ℕ) → number ≤ i → i < length edges → caller_at edges i ≢ step_proc steps done) → Searched edges start seen steps (done + 1)
 search_passed edges start seen steps done number old inside before from =
     search_done edges start seen steps done old inside (λ p call.
     let e = numbered edges (step_proc steps done) p call in
     elim (cases_lt e.at number) [
-      | inl l ↦ subst (λ x. (x ≢ start) × Place steps x (step_far steps done + 1) done) e.callee (before e.at l e.inside e.caller)
+      | inl l ↦ subst (λ x. (x ≢ start) × PlaceInCircle steps x (step_far steps done + 1) done) e.callee (before e.at l e.inside e.caller)
       | inr l ↦ absurd (from e.at l e.inside e.caller)
     ])
 

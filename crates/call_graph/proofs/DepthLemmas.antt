@@ -1,4 +1,4 @@
--- The steps of the depths, and their definition by calls and by the numbers of calls.
+-- The loop of the depths, and their definition by calls and by indices.
 use Rattle.std.proofs.Common.{◌≡◌, ◌≢◌, ℕ, ◌+◌, ◌*◌, ◌<◌, ◌≤◌, inl, inr, sym, ◌∙◌, ap, arith, subst, suc, below_more, List, [], ◌∷◌, length, get_or, set, slice_index, map, true, false, get_or-set_same, get_or-set_other, length-set}
 use Rattle.std.specs.List.{Contains, IsDistinct, AllByRecursion, list_any}
 use Rattle.std.specs.List.Sorted.{IsPermutation}
@@ -8,12 +8,12 @@ use Rattle.std.proofs.lemmas.Map.Steps.{length-le_from_distinct_below}
 use Rattle.std.proofs.lemmas.Bool.{cases_order, cases_eq, ne_eqb, eqb-true, or_cases}
 use lib.Dec.{eqb}
 use Rattle.call_graph.specs.Calls.{Calls, IsCallOrder}
-use Rattle.call_graph.specs.Depths.{ByCaller, Orders, Suffices, AreDepths, AreNumbered, edge_of, call_at}
+use Rattle.call_graph.specs.Depths.{ByCaller, Orders, Suffices, AreDepths, HaveBytes, edge_of_call, call_at}
 use Rattle.call_graph.specs.declared.depth.Held.{Held}
 use Rattle.call_graph.specs.declared.edge.Edge.{Edge}
 use Rattle.call_graph.proofs.OrderLemmas.{place_in}
 
--- numbers below n with no two equal are at most n
+-- distinct numbers below n are at most n
 none : (x : ℕ) (xs : List ℕ) → ((j : ℕ) → j < length xs → x ≢ get_or xs j 0) → AllByRecursion (λ y. eqb x y ≡ false) xs
 none x [] h = tt
 none x (y ∷ ys) h = (ne_eqb x y (h 0 (omega arith)), none x ys (λ j l. h (suc j) (omega arith)))
@@ -41,7 +41,7 @@ one_place list a b once ha hb same = elim (cases_order a b) [
   | inr x ↦ elim x [ inl l ↦ absurd (once a b l hb same) | inr l ↦ absurd (once b a l ha (sym same)) ]
 ]
 
--- after a call of another procedure there is none of this one
+-- after a call of another caller there is none of this one
 pub rest_is_above : (calls : List Held) (proc at : ℕ) → ByCaller calls → at < length calls → proc ≤ (call_at calls at).caller → (call_at calls at).caller ≢ proc →
     (i : ℕ) → at ≤ i → i < length calls → (call_at calls i).caller ≢ proc
 rest_is_above calls proc at rising inside low other i l h same =
@@ -49,7 +49,7 @@ rest_is_above calls proc at rising inside low other i l h same =
     let differs : (call_at calls at).caller ≢ proc = other in
     omega arith
 
--- the callee of a call stands before the place of its caller
+-- a callee comes before its caller
 pub callee_place : (own : List ℕ) (calls : List Held) (list : List ℕ) → Orders own calls list → (k i : ℕ) → k < length list → i < length calls →
     slice_index list k ≡ (call_at calls i).caller → (j : ℕ) × (j < k) × (slice_index list j ≡ (call_at calls i).callee)
 callee_place own calls list orders k i hk hi is =
@@ -62,11 +62,11 @@ callee_place own calls list orders k i hk hi is =
     let same : place ≡ k = one_place list place k orders.once inside hk (caller ∙ sym is) in
     (z.0, omega arith, callee)
 
--- the call of a number is one of the calls
+-- the call at an index is one of the calls
 call_in : (calls : List Held) (i : ℕ) → i < length calls → Contains calls (call_at calls i)
 call_in calls i h = (i, h, get_or_default calls i (call_at calls i) (record { caller = 0; callee = 0; held = 0 }) h)
 
--- what the loop over the order keeps
+-- the invariant of the loop over the order
 pub record Settled (own : List ℕ) (calls : List Held) (list : List ℕ) (index : ℕ) (depths : List ℕ) : Type 0 where
   pub each : length depths ≡ length own
   pub own_bytes : (p : ℕ) → p < length own → slice_index own p ≤ slice_index depths p
@@ -119,18 +119,18 @@ settle own calls list index depths p v orders settled inside is own_fits held le
           rw (← z.2) (omega arith)) in omega arith));
     }
 
-contains_edge : (calls : List Held) (call : Held) → Contains calls call → Contains (map edge_of calls) (edge_of call)
-contains_edge calls call c = (c.0, rw (length-map calls edge_of) c.1, get_or-map edge_of calls c.0 call (edge_of call) c.1 ∙ ap edge_of c.2)
+contains_edge : (calls : List Held) (call : Held) → Contains calls call → Contains (map edge_of_call calls) (edge_of_call call)
+contains_edge calls call c = (c.0, rw (length-map calls edge_of_call) c.1, get_or-map edge_of_call calls c.0 call (edge_of_call call) c.1 ∙ ap edge_of_call c.2)
 
-held_at : (calls : List Held) (e : Edge) → Contains (map edge_of calls) e → (call : Held) × (Contains calls call × (edge_of call ≡ e))
+held_at : (calls : List Held) (e : Edge) → Contains (map edge_of_call calls) e → (call : Held) × (Contains calls call × (edge_of_call call ≡ e))
 held_at calls e c =
     let none_held : Held = record { caller = 0; callee = 0; held = 0 } in
-    let inside : c.0 < length calls = rw (length-map calls edge_of) at c.1 in
+    let inside : c.0 < length calls = rw (length-map calls edge_of_call) at c.1 in
     let call : Held = get_or calls c.0 none_held in
-    (call, ((c.0, inside, get_or_default calls c.0 call none_held inside), sym (get_or-map edge_of calls c.0 none_held e inside) ∙ c.2))
+    (call, ((c.0, inside, get_or_default calls c.0 call none_held inside), sym (get_or-map edge_of_call calls c.0 none_held e inside) ∙ c.2))
 
--- an order of the edges orders the calls, which stand in another order
-pub orders_from : (own : List ℕ) (calls sorted : List Held) (list : List ℕ) → AreNumbered own calls → IsPermutation calls sorted → IsCallOrder (map edge_of calls) list → Orders own sorted list
+-- an order of the edges also orders the calls, which are sorted otherwise
+pub orders_from : (own : List ℕ) (calls sorted : List Held) (list : List ℕ) → HaveBytes own calls → IsPermutation calls sorted → IsCallOrder (map edge_of_call calls) list → Orders own sorted list
 orders_from own calls sorted list numbered moved order =
     let none_held : Held = record { caller = 0; callee = 0; held = 0 } in
     let call_at : (i : ℕ) → i < length sorted → Contains calls (get_or sorted i none_held) =
@@ -149,13 +149,13 @@ orders_from own calls sorted list numbered moved order =
       callees = λ i h. (numbered (get_or sorted i none_held) (call_at i h)).1;
       callees_first = λ i h.
           let call = get_or sorted i none_held in
-          let edge : Calls (map edge_of calls) call.caller call.callee = contains_edge calls call (call_at i h) in
+          let edge : Calls (map edge_of_call calls) call.caller call.callee = contains_edge calls call (call_at i h) in
           let caller = place_in list call.caller (order.listed call.caller (call.callee, inl edge)) in
           let callee = place_in list call.callee (order.listed call.callee (call.caller, inr edge)) in
           (callee.0, (caller.0, (order.callees_first caller.0 callee.0 caller.1 callee.1 (rw (caller.2, callee.2) edge), caller.1, callee.2, caller.2)));
     }
 
--- what is settled after the last procedure are the depths
+-- after the last procedure all depths are known
 pub settled_all : (own : List ℕ) (calls : List Held) (list : List ℕ) (index : ℕ) (depths : List ℕ) → Orders own calls list → Settled own calls list index depths → length list ≡ index → AreDepths own calls depths
 settled_all own calls list index depths orders settled all = record {
   each = settled.each;
@@ -170,7 +170,7 @@ settled_all own calls list index depths orders settled all = record {
   least = settled.least;
 }
 
--- depths suffice for the calls in whatever order
+-- depths suffice for the calls in any order
 suffices_same : (own : List ℕ) (calls others : List Held) (depth : ℕ → ℕ) → IsPermutation calls others → Suffices own others depth → Suffices own calls depth
 suffices_same own calls others depth moved s = record { own_bytes = s.own_bytes; held_bytes = λ call c. s.held_bytes call (Contains-permutation calls others call moved c) }
 

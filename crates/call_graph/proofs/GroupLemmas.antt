@@ -1,20 +1,20 @@
--- A procedure leaves the path: it stands with the one before it, or it is put in order as a group.
+-- A procedure leaves the path: it joins the one before it, or it is put in order as a group.
 use Rattle.std.proofs.Common.{◌≡◌, ◌≢◌, ℕ, suc, zero, ◌+◌, ◌-◌, ◌<◌, ◌≤◌, ◌⊎◌, min, inl, inr, sym, ◌∙◌, ap, arith, subst, List, length}
 use Rattle.std.proofs.lemmas.Bool.{cases_eq, cases_lt}
 use Rattle.call_graph.specs.Calls.{Reaches}
-use Rattle.call_graph.specs.Walk.{State, Settled, StandsWith, Stands, Ordered, Kept, caller_at, callee_at}
+use Rattle.call_graph.specs.Walk.{WalkState, Settled, StandsWith, Stands, Ordered, Kept, caller_at, callee_of_edge}
 use Rattle.call_graph.specs.declared.edge.Edge.{Edge}
-use Rattle.call_graph.specs.declared.walk.Frame.{Frame}
+use Rattle.call_graph.specs.declared.walk.Visit.{Visit}
 use Rattle.call_graph.specs.declared.walk.Mark.TheVariants.{Met, Done}
 use Rattle.call_graph.proofs.CallLemmas.{calls_at, reaches_call, reaches_join}
 use Rattle.call_graph.proofs.WalkLemmas.{settled_low}
 
 -- a procedure on the path calls the next
-path_call : (edges : List Edge) (s : State) → Kept edges s → (k : ℕ) → k + 1 < s.depth → Reaches edges (s.met (s.frame k).place) (s.met (s.frame (k + 1)).place)
+path_call : (edges : List Edge) (s : WalkState) → Kept edges s → (k : ℕ) → k + 1 < s.depth → Reaches edges (s.met (s.frame k).place) (s.met (s.frame (k + 1)).place)
 path_call edges s kept k h = let z = kept.stands.calls k h in reaches_call edges _ _ (calls_at edges (s.frame k).next _ _ z.0 z.1 z.2)
 
--- calls lead from whatever is met before the next procedure on the path to this one
-reach_up : (edges : List Edge) (s : State) → Kept edges s → (k j : ℕ) → k < s.depth → j < s.size → (k + 1 < s.depth → j < (s.frame (k + 1)).place) →
+-- calls lead from each procedure met before the next one on the path to this one
+reach_up : (edges : List Edge) (s : WalkState) → Kept edges s → (k j : ℕ) → k < s.depth → j < s.size → (k + 1 < s.depth → j < (s.frame (k + 1)).place) →
     Reaches edges (s.met j) (s.met (s.frame k).place)
 reach_up edges s kept zero j h inside below =
     let root : (s.frame 0).place ≡ 0 = kept.stands.root h in
@@ -29,13 +29,13 @@ reach_up edges s kept (suc k) j h inside below =
       | inr l ↦ kept.leads.round (suc k) j (record { on = h; from = l; inside = inside; below = below })
     ]
 
--- the last procedure on the path stands with the one before it, and takes its low place along
-pub merge_kept : (edges : List Edge) (s : State) (n m : ℕ) (frame' : ℕ → Frame) → Kept edges s → n + 1 ≡ s.depth → m + 1 ≡ n →
+-- the last procedure on the path joins the one before it, which gets the lower of both low places
+pub merge_kept : (edges : List Edge) (s : WalkState) (n m : ℕ) (frame' : ℕ → Visit) → Kept edges s → n + 1 ≡ s.depth → m + 1 ≡ n →
     ((i : ℕ) → i < length edges → caller_at edges i ≡ s.met (s.frame n).place → i < (s.frame n).next) → (s.frame n).low < (s.frame n).place →
     ((k : ℕ) → k < m → frame' k ≡ s.frame k) →
     frame' m ≡ record { place = (s.frame m).place; next = (s.frame m).next; low = min (s.frame m).low (s.frame n).low } → Kept edges (record s { depth = n; frame = frame' })
 merge_kept edges s n m frame' kept last before_last done low other new =
-    let t : State = record s { depth = n; frame = frame' } in
+    let t : WalkState = record s { depth = n; frame = frame' } in
     let here : n < s.depth = omega arith in
     let up : (s.frame (m + 1)).place ≡ (s.frame n).place = ap (λ x. (s.frame x).place) before_last in
     let rises : (s.frame m).place < (s.frame n).place = (let x : (s.frame m).place < (s.frame (m + 1)).place = kept.stands.rising m (omega arith) in omega arith) in
@@ -95,16 +95,16 @@ merge_kept edges s n m frame' kept last before_last done low other new =
         ahead = λ k i h l is. let x : (frame' k).next ≡ (s.frame k).next = next k h in let y : s.met (frame' k).place ≡ s.met (s.frame k).place = proc k h in
             let a : (s.frame k).next ≤ i = omega arith in let z : s.met (s.frame k).place ≤ caller_at edges i = kept.stands.ahead k i (omega arith) a is in omega arith;
         behind = λ k i h l is. let x : (frame' k).next ≡ (s.frame k).next = next k h in let a : i < (s.frame k).next = omega arith in
-            weak k (callee_at edges i) h (kept.stands.behind k i (omega arith) a (is ∙ proc k h));
+            weak k (callee_of_edge edges i) h (kept.stands.behind k i (omega arith) a (is ∙ proc k h));
         shut = λ k j i c h l is. let on : k < n = c.on in let x : (frame' k).place ≡ (s.frame k).place = place k on in let a : (s.frame k).place < j = omega arith in
             elim (cases k on) [
-              | inr less ↦ weak k (callee_at edges i) on (kept.stands.shut k j i (covers k j c (λ e. absurd (omega arith))) a l is)
+              | inr less ↦ weak k (callee_of_edge edges i) on (kept.stands.shut k j i (covers k j c (λ e. absurd (omega arith))) a l is)
               | inl e ↦ elim (cases_lt j (s.frame n).place) [
-                | inl small ↦ weak k (callee_at edges i) on (kept.stands.shut k j i (covers k j c (λ e. small)) a l is)
+                | inl small ↦ weak k (callee_of_edge edges i) on (kept.stands.shut k j i (covers k j c (λ e. small)) a l is)
                 | inr big ↦ elim (cases_eq j (s.frame n).place) [
                   | inl same ↦ let caller : caller_at edges i ≡ s.met (s.frame n).place = is ∙ ap s.met same in
-                      weak_last k (callee_at edges i) e (kept.stands.behind n i here (done i l caller) caller)
-                  | inr ne ↦ weak_last k (callee_at edges i) e (kept.stands.shut n j i (covers_last j big c.inside) (omega arith) l is)
+                      weak_last k (callee_of_edge edges i) e (kept.stands.behind n i here (done i l caller) caller)
+                  | inr ne ↦ weak_last k (callee_of_edge edges i) e (kept.stands.shut n j i (covers_last j big c.inside) (omega arith) l is)
                 ]
               ]
             ];
@@ -140,7 +140,7 @@ merge_kept edges s n m frame' kept last before_last done low other new =
       ordered = kept.ordered;
     }
 
-rises : (edges : List Edge) (s : State) → Stands edges s → (k j : ℕ) → k < j → j < s.depth → (s.frame k).place < (s.frame j).place
+rises : (edges : List Edge) (s : WalkState) → Stands edges s → (k j : ℕ) → k < j → j < s.depth → (s.frame k).place < (s.frame j).place
 rises edges s stands k zero l h = absurd (omega arith)
 rises edges s stands k (suc j) l h =
     let next : j + 1 ≡ suc j = omega arith in
@@ -151,8 +151,8 @@ rises edges s stands k (suc j) l h =
       | inr ne ↦ let x : (s.frame k).place < (s.frame j).place = rises edges s stands k j (omega arith) (omega arith) in omega arith
     ]
 
--- whoever is met at this place or later is put in order, in a group
-pub record Closed (s t : State) (n place : ℕ) : Type 0 where
+-- the procedures met at this place or later are put in order, in a group
+pub record Closed (s t : WalkState) (n place : ℕ) : Type 0 where
   pub marks : (q : ℕ) → ((i : ℕ) × (place ≤ i) × (i < s.size) × (s.met i ≡ q) × (t.mark q ≡ Done s.done)) ⊎ ((t.mark q ≡ s.mark q) × ((i : ℕ) → place ≤ i → i < s.size → s.met i ≢ q))
   pub size : t.size ≡ place
   pub met : (i : ℕ) → i < place → t.met i ≡ s.met i
@@ -162,15 +162,15 @@ pub record Closed (s t : State) (n place : ℕ) : Type 0 where
   pub order_old : (k : ℕ) → k < s.done → t.order k ≡ s.order k
   pub order_new : (k i : ℕ) → s.done ≤ k → k + place ≡ s.done + i → i < s.size → t.order k ≡ s.met i
 
--- what the marks were
-record Was (s t : State) (place : ℕ) : Type 0 where
+-- the marks before
+record Was (s t : WalkState) (place : ℕ) : Type 0 where
   done_mark : (q a : ℕ) → s.mark q ≡ Done a → t.mark q ≡ Done a
   met_mark : (q i : ℕ) → s.mark q ≡ Met i → i < place → t.mark q ≡ Met i
   gone : (q i : ℕ) → s.mark q ≡ Met i → place ≤ i → t.mark q ≡ Done s.done
   was_met : (q i : ℕ) → t.mark q ≡ Met i → (s.mark q ≡ Met i) × (i < place)
   was_done : (q a : ℕ) → t.mark q ≡ Done a → (s.mark q ≡ Done a) ⊎ ((i : ℕ) × (place ≤ i) × (i < s.size) × (s.met i ≡ q) × (a ≡ s.done))
 
-was : (edges : List Edge) (s t : State) (n place : ℕ) → Stands edges s → Closed s t n place → Was s t place
+was : (edges : List Edge) (s t : WalkState) (n place : ℕ) → Stands edges s → Closed s t n place → Was s t place
 was edges s t n place stands c =
     let met : (q i : ℕ) → i < s.size → s.met i ≡ q → s.mark q ≡ Met i = λ q i h is. ap s.mark (sym is) ∙ stands.met_at i h in
     record {
@@ -188,7 +188,7 @@ was edges s t n place stands c =
       was_done = λ q a is. elim (c.marks q) [ inl z ↦ let x = z.4 in inr (z.0, z.1, z.2, z.3, cc) | inr z ↦ inl (sym z.0 ∙ is) ];
     }
 
-close_ordered : (edges : List Edge) (s t : State) (n : ℕ) → Kept edges s → Closed s t n (s.frame n).place → n + 1 ≡ s.depth →
+close_ordered : (edges : List Edge) (s t : WalkState) (n : ℕ) → Kept edges s → Closed s t n (s.frame n).place → n + 1 ≡ s.depth →
     ((i : ℕ) → i < length edges → caller_at edges i ≡ s.met (s.frame n).place → i < (s.frame n).next) → (s.frame n).place ≤ (s.frame n).low → Ordered edges t.mark t.done t.order
 close_ordered edges s t n kept c last followed low =
     let place : ℕ = (s.frame n).place in
@@ -244,13 +244,13 @@ close_ordered edges s t n kept c last followed low =
             ]
       ];
       falls = λ i a h is. elim (w.was_done (caller_at edges i) a is) [
-        | inl z ↦ let x = old.falls i a h z in (x.0, w.done_mark (callee_at edges i) x.0 x.1, x.2)
+        | inl z ↦ let x = old.falls i a h z in (x.0, w.done_mark (callee_of_edge edges i) x.0 x.1, x.2)
         | inr z ↦ let x : place ≤ z.0 = z.1 in
-            let settled : Settled s.mark (s.frame n).low (callee_at edges i) = elim (cases_eq z.0 place) [
+            let settled : Settled s.mark (s.frame n).low (callee_of_edge edges i) = elim (cases_eq z.0 place) [
               | inl same ↦ let caller : caller_at edges i ≡ s.met place = sym z.3 ∙ ap s.met same in kept.stands.behind n i here (followed i h caller) caller
               | inr ne ↦ kept.stands.shut n z.0 i (covers z.0 x z.2) (omega arith) h (sym z.3)
             ] in
-            let y = into_group (callee_at edges i) settled in
+            let y = into_group (callee_of_edge edges i) settled in
             let b : y.0 ≤ s.done = y.2 in let a_is : a ≡ s.done = z.4 in (y.0, y.1, omega arith)
       ];
       joined = λ p q a is is'. elim (w.was_done p a is) [
@@ -265,7 +265,7 @@ close_ordered edges s t n kept c last followed low =
       ];
     }
 
-pub close_kept : (edges : List Edge) (s t : State) (n : ℕ) → Kept edges s → Closed s t n (s.frame n).place → n + 1 ≡ s.depth →
+pub close_kept : (edges : List Edge) (s t : WalkState) (n : ℕ) → Kept edges s → Closed s t n (s.frame n).place → n + 1 ≡ s.depth →
     ((i : ℕ) → i < length edges → caller_at edges i ≡ s.met (s.frame n).place → i < (s.frame n).next) → (s.frame n).place ≤ (s.frame n).low → Kept edges t
 close_kept edges s t n kept c last followed high =
     let l : ℕ = (s.frame n).place in
@@ -318,9 +318,9 @@ close_kept edges s t n kept c last followed high =
             let z : t.met (t.frame k).place ≡ s.met (s.frame k).place = proc k x in let b : (s.frame k).next ≤ i = omega arith in
             let u : s.met (s.frame k).place ≤ caller_at edges i = kept.stands.ahead k i (omega arith) b m in omega arith;
         behind = λ k i h a is. let x : k < n = omega arith in let y : (t.frame k).next ≡ (s.frame k).next = next k x in let b : i < (s.frame k).next = omega arith in
-            rw (low k x) (settled (s.frame k).low (callee_at edges i) (kept.stands.behind k i (omega arith) b (is ∙ proc k x)));
+            rw (low k x) (settled (s.frame k).low (callee_of_edge edges i) (kept.stands.behind k i (omega arith) b (is ∙ proc k x)));
         shut = λ k j i v a m is. let on : k < t.depth = v.on in let x : k < n = omega arith in let y : (t.frame k).place ≡ (s.frame k).place = place k x in let b : (s.frame k).place < j = omega arith in
-            rw (low k x) (settled (s.frame k).low (callee_at edges i) (kept.stands.shut k j i (covers k j x v) b m (is ∙ met k j v)));
+            rw (low k x) (settled (s.frame k).low (callee_of_edge edges i) (kept.stands.shut k j i (covers k j x v) b m (is ∙ met k j v)));
       };
       leads = record {
         forth = λ k j v. let on : k < t.depth = v.on in let x : k < n = omega arith in rw (proc k x, met k j v) (kept.leads.forth k j (covers k j x v));

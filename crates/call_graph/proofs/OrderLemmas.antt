@@ -1,37 +1,37 @@
--- A walk that has seen every caller has an order, or the lowest procedure that lies on a circle; an order leaves no circle; and
--- both look at the calls alone.
+-- A walk that has seen every caller has an order, or finds the lowest procedure on a cycle. An order excludes cycles.
+-- Both depend only on which calls there are.
 use Rattle.std.proofs.Common.{◌≡◌, ◌≢◌, ℕ, ◌+◌, ◌-◌, ◌<◌, ◌≤◌, ◌⊎◌, inl, inr, sym, ◌∙◌, ap, arith, zero, suc, List, length, get_or, refl}
 use Rattle.std.specs.List.{Contains}
 use Rattle.std.specs.List.Sorted.{IsPermutation}
 use Rattle.std.proofs.lemmas.Bool.{cases_lt}
 use Rattle.std.proofs.lemmas.List.{get_or_default}
 use Rattle.std.proofs.lemmas.List.Sorted.{Contains-permutation, IsPermutation-sym}
-use Rattle.call_graph.specs.Calls.{Calls, Occurs, Way, Reaches, IsCallOrder, IsCycle, IsFaultOf}
+use Rattle.call_graph.specs.Calls.{Calls, Occurs, CallPath, Reaches, IsCallOrder, IsCycle, IsFaultOf}
 use Rattle.call_graph.specs.Circle.{IsLowestStart}
-use Rattle.call_graph.specs.Walk.{State, Kept, ByCaller, IsInGroup, state_of, mark_at, caller_at, callee_at}
+use Rattle.call_graph.specs.Walk.{WalkState, Kept, ByCaller, IsInGroup, walk_state_of, mark_at, caller_at, callee_of_edge}
 use Rattle.call_graph.proofs.CallLemmas.{calls_at, numbered, on_cycle, returns_of}
 use Rattle.call_graph.specs.declared.edge.Edge.{Edge}
 use Rattle.call_graph.specs.declared.fault.GraphFault.{GraphFault}
 use Rattle.call_graph.specs.declared.fault.GraphFault.TheVariants.{Cycle, NoMemory}
-use Rattle.call_graph.specs.declared.walk.Frame.{Frame}
+use Rattle.call_graph.specs.declared.walk.Visit.{Visit}
 use Rattle.call_graph.specs.declared.walk.Mark.{Mark}
 use Rattle.call_graph.specs.declared.walk.Mark.TheVariants.{Unseen, Met, Done}
 
--- what a mark may be
+-- the cases of a mark
 mark_cases : (m : Mark) → (m ≡ Unseen) ⊎ (((k : ℕ) × (m ≡ Met k)) ⊎ ((k : ℕ) × (m ≡ Done k)))
 mark_cases Unseen = inl refl
 mark_cases (Met k) = inr (inl (k, refl))
 mark_cases (Done k) = inr (inr (k, refl))
 
--- a number of a list stands at a place
+-- a number at a place of a list is in the list
 pub contains_at : (list : List ℕ) (k p : ℕ) → k < length list → get_or list k 0 ≡ p → Contains list p
 contains_at list k p h is = (k, h, get_or_default list k p 0 h ∙ is)
 
 pub place_in : (list : List ℕ) (p : ℕ) → Contains list p → (k : ℕ) × (k < length list) × (get_or list k 0 ≡ p)
 place_in list p c = (c.0, c.1, get_or_default list c.0 0 p c.1 ∙ c.2)
 
--- whoever was seen is in order once the walk is over
-in_order : (edges : List Edge) (s : State) → Kept edges s → s.depth ≡ 0 → (p : ℕ) → s.mark p ≢ Unseen → (a : ℕ) × (s.mark p ≡ Done a)
+-- after the walk every procedure that was seen is in order
+in_order : (edges : List Edge) (s : WalkState) → Kept edges s → s.depth ≡ 0 → (p : ℕ) → s.mark p ≢ Unseen → (a : ℕ) × (s.mark p ≡ Done a)
 in_order edges s kept empty p seen = elim (mark_cases (s.mark p)) [
   | inl u ↦ absurd (seen u)
   | inr x ↦ elim x [
@@ -40,29 +40,29 @@ in_order edges s kept empty p seen = elim (mark_cases (s.mark p)) [
   ]
 ]
 
--- whoever calls has a group
-caller_group : (edges : List Edge) (s : State) → Kept edges s → s.depth ≡ 0 → ((i : ℕ) → i < length edges → s.mark (caller_at edges i) ≢ Unseen) → (p q : ℕ) → Calls edges p q → (a : ℕ) × (s.mark p ≡ Done a)
+-- each caller has a group
+caller_group : (edges : List Edge) (s : WalkState) → Kept edges s → s.depth ≡ 0 → ((i : ℕ) → i < length edges → s.mark (caller_at edges i) ≢ Unseen) → (p q : ℕ) → Calls edges p q → (a : ℕ) × (s.mark p ≡ Done a)
 caller_group edges s kept empty seen p q call = let e = numbered edges p q call in
     in_order edges s kept empty p (λ u. seen e.at e.inside (ap s.mark e.caller ∙ u))
 
--- and whoever is called has that or an earlier one
-callee_group : (edges : List Edge) (s : State) → Kept edges s → (p q a : ℕ) → Calls edges p q → s.mark p ≡ Done a → (b : ℕ) × (s.mark q ≡ Done b) × (b ≤ a)
+-- a callee has the same group or an earlier one
+callee_group : (edges : List Edge) (s : WalkState) → Kept edges s → (p q a : ℕ) → Calls edges p q → s.mark p ≡ Done a → (b : ℕ) × (s.mark q ≡ Done b) × (b ≤ a)
 callee_group edges s kept p q a call is = let e = numbered edges p q call in
     let z = kept.ordered.falls e.at a e.inside (ap s.mark e.caller ∙ is) in
     (z.0, ap s.mark (sym e.callee) ∙ z.1, z.2)
 
-way_group : (edges : List Edge) (s : State) → Kept edges s → (p q a n : ℕ) → Way edges p q n → s.mark p ≡ Done a → (b : ℕ) × (s.mark q ≡ Done b) × (b ≤ a)
+way_group : (edges : List Edge) (s : WalkState) → Kept edges s → (p q a n : ℕ) → CallPath edges p q n → s.mark p ≡ Done a → (b : ℕ) × (s.mark q ≡ Done b) × (b ≤ a)
 way_group edges s kept p q a zero way is = (a, ap s.mark (sym way) ∙ is, omega arith)
 way_group edges s kept p q a (suc n) way is =
     let z = way_group edges s kept p way.0 a n way.1 is in
     let y = callee_group edges s kept way.0 q z.0 way.2 z.1 in
     let first : z.0 ≤ a = z.2 in let last : y.0 ≤ z.0 = y.2 in (y.0, y.1, omega arith)
 
--- where no call stays within a group, the order of the groups is an order of the calls
-pub order_of : (edges : List Edge) (marks : List Mark) (met : List ℕ) (path : List Frame) (order : List ℕ) → Kept edges (state_of marks met path order) → length path ≡ 0 →
+-- if no call stays within a group, the order of the groups orders the procedures
+pub order_of : (edges : List Edge) (marks : List Mark) (met : List ℕ) (path : List Visit) (order : List ℕ) → Kept edges (walk_state_of marks met path order) → length path ≡ 0 →
     ((i : ℕ) → i < length edges → mark_at marks (caller_at edges i) ≢ Unseen) → ((i : ℕ) → i < length edges → IsInGroup edges marks i → ⊥) → IsCallOrder edges order
 order_of edges marks met path order kept empty seen none =
-    let s : State = state_of marks met path order in
+    let s : WalkState = walk_state_of marks met path order in
     let old = kept.ordered in
     let listed : (p a : ℕ) → mark_at marks p ≡ Done a → Contains order p = λ p a is. let z = old.listed p a is in contains_at order z.0 p z.1 z.2 in
     record {
@@ -89,13 +89,13 @@ order_of edges marks met path order kept empty seen none =
           ];
     }
 
--- the caller of the first call that stays within a group is the lowest procedure that lies on a circle
-pub lowest_start : (edges : List Edge) (marks : List Mark) (met : List ℕ) (path : List Frame) (order : List ℕ) (p i : ℕ) → Kept edges (state_of marks met path order) → length path ≡ 0 →
+-- the caller of the first call that stays within a group is the lowest procedure on a cycle
+pub lowest_start : (edges : List Edge) (marks : List Mark) (met : List ℕ) (path : List Visit) (order : List ℕ) (p i : ℕ) → Kept edges (walk_state_of marks met path order) → length path ≡ 0 →
     ((i : ℕ) → i < length edges → mark_at marks (caller_at edges i) ≢ Unseen) → ByCaller edges → i < length edges → caller_at edges i ≡ p → IsInGroup edges marks i →
     ((j : ℕ) → j < i → IsInGroup edges marks j → ⊥) → IsLowestStart edges p
 lowest_start edges marks met path order p i kept empty seen rising inside is within before =
-    let s : State = state_of marks met path order in
-    let q : ℕ = callee_at edges i in
+    let s : WalkState = walk_state_of marks met path order in
+    let q : ℕ = callee_of_edge edges i in
     let back : Reaches edges q p = rw (← is) (kept.ordered.joined q (caller_at edges i) within.0 within.2 within.1) in
     record {
       returns = returns_of edges p q back.0 (calls_at edges i p q inside is refl) back.1;
@@ -119,7 +119,7 @@ lowest_start edges marks met path order p i kept empty seen rising inside is wit
           ];
     }
 
--- calls of other edges that are the same calls
+-- the same calls in another list
 occurs_same : (edges others : List Edge) → ((p q : ℕ) → Calls edges p q → Calls others p q) → (p : ℕ) → Occurs edges p → Occurs others p
 occurs_same edges others to p occurs = (occurs.0, elim occurs.1 [ inl call ↦ inl (to p occurs.0 call) | inr call ↦ inr (to occurs.0 p call) ])
 
@@ -148,7 +148,7 @@ fault_same edges others moved (Cycle list) fault = record {
 }
 fault_same edges others moved NoMemory h = tt
 
--- along a circle the places in an order go down
+-- along a cycle the places in an order would fall
 descends : (edges : List Edge) (list circle : List ℕ) → IsCallOrder edges list → IsCycle edges circle → (first : ℕ) → first < length list → get_or list first 0 ≡ get_or circle 0 0 →
     (i : ℕ) → i < length circle → (k : ℕ) × (k < length list) × (get_or list k 0 ≡ get_or circle i 0) × (k + i ≤ first)
 descends edges list circle order cycle first inside is zero h = (first, inside, is, omega arith)

@@ -1,13 +1,13 @@
--- Calls that were sorted stand by their callers, and those of one caller by their callees.
+-- Sorted calls are sorted by caller, then by callee.
 use Rattle.std.proofs.Common.{◌≡◌, ℕ, zero, suc, ◌+◌, ◌-◌, ◌<◌, ◌≤◌, Bool, true, false, cond, ltb, eqb, List, length, get_or, arith, refl, ap, sym, ◌∙◌, is_lt, nat_cmp}
 use Rattle.std.specs.Ordering.{ordering_then}
 use Rattle.std.specs.declared.cmp.Ordering.TheVariants.{Less, Equal, Greater}
 use Rattle.std.proofs.lemmas.Bool.Decides.{nat_tests}
 use Rattle.std.proofs.lemmas.List.Sorted.{IsNonDecreasingBy-from_all_adjacent}
-use Rattle.call_graph.specs.Walk.{ByCaller, ByCall, caller_at, callee_at}
+use Rattle.call_graph.specs.Walk.{ByCaller, ByCall, caller_at, callee_of_edge}
 use Rattle.call_graph.specs.declared.edge.Edge.{Edge}
 
--- no call is less than the one before it
+-- no call is below the one before it
 abbrev pub IsSortedCalls : List Edge → Type 0
 IsSortedCalls edges = (k : ℕ) (d : Edge) → 0 ≤ k → k + 1 < length edges →
     is_lt (ordering_then (nat_cmp (get_or edges (k + 1) d).caller (get_or edges k d).caller) (nat_cmp (get_or edges (k + 1) d).callee (get_or edges k d).callee)) ≡ false
@@ -38,8 +38,8 @@ module _ (edges : List Edge) (up : IsSortedCalls edges) where
   callers : ByCaller edges
   callers = IsNonDecreasingBy-from_all_adjacent (λ (e : Edge). e.caller) edges (λ k d h. caller_rises (get_or edges (k + 1) d).caller (get_or edges k d).caller (get_or edges (k + 1) d).callee (get_or edges k d).callee (up k d (omega arith) h))
 
-  callees : (i m : ℕ) → i + m < length edges → caller_at edges i ≡ caller_at edges (i + m) → callee_at edges i ≤ callee_at edges (i + m)
-  callees i zero h same = let at : i + 0 ≡ i = omega arith in omega (arith, ap (callee_at edges) at)
+  callees : (i m : ℕ) → i + m < length edges → caller_at edges i ≡ caller_at edges (i + m) → callee_of_edge edges i ≤ callee_of_edge edges (i + m)
+  callees i zero h same = let at : i + 0 ≡ i = omega arith in omega (arith, ap (callee_of_edge edges) at)
   callees i (suc m) h same =
       let none : Edge = record { caller = 0; callee = 0 } in
       let at : i + suc m ≡ i + m + 1 = omega arith in
@@ -47,14 +47,14 @@ module _ (edges : List Edge) (up : IsSortedCalls edges) where
       let high : caller_at edges (i + m) ≤ caller_at edges (i + suc m) = callers (i + m) (i + suc m) none (omega arith) h in
       let before : caller_at edges i ≡ caller_at edges (i + m) = omega arith in
       let last : caller_at edges (i + m + 1) ≡ caller_at edges (i + m) = ap (caller_at edges) (sym at) ∙ sym same ∙ before in
-      let rest : callee_at edges i ≤ callee_at edges (i + m) = callees i m (omega arith) before in
-      let step : callee_at edges (i + m) ≤ callee_at edges (i + m + 1) = callee_rises (caller_at edges (i + m + 1)) (caller_at edges (i + m)) (callee_at edges (i + m + 1)) (callee_at edges (i + m)) (up (i + m) none (omega arith) (omega arith)) last in
-      omega (arith, ap (callee_at edges) at)
+      let rest : callee_of_edge edges i ≤ callee_of_edge edges (i + m) = callees i m (omega arith) before in
+      let step : callee_of_edge edges (i + m) ≤ callee_of_edge edges (i + m + 1) = callee_rises (caller_at edges (i + m + 1)) (caller_at edges (i + m)) (callee_of_edge edges (i + m + 1)) (callee_of_edge edges (i + m)) (up (i + m) none (omega arith) (omega arith)) last in
+      omega (arith, ap (callee_of_edge edges) at)
 
   pub sorted_calls : ByCall edges
   sorted_calls = record {
     by_caller = callers;
     by_callee = λ i j le h same.
         let at : i + (j - i) ≡ j = omega arith in
-        omega (arith, ap (callee_at edges) at, callees i (j - i) (omega arith) (same ∙ ap (caller_at edges) (sym at)));
+        omega (arith, ap (callee_of_edge edges) at, callees i (j - i) (omega arith) (same ∙ ap (caller_at edges) (sym at)));
   }

@@ -1,15 +1,15 @@
--- Each step of the walk keeps what `Kept` says.
+-- Each step of the walk preserves `Kept`.
 use Rattle.std.proofs.Common.{◌≡◌, ◌≢◌, ℕ, ◌+◌, ◌<◌, ◌≤◌, min, inl, inr, sym, ◌∙◌, ap, arith, subst, List, length}
 use Rattle.std.proofs.lemmas.Bool.{cases_eq, cases_lt}
 use Rattle.call_graph.specs.Calls.{Occurs, Reaches}
-use Rattle.call_graph.specs.Walk.{State, Settled, StandsWith, Ordered, Kept, caller_at, callee_at}
+use Rattle.call_graph.specs.Walk.{WalkState, Settled, StandsWith, Ordered, Kept, caller_at, callee_of_edge}
 use Rattle.call_graph.specs.declared.edge.Edge.{Edge}
-use Rattle.call_graph.specs.declared.walk.Frame.{Frame}
+use Rattle.call_graph.specs.declared.walk.Visit.{Visit}
 use Rattle.call_graph.specs.declared.walk.Mark.{Mark}
 use Rattle.call_graph.specs.declared.walk.Mark.TheVariants.{Unseen, Met, Done}
 use Rattle.call_graph.proofs.CallLemmas.{reaches_self}
 
--- what is settled stays so, at a lower place and under other marks
+-- what is settled stays so for a lower place and under other marks
 pub settled_low : (mark : ℕ → Mark) (low low' q : ℕ) → low' ≤ low → Settled mark low q → Settled mark low' q
 settled_low mark low low' q h x = elim x [ inl d ↦ inl d | inr m ↦ let y : low ≤ m.0 = m.2 in inr (m.0, m.1, omega arith) ]
 
@@ -22,12 +22,12 @@ ordered_same edges mark mark' done order to from old = record {
   listed_at = λ k h. let z = old.listed_at k h in (z.0, to (order k) z.0 z.1);
   once = old.once;
   upward = λ i j a b l h is is'. old.upward i j a b l h (from (order i) a is) (from (order j) b is');
-  falls = λ i a h is. let z = old.falls i a h (from (caller_at edges i) a is) in (z.0, to (callee_at edges i) z.0 z.1, z.2);
+  falls = λ i a h is. let z = old.falls i a h (from (caller_at edges i) a is) in (z.0, to (callee_of_edge edges i) z.0 z.1, z.2);
   joined = λ p q a is is'. old.joined p q a (from p a is) (from q a is');
 }
 
--- one procedure more is met, and goes on the path
-pub record Entered (s t : State) (p b : ℕ) : Type 0 where
+-- one more procedure is met and put on the path
+pub record Entered (s t : WalkState) (p b : ℕ) : Type 0 where
   pub mark_new : t.mark p ≡ Met s.size
   pub mark_old : (q : ℕ) → q ≢ p → t.mark q ≡ s.mark q
   pub size : t.size ≡ s.size + 1
@@ -39,8 +39,8 @@ pub record Entered (s t : State) (p b : ℕ) : Type 0 where
   pub done : t.done ≡ s.done
   pub order : t.order ≡ s.order
 
-pub enter_kept : (edges : List Edge) (s t : State) (p b : ℕ) → Kept edges s → Entered s t p b → s.mark p ≡ Unseen → Occurs edges p →
-    ((k : ℕ) → k + 1 ≡ s.depth → ((s.frame k).next < length edges) × (caller_at edges (s.frame k).next ≡ s.met (s.frame k).place) × (callee_at edges (s.frame k).next ≡ p)) →
+pub enter_kept : (edges : List Edge) (s t : WalkState) (p b : ℕ) → Kept edges s → Entered s t p b → s.mark p ≡ Unseen → Occurs edges p →
+    ((k : ℕ) → k + 1 ≡ s.depth → ((s.frame k).next < length edges) × (caller_at edges (s.frame k).next ≡ s.met (s.frame k).place) × (callee_of_edge edges (s.frame k).next ≡ p)) →
     b ≤ length edges → ((i : ℕ) → i < b → caller_at edges i < p) → ((i : ℕ) → b ≤ i → i < length edges → p ≤ caller_at edges i) → Kept edges t
 enter_kept edges s t p b kept e unseen known called fits before from =
     let size : t.size ≡ s.size + 1 = e.size in
@@ -132,12 +132,12 @@ enter_kept edges s t p b kept e unseen known called fits before from =
           | inl same ↦ let x : (t.frame k).next ≡ b = next_new k same in let a : i < b = omega arith in
               let y : caller_at edges i ≡ p = is ∙ proc_new k same in let z : caller_at edges i < p = before i a in absurd (omega arith)
           | inr ne ↦ let n : k < s.depth = omega arith in let x : (t.frame k).next ≡ (s.frame k).next = next k n in let a : i < (s.frame k).next = omega arith in
-              rw (low k n) (settled (s.frame k).low (callee_at edges i) (kept.stands.behind k i n a (is ∙ proc k n)))
+              rw (low k n) (settled (s.frame k).low (callee_of_edge edges i) (kept.stands.behind k i n a (is ∙ proc k n)))
         ];
         shut = λ k j i c h l is. elim (cases_eq k s.depth) [
           | inl same ↦ let x : j ≡ s.size = covers_new k j same c in let y : (t.frame k).place ≡ s.size = place_new k same in absurd (omega arith)
           | inr ne ↦ let on : k < t.depth = c.on in let n : k < s.depth = omega arith in let x : (t.frame k).place ≡ (s.frame k).place = place k n in let a : (s.frame k).place < j = omega arith in
-              rw (low k n) (settled (s.frame k).low (callee_at edges i) (kept.stands.shut k j i (covers k j n c) a l (is ∙ met_same k j n c)))
+              rw (low k n) (settled (s.frame k).low (callee_of_edge edges i) (kept.stands.shut k j i (covers k j n c) a l (is ∙ met_same k j n c)))
         ];
       };
       leads = record {
@@ -160,12 +160,12 @@ enter_kept edges s t p b kept e unseen known called fits before from =
       ordered = rw (e.done, e.order) (ordered_same edges s.mark t.mark s.done s.order done_mark was_done kept.ordered);
     }
 
--- the last frame on the path goes past its edge
-pub advance_kept : (edges : List Edge) (s : State) (n to : ℕ) (frame' : ℕ → Frame) → Kept edges s → n + 1 ≡ s.depth → (s.frame n).next < length edges →
-    Settled s.mark to (callee_at edges (s.frame n).next) → Reaches edges (s.met (s.frame n).place) (s.met to) → ((k : ℕ) → k ≢ n → frame' k ≡ s.frame k) →
+-- the last frame on the path finishes its call
+pub advance_kept : (edges : List Edge) (s : WalkState) (n to : ℕ) (frame' : ℕ → Visit) → Kept edges s → n + 1 ≡ s.depth → (s.frame n).next < length edges →
+    Settled s.mark to (callee_of_edge edges (s.frame n).next) → Reaches edges (s.met (s.frame n).place) (s.met to) → ((k : ℕ) → k ≢ n → frame' k ≡ s.frame k) →
     frame' n ≡ record { place = (s.frame n).place; next = (s.frame n).next + 1; low = min (s.frame n).low to } → Kept edges (record s { frame = frame' })
 advance_kept edges s n to frame' kept last edge settled reaches other new =
-    let t : State = record s { frame = frame' } in
+    let t : WalkState = record s { frame = frame' } in
     let place : (k : ℕ) → (frame' k).place ≡ (s.frame k).place = λ k. elim (cases_eq k n) [
       | inl e ↦ ap (λ x. (frame' x).place) e ∙ (ap (λ f. f.place) new ∙ ap (λ x. (s.frame x).place) (sym e))
       | inr ne ↦ ap (λ f. f.place) (other k ne)
@@ -214,12 +214,12 @@ advance_kept edges s n to frame' kept last edge settled reaches other new =
               elim (cases_eq i (s.frame k).next) [
                 | inl same ↦ let y : (frame' k).low ≡ min (s.frame k).low to = low_new k e in
                     let at : i ≡ (s.frame n).next = same ∙ ap (λ x. (s.frame x).next) e in
-                    settled_low s.mark to (frame' k).low (callee_at edges i) (omega arith) (subst (λ x. Settled s.mark to (callee_at edges x)) (sym at) settled)
-                | inr ne ↦ weak k (callee_at edges i) (kept.stands.behind k i h (omega arith) (is ∙ proc k))
+                    settled_low s.mark to (frame' k).low (callee_of_edge edges i) (omega arith) (subst (λ x. Settled s.mark to (callee_of_edge edges x)) (sym at) settled)
+                | inr ne ↦ weak k (callee_of_edge edges i) (kept.stands.behind k i h (omega arith) (is ∙ proc k))
               ]
-          | inr ne ↦ let x : (frame' k).next ≡ (s.frame k).next = next_old k ne in weak k (callee_at edges i) (kept.stands.behind k i h (omega arith) (is ∙ proc k))
+          | inr ne ↦ let x : (frame' k).next ≡ (s.frame k).next = next_old k ne in weak k (callee_of_edge edges i) (kept.stands.behind k i h (omega arith) (is ∙ proc k))
         ];
-        shut = λ k j i c h l is. let x : (frame' k).place ≡ (s.frame k).place = place k in weak k (callee_at edges i) (kept.stands.shut k j i (covers k j c) (omega arith) l is);
+        shut = λ k j i c h l is. let x : (frame' k).place ≡ (s.frame k).place = place k in weak k (callee_of_edge edges i) (kept.stands.shut k j i (covers k j c) (omega arith) l is);
       };
       leads = record {
         forth = λ k j c. rw (proc k) (kept.leads.forth k j (covers k j c));

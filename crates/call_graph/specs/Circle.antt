@@ -1,14 +1,14 @@
--- What a search for a shortest circle of calls keeps true.
+-- Invariants of the search for a shortest cycle.
 use Rattle.std.specs.Prelude.{◌≡◌, ◌≢◌, ℕ, zero, suc, ◌+◌, ◌<◌, ◌≤◌, ◌⊎◌, Bool, true, false, List, [], ◌∷◌, ◌++◌, length, sum_by, slice_index, slice_index_or}
-use Rattle.call_graph.specs.Calls.{Calls, IsCycle, IsLower, Way}
+use Rattle.call_graph.specs.Calls.{Calls, IsCycle, IsLower, CallPath}
 use Rattle.call_graph.specs.declared.circle.Step.{Step}
 use Rattle.call_graph.specs.declared.edge.Edge.{Edge}
 
--- n calls and one more lead from p back to it
+-- n + 1 calls lead from p back to p
 abbrev pub Returns : List Edge → ℕ → ℕ → Type 0
-Returns edges p n = (q : ℕ) × Way edges p q n × Calls edges q p
+Returns edges p n = (q : ℕ) × CallPath edges p q n × Calls edges q p
 
--- the lowest of the shortest circles through p
+-- the lowest of the shortest cycles through p
 pub record IsShortestFrom (edges : List Edge) (p : ℕ) (list : List ℕ) : Type 0 where
   pub cycle : IsCycle edges list
   pub first : slice_index list 0 ≡ p
@@ -30,7 +30,7 @@ step_far steps i = (step_at steps i).far
 abbrev pub seen_at : List Bool → ℕ → Bool
 seen_at seen p = slice_index_or seen p false
 
--- the first step is the start, and each other one is called by an earlier one, one call farther
+-- The first step is the start. Each other one is called by an earlier step, one call farther.
 pub record Traced (edges : List Edge) (start : ℕ) (steps : List Step) : Type 0 where
   pub some : 0 < length steps
   pub start_is : step_proc steps 0 ≡ start
@@ -40,39 +40,39 @@ pub record Traced (edges : List Edge) (start : ℕ) (steps : List Step) : Type 0
   pub low : (i : ℕ) → i < length steps → step_far steps i ≤ i
   pub farther : (i : ℕ) → 0 < i → i < length steps → step_far steps i ≡ step_far steps (step_from steps i) + 1
 
--- the procedures on the way to a step, from one call after the start on
+-- the procedures on the way to a step, without the start
 abbrev pub path_to : List Step → ℕ → ℕ → List ℕ
 path_to steps zero i = []
 path_to steps (suc n) i = path_to steps n (step_from steps i) ++ step_proc steps i ∷ []
 
--- p has a place among the steps, at most so far, and whoever is first to call it has at most this place
-pub record Place (steps : List Step) (p most caller : ℕ) : Type 0 where
+-- p has a step, at a distance of at most `most`, and the first step that calls it is at most `caller`
+pub record PlaceInCircle (steps : List Step) (p most caller : ℕ) : Type 0 where
   pub at : ℕ
   pub inside : at < length steps
   pub is : step_proc steps at ≡ p
   pub near : step_far steps at ≤ most
   pub from : step_from steps at ≤ caller
 
--- the steps rise by how far they are, up to one more than the step that is next; whoever was seen has a place; and whoever
--- is called by one of the steps that are done has a place too, one call farther at most, and isn't the start. The steps come
--- by the places of those that call them, and those that one step calls by their numbers
+-- The steps rise by distance, up to one more than that of the next step. Each procedure that was seen has a step. A
+-- procedure called from one of the `done` steps is not the start and has a step, at most one call farther. Steps are
+-- sorted by the step that calls them, then by number.
 pub record Searched (edges : List Edge) (start : ℕ) (seen : List Bool) (steps : List Step) (done : ℕ) : Type 0 where
   pub room : length seen ≡ 65536
   pub traced : Traced edges start steps
   pub rising : (i j : ℕ) → i ≤ j → j < length steps → step_far steps i ≤ step_far steps j
   pub within : (j : ℕ) → j < length steps → done < length steps → step_far steps j ≤ step_far steps done + 1
   pub placed : (p : ℕ) → seen_at seen p ≡ true → (i : ℕ) × (i < length steps) × (step_proc steps i ≡ p)
-  pub spread : (i p : ℕ) → i < done → Calls edges (step_proc steps i) p → (p ≢ start) × Place steps p (step_far steps i + 1) i
+  pub spread : (i p : ℕ) → i < done → Calls edges (step_proc steps i) p → (p ≢ start) × PlaceInCircle steps p (step_far steps i + 1) i
   pub marked : (i : ℕ) → i < length steps → seen_at seen (step_proc steps i) ≡ true
   pub behind : (i : ℕ) → i < length steps → step_from steps i ≤ done
   pub in_turn : (i j : ℕ) → 0 < i → i ≤ j → j < length steps → step_from steps i ≤ step_from steps j
   pub by_number : (i j : ℕ) → 0 < i → i < j → j < length steps → step_from steps i ≡ step_from steps j → step_proc steps i < step_proc steps j
 
--- no step was called yet by the one at this place
+-- no step was called from the one at this place yet
 abbrev pub NoneFrom : List Step → ℕ → Type 0
 NoneFrom steps at = (i : ℕ) → 0 < i → i < length steps → step_from steps i < at
 
--- how many procedures are unseen, or have a place: it stays the same
+-- the unseen procedures plus the steps, a number that stays the same
 abbrev pub unseen_one : Bool → ℕ
 unseen_one true = 0
 unseen_one false = 1
@@ -80,7 +80,7 @@ unseen_one false = 1
 abbrev pub left : List Bool → List Step → ℕ
 left seen steps = sum_by unseen_one seen + length steps
 
--- the lowest procedure that lies on a circle
+-- the lowest procedure on any cycle
 pub record IsLowestStart (edges : List Edge) (p : ℕ) : Type 0 where
   pub returns : (n : ℕ) × Returns edges p n
   pub lowest : (list : List ℕ) → IsCycle edges list → (i : ℕ) → i < length list → p ≤ slice_index list i

@@ -1,4 +1,4 @@
--- The definitions: orders and circles of calls, depths, and what the walk and the search keep true.
+-- The definitions: orders and cycles of calls, depths, and the invariants of the walk and the search.
 pub mod Calls
 pub mod Circle
 pub mod Depths

@@ -1,4 +1,4 @@
-// A search for a shortest circle of calls, breadth first.
+// A breadth-first search for a shortest cycle of calls.
 ghost use Rattle.std.specs.Prelude.{◌≡◌, ℕ, ◌+◌, ◌<◌, ◌∷◌, List, IfNone, IfOk, IfSome, OnOk, false, length, slice_index, vec_len};
 ghost use Rattle.std.specs.Bool.{OnFalse, OnTrue};
 ghost use Rattle.call_graph.specs.Calls.{Calls, IsCycle};
@@ -8,8 +8,8 @@ ghost use Rattle.call_graph.specs.Walk.{ByCall};
 use crate::edge::{Edge, NUMBERS, ProcId, first_call};
 use std::alloc::{AllocError, Global};
 
-/// A procedure that the start of a search leads to, the place in the search of the one that calls it on a
-/// shortest way, and how many calls that way has.
+/// A procedure that the search has reached, the index of the step from which it was called, and the number of calls
+/// from the start to it.
 #[derive(Clone, Copy)]
 pub(crate) struct Step {
     pub(crate) proc: ProcId,
@@ -17,15 +17,16 @@ pub(crate) struct Step {
     pub(crate) far: usize,
 }
 
-/// The lowest of the shortest circles through this procedure, if there are any: a search from it, breadth first, along the
-/// calls, those of each caller by their callees.
+/// The lowest of the shortest cycles through `start`, or None. The search is breadth first and follows the calls of
+/// each caller in the order of their callees.
 pub(crate) fn circle_through(
     alloc: Global,
     calls: &[Edge],
     start: ProcId,
 ) -> Result<Option<Vec<ProcId>>, AllocError>
     requires { ByCall calls.now }
-    ensures some { IfOk result (λ found. IfSome found (λ list. IsShortestFrom calls.now start list.items)) }
+    ensures some { IfOk result
+        (λ found. IfSome found (λ list. IsShortestFrom calls.now start list.items)) }
     ensures none { IfOk result (λ found. IfNone found ((n : ℕ) → ¬ (Returns calls.now start n))) }
 {
     let (mut seen, mut steps) = begin(alloc, start)?;
@@ -39,7 +40,7 @@ pub(crate) fn circle_through(
     Ok(None)
 }
 
-/// No procedure of this many numbers.
+/// A set for this many procedures, empty.
 fn none_of(alloc: Global, count: usize) -> Result<Vec<bool>, AllocError>
     ensures room { IfOk result (λ set. vec_len set ≡ count) }
     ensures none { IfOk result (λ set. (p : ℕ) → seen_at set.items p ≡ false) }
@@ -47,9 +48,10 @@ fn none_of(alloc: Global, count: usize) -> Result<Vec<bool>, AllocError>
     vec![in alloc; false; count]
 }
 
-/// A search that has seen its start alone.
+/// A search that has reached only its start.
 fn begin(alloc: Global, start: ProcId) -> Result<(Vec<bool>, Vec<Step>), AllocError>
-    ensures searched { IfOk result (λ x. (calls : List Edge) → Searched calls start x.0.items x.1.items 0) }
+    ensures searched { IfOk result (λ x. (calls : List Edge)
+        → Searched calls start x.0.items x.1.items 0) }
     ensures first { IfOk result (λ x. NoneFrom x.1.items 0) }
 {
     let mut seen = none_of(alloc, NUMBERS)?;
@@ -63,7 +65,8 @@ fn begin(alloc: Global, start: ProcId) -> Result<(Vec<bool>, Vec<Step>), AllocEr
     Ok((seen, steps))
 }
 
-/// Goes along the calls of the procedure at this place: to new procedures, or to the start, which is told.
+/// Follows the calls of the procedure at step `at`: adds new procedures, or answers true if one of the calls leads to
+/// the start.
 fn spread(
     calls: &[Edge],
     start: ProcId,
@@ -75,9 +78,12 @@ fn spread(
     requires first { NoneFrom steps.old.items at }
     requires searched { Searched calls.now start seen.old steps.old.items at }
     requires inside { at < length steps.old.items }
-    ensures goes_on { IfOk result (λ closed. OnFalse closed (Searched calls.now start seen.new steps.new.items (at + 1))) }
+    ensures goes_on { IfOk result
+        (λ closed. OnFalse closed (Searched calls.now start seen.new steps.new.items (at + 1))) }
     ensures next { IfOk result (λ closed. OnFalse closed (NoneFrom steps.new.items (at + 1))) }
-    ensures closed { IfOk result (λ closed. OnTrue closed (Searched calls.now start seen.new steps.new.items at × (at < length steps.new.items) × Calls calls.now (step_proc steps.new.items at) start)) }
+    ensures closed { IfOk result
+        (λ closed. OnTrue closed (Searched calls.now start seen.new steps.new.items at
+        × (at < length steps.new.items) × Calls calls.now (step_proc steps.new.items at) start)) }
     ensures left { OnOk result (left seen.new steps.new.items ≡ left seen.old steps.old.items) }
 {
     let step = steps[at];
@@ -101,11 +107,15 @@ fn spread(
     Ok(false)
 }
 
-/// The circle that goes from the start to the procedure at this place, which calls the start.
+/// The cycle from the start to the procedure at step `at`, which calls the start.
 fn circle_from(alloc: Global, steps: &[Step], at: usize) -> Result<Vec<ProcId>, AllocError>
     requires inside { at < length steps.now }
     requires earlier { (i : ℕ) → 0 < i → i < length steps.now → step_from steps.now i < i }
-    ensures { IfOk result (λ list. (calls : List Edge) (start : ℕ) → Traced calls start steps.now → Calls calls (step_proc steps.now at) start → IsCycle calls list.items × (slice_index list.items 0 ≡ start) × (length list.items ≡ step_far steps.now at + 1) × (list.items ≡ start ∷ path_to steps.now (step_far steps.now at) at)) }
+    ensures { IfOk result (λ list. (calls : List Edge) (start : ℕ) → Traced calls start steps.now
+        → Calls calls (step_proc steps.now at) start
+        → IsCycle calls list.items × (slice_index list.items 0 ≡ start)
+        × (length list.items ≡ step_far steps.now at + 1)
+        × (list.items ≡ start ∷ path_to steps.now (step_far steps.now at) at)) }
 {
     let mut list = Vec::new(alloc);
     let mut place = at;

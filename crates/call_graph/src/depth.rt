@@ -1,14 +1,14 @@
-// How deep the stack gets under each procedure.
+// The depth of the stack under each procedure.
 ghost use Rattle.std.specs.Prelude.{◌≡◌, ℕ, ◌+◌, ◌*◌, ◌<◌, ◌≤◌, ◌^◌, IfErr, IfOk, length, map, slice_index};
 ghost use Rattle.call_graph.specs.Calls.{IsFaultOf};
-ghost use Rattle.call_graph.specs.Depths.{AreDepths, AreNumbered, ByCaller, Orders, call_at, edge_of};
+ghost use Rattle.call_graph.specs.Depths.{AreDepths, HaveBytes, ByCaller, Orders, call_at, edge_of_call};
 
 use crate::edge::{Call, Edge, ProcId, first_call};
 use crate::fault::GraphFault;
 use crate::ordering::order;
 use std::alloc::{AllocError, Global};
 
-/// A call, and the bytes that the caller has on the stack when the callee begins, the return address with them.
+/// A call, and the bytes on the stack when the callee begins, the return address among them.
 #[derive(Clone, Copy, PartialEq, Eq)]
 pub struct Held {
     pub caller: ProcId,
@@ -24,13 +24,13 @@ impl Call for Held {
     }
 }
 
-/// How many bytes deep the stack gets under each procedure: the least depths by which a procedure has room for
-/// its own bytes, and at each of its calls for the bytes that are held and the callee's depth. `own` has the own
-/// bytes of each procedure, by its number. The faults are those of `order`.
+/// The depth in bytes of the stack under each procedure: the least depths that suffice for the procedure's own bytes,
+/// and at each of its calls for the bytes held there and the callee's depth (docs/CALLS.md, "The depths"). `own` has
+/// the own bytes by procedure number. The errors are those of `order`.
 pub fn depths(alloc: Global, own: &[u32], calls: &[Held]) -> Result<Vec<u64>, GraphFault>
-    requires { AreNumbered own.now calls.now }
+    requires { HaveBytes own.now calls.now }
     ensures depths { IfOk result (λ list. AreDepths own.now calls.now list.items) }
-    ensures fault { IfErr result (IsFaultOf (map edge_of calls.now)) }
+    ensures fault { IfErr result (IsFaultOf (map edge_of_call calls.now)) }
 {
     let Ok(edges) = edges_of(alloc, calls) else {
         return Err(GraphFault::NoMemory);
@@ -46,9 +46,9 @@ pub fn depths(alloc: Global, own: &[u32], calls: &[Held]) -> Result<Vec<u64>, Gr
     }
 }
 
-/// The calls without the bytes that are held.
+/// The calls without their held bytes.
 fn edges_of(alloc: Global, calls: &[Held]) -> Result<Vec<Edge>, AllocError>
-    ensures { IfOk result (λ edges. edges.items ≡ map edge_of calls.now) }
+    ensures { IfOk result (λ edges. edges.items ≡ map edge_of_call calls.now) }
 {
     let mut edges = Vec::new(alloc);
     for call in calls {
@@ -60,15 +60,24 @@ fn edges_of(alloc: Global, calls: &[Held]) -> Result<Vec<Edge>, AllocError>
     Ok(edges)
 }
 
-/// The depth under a procedure, where the depths under its callees are known.
+/// The depth under a procedure whose callees have their depths.
 fn depth_of(calls: &[Held], depths: &[u64], own: u32, proc: ProcId) -> u64
     requires rising { ByCaller calls.now }
-    requires callees { (i : ℕ) → i < length calls.now → (call_at calls.now i).callee < length depths.now }
-    requires fits { (i : ℕ) → i < length calls.now → (call_at calls.now i).caller ≡ proc → slice_index depths.now (call_at calls.now i).callee < 2 ^ 63 }
+    requires callees { (i : ℕ) → i < length calls.now
+        → (call_at calls.now i).callee < length depths.now }
+    requires fits { (i : ℕ) → i < length calls.now → (call_at calls.now i).caller ≡ proc
+        → slice_index depths.now (call_at calls.now i).callee < 2 ^ 63 }
     ensures own { own ≤ result }
-    ensures held { (i : ℕ) → i < length calls.now → (call_at calls.now i).caller ≡ proc → (call_at calls.now i).held + slice_index depths.now (call_at calls.now i).callee ≤ result }
-    ensures least { (most : ℕ) → own ≤ most → ((i : ℕ) → i < length calls.now → (call_at calls.now i).caller ≡ proc → (call_at calls.now i).held + slice_index depths.now (call_at calls.now i).callee ≤ most) → result ≤ most }
-    ensures low { (most : ℕ) → ((i : ℕ) → i < length calls.now → (call_at calls.now i).caller ≡ proc → slice_index depths.now (call_at calls.now i).callee ≤ most) → result ≤ most + 2 ^ 32 }
+    ensures held { (i : ℕ) → i < length calls.now → (call_at calls.now i).caller ≡ proc
+        → (call_at calls.now i).held + slice_index depths.now
+        (call_at calls.now i).callee ≤ result }
+    ensures least { (most : ℕ) → own ≤ most
+        → ((i : ℕ) → i < length calls.now → (call_at calls.now i).caller ≡ proc
+        → (call_at calls.now i).held + slice_index depths.now (call_at calls.now i).callee ≤ most)
+        → result ≤ most }
+    ensures low { (most : ℕ)
+        → ((i : ℕ) → i < length calls.now → (call_at calls.now i).caller ≡ proc
+        → slice_index depths.now (call_at calls.now i).callee ≤ most) → result ≤ most + 2 ^ 32 }
 {
     let mut depth = u64::from(own);
     for at in first_call(calls, proc)..calls.len() {
@@ -81,7 +90,7 @@ fn depth_of(calls: &[Held], depths: &[u64], own: u32, proc: ProcId) -> u64
     depth
 }
 
-/// The depths, where each callee stands before its callers in `order`, and the calls stand by their callers.
+/// The depths, if `order` has each callee before its callers and the calls are sorted by caller.
 fn depths_along(
     alloc: Global,
     order: &[ProcId],
@@ -100,7 +109,7 @@ fn depths_along(
     Ok(depths)
 }
 
-/// The same numbers in eight bytes each.
+/// The same numbers, in 64 bits.
 fn wide(alloc: Global, own: &[u32]) -> Result<Vec<u64>, AllocError>
     ensures { IfOk result (λ list. list.items ≡ own.now) }
 {

@@ -1,22 +1,21 @@
-// Procedures, and the calls between them.
+// Procedures and the calls between them.
 ghost use Rattle.std.specs.Prelude.{◌≡◌, ℕ, ◌<◌, ◌≤◌, length, slice_index_or};
 ghost use Rattle.std.specs.List.Sorted.{IsNonDecreasingBy};
 
-/// A procedure, by its number: they count from 0 in the order of the certificate.
+/// The number of a procedure, from 0 in the order of the certificate.
 pub type ProcId = u16;
 
-/// How many numbers a procedure may have.
+/// The number of possible procedure numbers.
 pub(crate) const NUMBERS: usize = 65_536;
 
-/// A call: the procedure that calls, and the one that it calls. Calls are ordered by their callers, and those of one caller
-/// by their callees.
+/// A call from one procedure to another. Calls are ordered by caller, then by callee.
 #[derive(Clone, Copy, PartialEq, Eq, PartialOrd, Ord)]
 pub struct Edge {
     pub caller: ProcId,
     pub callee: ProcId,
 }
 
-/// What has a caller.
+/// Anything with a caller.
 pub(crate) trait Call {
     ghost called_by: { Self → ℕ };
 
@@ -33,12 +32,14 @@ impl Call for Edge {
     }
 }
 
-/// The number of the first of these calls whose caller is not before this procedure. They stand by their callers.
+/// The index of the first call whose caller is not below `proc`. The calls must be sorted by caller.
 pub(crate) fn first_call<C: Call>(calls: &[C], proc: ProcId) -> usize
     requires { IsNonDecreasingBy C.called_by calls.now }
     ensures bound { result ≤ length calls.now }
-    ensures before { (i : ℕ) (d : C) → i < result → C.called_by (slice_index_or calls.now i d) < proc }
-    ensures from { (i : ℕ) (d : C) → result ≤ i → i < length calls.now → proc ≤ C.called_by (slice_index_or calls.now i d) }
+    ensures before { (i : ℕ) (d : C) → i < result
+        → C.called_by (slice_index_or calls.now i d) < proc }
+    ensures from { (i : ℕ) (d : C) → result ≤ i → i < length calls.now
+        → proc ≤ C.called_by (slice_index_or calls.now i d) }
 {
     calls.partition_point(|call| call.caller() < proc)
 }

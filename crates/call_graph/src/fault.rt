@@ -1,14 +1,14 @@
-// Why there is no order of the procedures.
+// Faults of the call graph.
 use crate::edge::ProcId;
 use thiserror::Error;
 
 /// Why there is no order of the procedures.
 #[derive(Debug, Drop, Error)]
 pub enum GraphFault {
-    /// Procedures of which each calls the next, and the last the first.
+    /// A cycle: each procedure calls the next, and the last calls the first.
     #[error("procedures call one another in a circle")]
     Cycle(Vec<ProcId>),
-    /// There was no memory for the answer.
+    /// Memory was refused.
     #[error("out of memory")]
     NoMemory,
 }

@@ -1,4 +1,4 @@
-// The order of procedures by their calls, and the stack that each of them needs (docs/CALLS.md).
+// The order of procedures by their calls, and the depth of stack that each needs (docs/CALLS.md).
 #![tactic(auto)]
 
 mod circle;

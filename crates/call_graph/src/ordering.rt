@@ -10,9 +10,12 @@ use crate::fault::GraphFault;
 use crate::walk::Walk;
 use std::alloc::{AllocError, Global};
 
-/// The procedures of these calls, each of them once, and each callee before its callers. `Cycle` comes where
-/// there is no such order, with the lowest, read in order, of the shortest circles of calls through the lowest
-/// procedure that lies on any; `NoMemory` where memory was refused.
+/// The procedures of these calls, each once, and each callee before its callers (docs/CALLS.md, "The order").
+///
+/// # Errors
+///
+/// Cycle if the call graph has a cycle. The reported one is a shortest cycle through the lowest procedure that lies on
+/// any, and the lowest of those, read in order. NoMemory if memory is refused.
 pub fn order(alloc: Global, edges: &[Edge]) -> Result<Vec<ProcId>, GraphFault>
     ensures order { IfOk result (λ list. IsCallOrder edges.now list.items) }
     ensures acyclic { OnOk result ((list : List ℕ) → ¬ (IsCycle edges.now list)) }
@@ -25,7 +28,7 @@ pub fn order(alloc: Global, edges: &[Edge]) -> Result<Vec<ProcId>, GraphFault>
     order_by_caller(alloc, &calls)
 }
 
-/// The same of calls that stand by their callers, and those of one caller by their callees.
+/// The order for calls that are sorted by caller, then by callee.
 fn order_by_caller(alloc: Global, calls: &[Edge]) -> Result<Vec<ProcId>, GraphFault>
     requires { ByCall calls.now }
     ensures order { IfOk result (λ list. IsCallOrder calls.now list.items) }
@@ -40,7 +43,7 @@ fn order_by_caller(alloc: Global, calls: &[Edge]) -> Result<Vec<ProcId>, GraphFa
     }
 }
 
-/// A walk from each procedure of these calls, which stand by their callers.
+/// A walk from each caller. The calls must be sorted by caller.
 fn walk_along(alloc: Global, calls: &[Edge]) -> Result<Walk, AllocError>
     requires { ByCaller calls.now }
     ensures { IfOk result (AreGrouped calls.now) }
@@ -52,7 +55,7 @@ fn walk_along(alloc: Global, calls: &[Edge]) -> Result<Walk, AllocError>
     Ok(walk)
 }
 
-/// The fault that names the lowest of the shortest circles through this procedure, the lowest that lies on any.
+/// The fault with the lowest of the shortest cycles through `start`, which must be the lowest procedure on a cycle.
 fn circle_fault(alloc: Global, calls: &[Edge], start: ProcId) -> GraphFault
     requires rising { ByCall calls.now }
     requires lowest { IsLowestStart calls.now start }

@@ -6,13 +6,13 @@ use Rattle.std.proofs.lemmas.Grind.{common_steps}
 use Rattle.std.proofs.lemmas.List.{take_all}
 use Rattle.std.proofs.lemmas.List.Folds.{list_any_more}
 use Rattle.cert_lines.specs.declared.row.Row.{Row}
-use Rattle.safety.specs.Profile.{has_row}
+use Rattle.check_laws.specs.Profile.{has_row}
 
 -- whether a row stands at an address
 abbrev stands_at : ℕ → Row → Bool
 stands_at address row = row.address == address
 
--- where there is no row of the next number, no row more is taken
+-- if there is no row with the next number, one more row taken is no change
 pub none_taken : (rows : List Row) (n : ℕ) → slice_get rows n ≡ None → take (n + 1) rows ≡ take n rows
 none_taken rows n none =
     elim (slice_get_cases rows n).1 [

@@ -1,29 +1,22 @@
--- An accepted ROM. What is said of it in the crates below is passed on, so that a crate above names this one alone.
-use Rattle.std.specs.Prelude.{ℕ, ◌≡◌, List}
-use Rattle.address_map.specs.Starts.{is_start}
+-- Trusted: an accepted ROM. This file also passes on the definitions of lower crates that higher ones need.
+use Rattle.std.specs.Prelude.{ℕ, List}
 use Rattle.board_step.specs.Hardware.{Hardware}
-use Rattle.board_step.specs.Profile.{Profile}
-use Rattle.cert_order.specs.Contents.{Contents}
-use Rattle.code_map.specs.Code.{Code}
-pub use Rattle.safety.specs.Placed.{board_of}
-pub use Rattle.safety.specs.Program.{map_of_board}
-pub use Rattle.safety.specs.Acceptance.{Accepts, IsRefused}
-pub use Rattle.safety.specs.Profile.{certified_profile, has_row, nmi_time}
+use Rattle.board_step.specs.Profile.{ProfileView}
+use Rattle.cert_form.specs.Contents.{CertificateView}
+pub use Rattle.check_laws.specs.Board.{board_of}
+pub use Rattle.cert_form.specs.Contents.{map_of_board}
+pub use Rattle.check_laws.specs.Acceptance.{Accepts, IsRefused}
+pub use Rattle.check_laws.specs.Profile.{certified_profile, has_row, nmi_time}
 
 -- a ROM and the certificate that was accepted for it
-pub record Certified : Type 0 where
+pub record AcceptedView : Type 0 where
   pub rom : List ℕ
-  pub certificate : Contents
+  pub certificate : CertificateView
 
 -- the ROM with the address map that its certificate names
-abbrev pub hardware_on : Certified → Hardware
+abbrev pub hardware_on : AcceptedView → Hardware
 hardware_on c = board_of c.rom c.certificate
 
--- what its runs are tested against
-abbrev pub profile_on : Certified → Profile
+-- the profile that the ROM's runs are tested against
+abbrev pub profile_on : AcceptedView → ProfileView
 profile_on c = certified_profile c.rom c.certificate
-
--- the instructions of the ROM, which start at the rows of the certificate
-pub record IsCodeOf (c : Certified) (code : Code) : Type 0 where
-  pub rom : code.rom ≡ c.rom
-  pub starts : (address : ℕ) → is_start code.starts address ≡ has_row c.certificate.rows address

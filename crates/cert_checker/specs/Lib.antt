@@ -1,3 +1,4 @@
--- The definitions: what is accepted, and what its runs are tested against.
+-- Definitions of acceptance, and of the properties that the runs of an accepted ROM are tested against.
 pub mod Certified
+pub mod CodeOf
 pub mod Means

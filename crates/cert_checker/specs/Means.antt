@@ -1,17 +1,18 @@
--- Helper: what acceptance means of the runs of a ROM, and of its instructions.
+-- Helper: what acceptance means for the runs and the instructions of a ROM.
 use Rattle.std.specs.Prelude.{ℕ, ◌<◌, ◌≡◌, List, Bool}
 use Rattle.std.specs.List.{All}
 use Rattle.address_map.specs.Starts.{is_start}
 use Rattle.board_step.specs.Safe.{Safe}
 use Rattle.cert_lines.specs.declared.row.Row.{Row}
-use Rattle.cert_order.specs.Contents.{Contents}
+use Rattle.cert_form.specs.Contents.{CertificateView}
 use Rattle.code_map.specs.Code.{AllStand}
-use Rattle.safety.specs.Bounded.{KeepsTimes}
-use Rattle.safety.specs.Layout.{RunsAreLaidOut}
-use Rattle.safety.specs.Profile.{certified_profile, has_row, nmi_time}
+use Rattle.check_laws.specs.Bounded.{KeepsTimes}
+use Rattle.check_laws.specs.Layout.{RunsAreLaidOut}
+use Rattle.check_laws.specs.Profile.{certified_profile, has_row, nmi_time}
 
--- every run is safe, activations keep their time and are laid out on the board, and an instruction stands at each row, inside the ROM
-pub record Means (rom : List ℕ) (cert : Contents) : Type 0 where
+-- every run is safe; activations keep their time and are laid out on the board; an instruction stands at each row,
+-- inside the ROM
+pub record Means (rom : List ℕ) (cert : CertificateView) : Type 0 where
   pub safe : Safe (certified_profile rom cert) (nmi_time cert)
   pub bounded : KeepsTimes rom cert
   pub laid : RunsAreLaidOut rom cert

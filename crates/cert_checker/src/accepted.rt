@@ -5,12 +5,12 @@ ghost use Rattle.std.specs.List.{All};
 ghost use Rattle.address_map.specs.Starts.{is_start};
 ghost use Rattle.board_step.specs.Safe.{Safe};
 ghost use Rattle.board_step.specs.State.{AreBytes};
-ghost use Rattle.cert_checker.specs.Certified.{IsCodeOf};
+ghost use Rattle.cert_checker.specs.CodeOf.{IsCodeOf};
 ghost use Rattle.cert_checker.specs.Means.{Means};
-ghost use Rattle.safety.specs.Program.{map_of_board};
+ghost use Rattle.cert_form.specs.Contents.{map_of_board};
 ghost use Rattle.cert_lines.specs.declared.row.Row.{Row};
-ghost use Rattle.safety.specs.Acceptance.{Accepts};
-ghost use Rattle.safety.specs.Profile.{certified_profile, has_row, nmi_time};
+ghost use Rattle.check_laws.specs.Acceptance.{Accepts};
+ghost use Rattle.check_laws.specs.Profile.{certified_profile, has_row, nmi_time};
 
 use address_map::{Map, Rom, Starts};
 use certificate::Certificate;
@@ -18,8 +18,8 @@ use code_map::CodeMap;
 use std::alloc::{AllocError, Global};
 use std::marker::Model;
 
-/// A ROM with the certificate that the checker accepted for it, and the instructions that start at its rows. Every run of the
-/// board on it is safe: the invariant keeps what `check` found, and what it means.
+/// A ROM with the certificate that the checker accepted for it, and the instructions that start at its rows. The
+/// invariant keeps what `check` proved: every run of the board on this ROM is safe.
 #[derive(Drop)]
 pub struct Accepted<'r> {
     rom: Rom<'r>,
@@ -31,12 +31,13 @@ pub struct Accepted<'r> {
 impl<'r> Model for Accepted<'r> {
     ghost use Rattle.std.specs.Prelude.{◌≡◌};
     ghost use Rattle.board_step.specs.Safe.{Safe};
-    ghost use Rattle.cert_checker.specs.Certified.{Certified, IsCodeOf};
-    ghost use Rattle.safety.specs.Program.{map_of_board};
-    ghost use Rattle.safety.specs.Acceptance.{Accepts};
-    ghost use Rattle.safety.specs.Profile.{certified_profile, nmi_time};
+    ghost use Rattle.cert_checker.specs.Certified.{AcceptedView};
+    ghost use Rattle.cert_checker.specs.CodeOf.{IsCodeOf};
+    ghost use Rattle.cert_form.specs.Contents.{map_of_board};
+    ghost use Rattle.check_laws.specs.Acceptance.{Accepts};
+    ghost use Rattle.check_laws.specs.Profile.{certified_profile, nmi_time};
 
-    ghost Value = { Certified };
+    ghost Value = { AcceptedView };
 
     ghost view = { λ a. record { rom = a.rom; certificate = a.certificate } };
 
@@ -58,7 +59,7 @@ pub(crate) fn acceptance_means(rom: &[u8], certificate: &Certificate)
     certificate.is_in_form();
 }
 
-/// The addresses of a certificate's rows, each of which is below 4000h.
+/// The set of the rows' addresses.
 fn starts_of(certificate: &Certificate) -> Starts
     requires { All (λ (row : Row). row.address < 0x4000) certificate.now.rows }
     ensures { (address : ℕ) → is_start result address ≡ has_row certificate.now.rows address }
@@ -73,14 +74,16 @@ fn starts_of(certificate: &Certificate) -> Starts
 }
 
 impl<'r> Accepted<'r> {
-    /// Keeps a certificate that nothing is against with its ROM, and decodes the instructions at its rows. The error is want of memory.
+    /// Keeps an accepted certificate with its ROM, and decodes the instructions at its rows. The error is refused
+    /// memory.
     pub(crate) fn of(
         alloc: Global,
         rom: &'r [u8],
         certificate: Certificate,
     ) -> Result<Accepted<'r>, AllocError>
         requires { Accepts rom.now certificate }
-        ensures kept { IfOk result (λ accepted. (accepted.rom ≡ rom.now) × (accepted.certificate ≡ certificate)) }
+        ensures kept { IfOk result (λ accepted. (accepted.rom ≡ rom.now)
+            × (accepted.certificate ≡ certificate)) }
     {
         acceptance_means(rom, &certificate);
         let (Some(own), Some(lent)) = (Rom::of(rom), Rom::of(rom)) else {
@@ -96,7 +99,6 @@ impl<'r> Accepted<'r> {
         })
     }
 
-    /// The accepted certificate.
     pub fn certificate(&self) -> &Certificate
         ensures value { result.now ≡ self.now.certificate }
         ensures accepted { Accepts self.now.rom result.now }
@@ -104,22 +106,22 @@ impl<'r> Accepted<'r> {
         &self.certificate
     }
 
-    /// Gives the certificate back.
     pub fn into_certificate(self) -> Certificate
         ensures { result ≡ self.entry.certificate }
     {
         self.certificate
     }
 
-    /// The ROM that the certificate was accepted for.
+    /// The ROM for which the certificate was accepted.
     pub fn rom(&self) -> &Rom<'r>
         ensures value { result.now ≡ self.now.rom }
-        ensures safe { Safe (certified_profile result.now self.now.certificate) (nmi_time self.now.certificate) }
+        ensures safe { Safe (certified_profile result.now self.now.certificate)
+            (nmi_time self.now.certificate) }
     {
         &self.rom
     }
 
-    /// The address map that the certificate names.
+    /// The address map of the board that the certificate names.
     pub fn map(&self) -> &Map
         ensures value { result.now ≡ map_of_board self.now.certificate }
         ensures length { result.now.rom_len ≡ length self.now.rom }
@@ -127,7 +129,7 @@ impl<'r> Accepted<'r> {
         &self.map
     }
 
-    /// The instructions that start at the certificate's rows.
+    /// The instructions that start at the certificate's rows, decoded once.
     pub fn code(&self) -> &CodeMap<'r>
         ensures { IsCodeOf self.now result.now }
     {

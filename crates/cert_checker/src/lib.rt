@@ -1,5 +1,5 @@
-// The checker: which certificates of a ROM are accepted, and what acceptance means for every run of the
-// board (docs/CHECKER.md, docs/THEOREM.md).
+// The checker: which certificates it accepts for a ROM, and what that means for every run of the board
+// (docs/CHECKER.md, docs/THEOREM.md).
 #![tactic(auto)]
 
 mod accepted;
@@ -7,7 +7,7 @@ mod checking;
 
 pub use abs_step::{Reason, Saved};
 pub use accepted::Accepted;
-pub use cert_rules::Refused;
-pub use cert_ways::{compared, exit_cost};
 pub use certificate;
+pub use check_rules::Refused;
+pub use check_walks::{compared, exit_cost};
 pub use checking::{CheckFault, check};

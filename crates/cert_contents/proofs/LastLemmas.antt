@@ -1,14 +1,14 @@
--- The last element of a list, and what may stand behind it.
+-- The last element of a list, and what may come after it.
 use Rattle.std.proofs.Common.{◌≡◌, ◌≤◌, ◌-◌, ◌↔◌, ℕ, zero, suc, List, [], ◌∷◌, ◌++◌, length, slice_get, Some, refl, sym, ap, subst, ◌∙◌, arith}
-use Rattle.cert_order.specs.Contents.{Follow}
-use Rattle.cert_order.proofs.Lists.{same_cons}
+use Rattle.cert_form.specs.Form.{Follow}
+use Rattle.cert_form.proofs.Lists.{same_cons}
 
 -- this element is the last of the list
 pub record HasLast {X : Type 0} (xs : List X) (last : X) : Type 0 where
   pub before : List X
   pub whole : xs ≡ before ++ last ∷ []
 
--- it stands behind the others
+-- it comes after the others
 pub split_last : {X : Type 0} (xs : List X) (last : X) → slice_get xs (length xs - 1) ≡ Some last → HasLast xs last
 split_last [] last e = cc
 split_last (x ∷ []) last e =
@@ -19,7 +19,7 @@ split_last (x ∷ y ∷ xs) last e =
     let others = split_last (y ∷ xs) last (subst (λ n. slice_get (x ∷ y ∷ xs) n ≡ Some last) at e) in
     record { before = x ∷ others.before; whole = same_cons x x (y ∷ xs) (others.before ++ last ∷ []) refl others.whole }
 
--- an element that stands so to the last may stand behind it
+-- an element with this relation to the last one may come after it
 pub follow_push : {X : Type 0} (R : X → X → Type 0) (before : List X) (last x : X) → Follow R (before ++ last ∷ []) →
     R last x → Follow R ((before ++ last ∷ []) ++ x ∷ [])
 follow_push R [] last x follow stands = (stands, tt)
@@ -33,7 +33,7 @@ stands_to_last R [] last x follow = follow.0
 stands_to_last R (y ∷ []) last x follow = follow.1.0
 stands_to_last R (y ∷ z ∷ before) last x follow = stands_to_last R (z ∷ before) last x follow.1
 
--- so an element may stand behind a list in order exactly where it stands so to the last
+-- so an element may come after an ordered list exactly if it has this relation to the last one
 pub stands_behind : {X : Type 0} (R : X → X → Type 0) (xs : List X) (last x : X) → Follow R xs →
     slice_get xs (length xs - 1) ≡ Some last → R last x ↔ Follow R (xs ++ x ∷ [])
 stands_behind R xs last x follow at =
@@ -43,7 +43,7 @@ stands_behind R xs last x follow at =
       λ longer. stands_to_last R cut.before last x (subst (λ ys. Follow R (ys ++ x ∷ [])) cut.whole longer),
     )
 
--- where the numbers of a list do not fall, none is above the last
+-- if the numbers of a list do not fall, none is above the last
 pub none_above : {X : Type 0} (number : X → ℕ) (before : List X) (last : X) →
     Follow (λ x y. number x ≤ number y) (before ++ last ∷ []) → (i : ℕ) (x : X) →
     slice_get (before ++ last ∷ []) i ≡ Some x → number x ≤ number last
@@ -60,12 +60,12 @@ none_above number (y ∷ z ∷ before) last follow zero x at =
 none_above number (y ∷ []) last follow (suc i) x at = none_above number [] last tt i x at
 none_above number (y ∷ z ∷ before) last follow (suc i) x at = none_above number (z ∷ before) last follow.1 i x at
 
--- the number of the last element is the length of the others
+-- the number of the last element is the number of those before it
 get_last : {X : Type 0} (before : List X) (last : X) → slice_get (before ++ last ∷ []) (length before) ≡ Some last
 get_last [] last = refl
 get_last (x ∷ before) last = get_last before last
 
--- so a bound of the last is one of all
+-- so a bound of the last is a bound of all
 pub bounds_all : {X : Type 0} (number : X → ℕ) (xs before : List X) (last : X) (bound : ℕ) → xs ≡ before ++ last ∷ [] →
     Follow (λ x y. number x ≤ number y) xs →
     (number last ≤ bound) ↔ ((i : ℕ) (x : X) → slice_get xs i ≡ Some x → number x ≤ bound)
@@ -79,14 +79,14 @@ bounds_all number xs before last bound whole follow = (
   λ all. all (length before) last (ap (λ ys. slice_get ys (length before)) whole ∙ get_last before last),
 )
 
--- an element may stand behind a list to which each of its elements stands so
+-- an element may come after a list if each of its elements has this relation to it
 pub follow_all : {X : Type 0} (R : X → X → Type 0) (xs : List X) (x : X) → Follow R xs →
     ((i : ℕ) (y : X) → slice_get xs i ≡ Some y → R y x) → Follow R (xs ++ x ∷ [])
 follow_all R [] x follow all = tt
 follow_all R (y ∷ []) x follow all = (all zero y refl, tt)
 follow_all R (y ∷ z ∷ xs) x follow all = (follow.0, follow_all R (z ∷ xs) x follow.1 (λ i w at. all (suc i) w at))
 
--- an element of the front stands in the whole list
+-- an element of the first part is in the whole list
 pub get_in_front : {X : Type 0} (xs ys : List X) (i : ℕ) (x : X) → slice_get xs i ≡ Some x → slice_get (xs ++ ys) i ≡ Some x
 get_in_front [] ys i x at = cc
 get_in_front (y ∷ xs) ys zero x at = at

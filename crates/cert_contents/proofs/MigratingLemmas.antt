@@ -5,14 +5,16 @@ use Rattle.cert_lines.specs.Row.{IsArmed, IsRow}
 use Rattle.cert_lines.specs.declared.row.Row.{Row}
 use Rattle.cert_lines.specs.declared.version.Version.{Version}
 use Rattle.cert_lines.specs.declared.version.Version.TheVariants.{One, Two}
-use Rattle.cert_order.specs.Contents.{Contents, IsInForm, IsRowOf, SuitsVersion, migrated, migrated_board, migrated_cells, migrated_row}
-use Rattle.cert_order.proofs.Lists.{same_cons}
+use Rattle.cert_form.specs.Contents.{CertificateView}
+use Rattle.cert_form.specs.Migrated.{migrated, migrated_board, migrated_cells, migrated_row}
+use Rattle.cert_form.specs.Form.{IsInForm, IsRowOf, SuitsVersion}
+use Rattle.cert_form.proofs.Lists.{same_cons}
 
 -- what a certificate says, in version 2
-abbrev pub in_version_two : Contents → Contents
+abbrev pub in_version_two : CertificateView → CertificateView
 in_version_two c = record c { version = Two }
 
--- cells that are armed in some version may be so in version 2
+-- cells that are armed in some version may be armed in version 2
 armed_in_two : (v : Version) (armed : ℕ) → IsArmed v armed → IsArmed Two armed
 armed_in_two One armed none = omega (arith, none)
 armed_in_two Two armed form = form
@@ -42,7 +44,7 @@ rows_in_two v procs cells (row ∷ rows) all = (
 )
 
 -- what is in form in some version is in form in version 2
-pub two_in_form : (c : Contents) → IsInForm c → IsInForm (in_version_two c)
+pub two_in_form : (c : CertificateView) → IsInForm c → IsInForm (in_version_two c)
 two_in_form c form =
     let whole = form.certificate in
     record {
@@ -71,11 +73,11 @@ two_in_form c form =
       };
     }
 
-same_board : (v : Version) (c : Contents) → SuitsVersion v c → c.board ≡ migrated_board v c.board
+same_board : (v : Version) (c : CertificateView) → SuitsVersion v c → c.board ≡ migrated_board v c.board
 same_board One c old = old.board
 same_board Two c any = refl
 
-same_cells : (v : Version) (c : Contents) → SuitsVersion v c → c.cells ≡ migrated_cells v c.cells
+same_cells : (v : Version) (c : CertificateView) → SuitsVersion v c → c.cells ≡ migrated_cells v c.cells
 same_cells One c old = old.cells
 same_cells Two c any = refl
 
@@ -91,7 +93,7 @@ same_rows v procs cells (row ∷ rows) all =
     (same_rows v procs cells rows all.1)
 
 -- the board, the cells and the rows of a certificate in form are those that version 2 gives it
-pub two_is_migrated : (c : Contents) → IsInForm c → in_version_two c ≡ migrated c
+pub two_is_migrated : (c : CertificateView) → IsInForm c → in_version_two c ≡ migrated c
 two_is_migrated c form =
     let whole = form.certificate in
     ap (λ board. record c { version = Two; board = board }) (same_board c.version c whole.version)

@@ -1,17 +1,17 @@
--- Which split, which inline call and which cell may stand behind others.
+-- Which split, inline call or cell may come after others.
 use Rattle.std.proofs.Common.{◌≡◌, ◌<◌, ◌-◌, ◌↔◌, ℕ, List, [], ◌∷◌, ◌++◌, length, slice_get, Some}
 use Rattle.abs_state.specs.declared.cell.KeptCell.{KeptCell}
 use Rattle.cert_lines.specs.declared.split.Split.{Split}
 use Rattle.cert_lines.specs.declared.version.BoardMap.{BoardMap}
-use Rattle.cert_order.specs.Contents.{AreCells, AreInlines, AreSplits, IsCell, IsSplit, place_number}
-use Rattle.cert_order.proofs.Lists.{all_push}
+use Rattle.cert_form.specs.Form.{AreCells, AreInlines, AreSplits, IsCell, IsSplit, place_number}
+use Rattle.cert_form.proofs.Lists.{all_push}
 use Rattle.cert_contents.proofs.LastLemmas.{stands_behind}
 use Rattle.texts.specs.Numbers.{IsWord}
 
 abbrev split_place_number : Split → ℕ
 split_place_number split = place_number split.proc split.address
 
--- a split of one of the procedures: its place is above that of the last
+-- a split of one of the procedures, if its place is above the last one's
 pub split_stands : (procs : ℕ) (splits : List Split) (last split : Split) → AreSplits procs splits → IsSplit procs split →
     slice_get splits (length splits - 1) ≡ Some last →
     (place_number last.proc last.address < place_number split.proc split.address) ↔ AreSplits procs (splits ++ split ∷ [])
@@ -21,7 +21,7 @@ split_stands procs splits last split are is at =
       λ longer. stands.1 longer.rising,
     )
 
--- an address of an inline call: it is above the last
+-- the address of an inline call, if it is above the last one
 pub inline_stands : (inlines : List ℕ) (last address : ℕ) → AreInlines inlines → IsWord address →
     slice_get inlines (length inlines - 1) ≡ Some last → (last < address) ↔ AreInlines (inlines ++ address ∷ [])
 inline_stands inlines last address are word at =
@@ -30,7 +30,7 @@ inline_stands inlines last address are word at =
       λ longer. stands.1 longer.rising,
     )
 
--- a cell of work RAM: its address is above that of the last
+-- a cell of work RAM, if its address is above the last one's
 pub cell_stands : (board : BoardMap) (cells : List KeptCell) (last cell : KeptCell) → AreCells board cells →
     IsCell board cell → slice_get cells (length cells - 1) ≡ Some last →
     (last.at < cell.at) ↔ AreCells board (cells ++ cell ∷ [])

@@ -1,4 +1,4 @@
--- How the lines of parts are read one after another, and what is told of the first that is refused.
+-- How the lines of parts are read one after another, and the fault of the first that is refused.
 use Rattle.std.proofs.Common.{◌≡◌, ◌<◌, ◌≤◌, ◌-◌, ℕ, suc, ◌∷◌, [], ◌++◌, List, length, map, take, drop, get_or, Option, Result, Ok, Err, IfOk, IsOkUnless, refl, sym, ap, subst, ◌∙◌, arith, append_assoc, append-nil, length-append, drop-cons}
 use Rattle.std.proofs.lemmas.List.{take_at, map-append, take-append-drop}
 use Rattle.abs_state.specs.declared.cell.KeptCell.{KeptCell}
@@ -11,27 +11,28 @@ use Rattle.cert_lines.specs.declared.row.Row.{Row}
 use Rattle.cert_lines.specs.declared.split.Split.{Split}
 use Rattle.cert_lines.specs.declared.version.BoardMap.{BoardMap}
 use Rattle.cert_lines.specs.declared.version.Version.{Version}
-use Rattle.cert_order.specs.Contents.{Contents, IsCertificate, IsInForm}
-use Rattle.cert_order.specs.Text.{board_lines, lines_of}
-use Rattle.cert_order.specs.Reader.{Ends, HasRoom, IsProgress, MayFollow, Progress, TakesLine, lines_read}
-use Rattle.cert_order.specs.declared.fault.CertFault.{CertFault}
-use Rattle.cert_order.specs.declared.fault.CertFault.TheVariants as faults
-use Rattle.cert_order.proofs.Completes.{completes, completion_begins, completion_in_form, whole_in_form}
-use Rattle.cert_order.proofs.GoesOn.{IsNext, goes_on}
-use Rattle.cert_order.proofs.Order.{Orders, behind_cell, behind_inline, behind_proc, behind_row, behind_split, ordered}
-use Rattle.cert_order.proofs.OrderOfLists.{order_cell, order_inline, order_proc, order_row, order_split}
-use Rattle.cert_order.proofs.Whole.{ends_at, ends_with}
+use Rattle.cert_form.specs.Contents.{CertificateView}
+use Rattle.cert_form.specs.Form.{IsCertificate, IsInForm}
+use Rattle.cert_form.specs.Text.{board_lines, lines_of}
+use Rattle.cert_form.specs.Reader.{EndsReading, HasRoomFor, IsProgress, MayFollow, ReaderView, TakesLine, lines_read}
+use Rattle.cert_form.specs.declared.fault.CertFault.{CertFault}
+use Rattle.cert_form.specs.declared.fault.CertFault.TheVariants as faults
+use Rattle.cert_form.proofs.Completes.{completes, completion_begins, completion_in_form, whole_in_form}
+use Rattle.cert_form.proofs.GoesOn.{IsNext, goes_on}
+use Rattle.cert_form.proofs.Order.{Orders, behind_cell, behind_inline, behind_proc, behind_row, behind_split, ordered}
+use Rattle.cert_form.proofs.OrderOfLists.{order_cell, order_inline, order_proc, order_row, order_split}
+use Rattle.cert_form.proofs.Whole.{ends_at, ends_with}
 use Rattle.cert_contents.specs.Parts.{BeginsAs, HasTooManyParts, IsFirstBadPart, StopsAt, TakesLines}
 
--- what is told of a line that is refused hangs on the fault alone
-same_refusal : (S T : Type 0) (p new : Progress) (line : Line) (fault : CertFault) → TakesLine {T = S} p line (Err fault) new →
+-- what holds of a refused line depends only on the fault
+same_refusal : (S T : Type 0) (p new : ReaderView) (line : Line) (fault : CertFault) → TakesLine {T = S} p line (Err fault) new →
     TakesLine {T = T} p line (Err fault) p
 same_refusal S T p new line (faults.Line n) takes = takes
 same_refusal S T p new line faults.Limit takes = takes
 same_refusal S T p new line faults.NoMemory takes = takes
 
 -- lines were read, and the next one was refused
-pub stops_at : (T : Type 0) (old now new : Progress) (before after : List Line) (line : Line) (fault : CertFault) →
+pub stops_at : (T : Type 0) (old now new : ReaderView) (before after : List Line) (line : Line) (fault : CertFault) →
     lines_read now ≡ lines_read old ++ before → IsProgress now → TakesLine {T = T} now line (Err fault) new →
     StopsAt old (before ++ line ∷ after) fault
 stops_at T old now new before after line fault read form takes = record {
@@ -46,13 +47,13 @@ stops_at T old now new before after line fault read form takes = record {
 }
 
 -- the first line was refused
-pub stops_first : (T : Type 0) (old new : Progress) (line : Line) (rest : List Line) (fault : CertFault) → IsProgress old →
+pub stops_first : (T : Type 0) (old new : ReaderView) (line : Line) (rest : List Line) (fault : CertFault) → IsProgress old →
     TakesLine {T = T} old line (Err fault) new → StopsAt old (line ∷ rest) fault
 stops_first T old new line rest fault form takes =
     stops_at T old old new [] rest line fault (sym (append-nil (lines_read old))) form takes
 
 -- one of the first lines was refused
-pub stops_before : (old : Progress) (xs ys : List Line) (fault : CertFault) → StopsAt old xs fault → StopsAt old (xs ++ ys) fault
+pub stops_before : (old : ReaderView) (xs ys : List Line) (fault : CertFault) → StopsAt old xs fault → StopsAt old (xs ++ ys) fault
 stops_before old xs ys fault stops = record {
   before = stops.before;
   line = stops.line;
@@ -64,8 +65,8 @@ stops_before old xs ys fault stops = record {
   refused = stops.refused;
 }
 
--- lines were read, and one behind them was refused
-pub stops_then : (old mid : Progress) (xs ys : List Line) (fault : CertFault) → lines_read mid ≡ lines_read old ++ xs →
+-- lines were read, and a later one was refused
+pub stops_then : (old mid : ReaderView) (xs ys : List Line) (fault : CertFault) → lines_read mid ≡ lines_read old ++ xs →
     StopsAt mid ys fault → StopsAt old (xs ++ ys) fault
 stops_then old mid xs ys fault read stops = record {
   before = xs ++ stops.before;
@@ -79,20 +80,20 @@ stops_then old mid xs ys fault read stops = record {
 }
 
 -- one line is read, or refused
-pub takes_one : (T : Type 0) (old new : Progress) (line : Line) (r : Result T CertFault) → IsProgress old →
+pub takes_one : (T : Type 0) (old new : ReaderView) (line : Line) (r : Result T CertFault) → IsProgress old →
     TakesLine old line r new → TakesLines old (line ∷ []) r new
 takes_one T old new line (Ok x) form takes = takes
 takes_one T old new line (Err fault) form takes = stops_first T old new line [] fault form takes
 
 -- lines were read, and then others are
-pub takes_then : (T : Type 0) (old mid new : Progress) (xs ys : List Line) (r : Result T CertFault) →
+pub takes_then : (T : Type 0) (old mid new : ReaderView) (xs ys : List Line) (r : Result T CertFault) →
     lines_read mid ≡ lines_read old ++ xs → TakesLines mid ys r new → TakesLines old (xs ++ ys) r new
 takes_then T old mid new xs ys (Ok x) read takes =
     (takes.0 ∙ ap (λ ls. ls ++ ys) read ∙ append_assoc (lines_read old) xs ys, takes.1)
 takes_then T old mid new xs ys (Err fault) read stops = stops_then old mid xs ys fault read stops
 
 -- the lines before the procedures are read
-pub takes_head : (T : Type 0) (old a b d e new : Progress) (v : Version) (rom_len : ℕ) (board : BoardMap) (region : Region)
+pub takes_head : (T : Type 0) (old a b d e new : ReaderView) (v : Version) (rom_len : ℕ) (board : BoardMap) (region : Region)
     (budget : Option ℕ) (r : Result T CertFault) → lines_read a ≡ lines_read old ++ lines.Header v ∷ [] →
     lines_read b ≡ lines_read a ++ lines.Rom rom_len ∷ [] → lines_read d ≡ lines_read b ++ board_lines v board →
     lines_read e ≡ lines_read d ++ lines.Stack region ∷ [] → IsProgress e → TakesLine e (lines.Budget budget) r new →
@@ -109,7 +110,7 @@ takes_head T old a b d e new v rom_len board region budget r to_a to_b to_d to_e
     (takes_one T e new (lines.Budget budget) r form takes))))
 
 -- the lines of the lists are read
-pub takes_lists : (T : Type 0) (old a b d e new : Progress) (procs : List Proc) (splits : List Split) (inlines : List ℕ)
+pub takes_lists : (T : Type 0) (old a b d e new : ReaderView) (procs : List Proc) (splits : List Split) (inlines : List ℕ)
     (cells : List KeptCell) (rows : List Row) (r : Result T CertFault) → lines_read a ≡ lines_read old ++ map lines.Proc procs →
     lines_read b ≡ lines_read a ++ map lines.Split splits → lines_read d ≡ lines_read b ++ map lines.Inline inlines →
     lines_read e ≡ lines_read d ++ map lines.Cell cells → TakesLines e (map lines.Row rows) r new →
@@ -125,8 +126,8 @@ takes_lists T old a b d e new procs splits inlines cells rows r to_a to_b to_d t
     (takes_then T b d new (map lines.Inline inlines) behind_d r to_d
     (takes_then T d e new (map lines.Cell cells) (map lines.Row rows) r to_e takes)))
 
--- behind the first elements of a list, the next one was refused
-pub stops_behind : {X : Type 0} (F : X → Line) (T : Type 0) (xs before after : List X) (x : X) (old now new : Progress)
+-- after the first elements of a list, the next one was refused
+pub stops_behind : {X : Type 0} (F : X → Line) (T : Type 0) (xs before after : List X) (x : X) (old now new : ReaderView)
     (fault : CertFault) → xs ≡ before ++ x ∷ after → lines_read now ≡ lines_read old ++ map F before → IsProgress now →
     TakesLine {T = T} now (F x) (Err fault) new → StopsAt old (map F xs) fault
 stops_behind F T xs before after x old now new fault parts read form takes =
@@ -134,7 +135,7 @@ stops_behind F T xs before after x old now new fault parts read form takes =
     (stops_at T old now new (map F before) (map F after) (F x) fault read form takes)
 
 -- the same by its place
-pub stops_in : {X : Type 0} (F : X → Line) (T : Type 0) (xs : List X) (i : ℕ) (d x : X) (old now new : Progress)
+pub stops_in : {X : Type 0} (F : X → Line) (T : Type 0) (xs : List X) (i : ℕ) (d x : X) (old now new : ReaderView)
     (fault : CertFault) → i < length xs → get_or xs i d ≡ x → lines_read now ≡ lines_read old ++ map F (take i xs) →
     IsProgress now → TakesLine {T = T} now (F x) (Err fault) new → StopsAt old (map F xs) fault
 stops_in F T xs i d x old now new fault within is read form takes =
@@ -142,9 +143,10 @@ stops_in F T xs i d x old now new fault within is read form takes =
     ∙ ap (λ ys. take i xs ++ ys) (drop-cons xs i d within ∙ ap (λ y. y ∷ drop (suc i) xs) is) in
     stops_behind F T xs (take i xs) (drop (suc i) xs) x old now new fault parts read form takes
 
--- a line of which there are too many, or that has too many parts, goes on some certificate, if its counts may be above their limits
-order_next : (p : Progress) (line : Line) → IsProgress p → IsLine p.contents.version line → MayFollow p line →
-    (IsShortLine line × HasRoom p.contents line → ⊥) → (new : Progress) × Orders p line new
+-- a line that is one too many, or has too many parts, is the next one of some certificate if counts may be above their
+-- limits
+order_next : (p : ReaderView) (line : Line) → IsProgress p → IsLine p.contents.version line → MayFollow p line →
+    (IsShortLine line × HasRoomFor p.contents line → ⊥) → (new : ReaderView) × Orders p line new
 order_next p (lines.Proc proc) h form may many = (behind_proc p proc, order_proc p proc (ordered p h) form may)
 order_next p (lines.Split split) h form may many = (behind_split p split, order_split p split (ordered p h) may)
 order_next p (lines.Inline address) h form may many = (behind_inline p address, order_inline p address (ordered p h) may)
@@ -157,15 +159,15 @@ order_next p (lines.Stack region) h form may many = absurd (many (tt, tt))
 order_next p (lines.Budget budget) h form may many = absurd (many (tt, tt))
 order_next p lines.End h form may many = absurd (many (tt, tt))
 
--- the answer to parts: the certificate that has them, or why none has; nothing is said of them where memory was refused
-abbrev pub IsPartsAnswer : Contents → Result Contents CertFault → Type 0
+-- the answer to parts: the certificate that has them, or why none has; nothing is known if memory was refused
+abbrev pub IsPartsAnswer : CertificateView → Result CertificateView CertFault → Type 0
 IsPartsAnswer parts (Ok c) = (c ≡ parts) × IsInForm c
 IsPartsAnswer parts (Err (faults.Line n)) = IsFirstBadPart n parts
 IsPartsAnswer parts (Err faults.Limit) = HasTooManyParts parts
 IsPartsAnswer parts (Err faults.NoMemory) = Unit {0}
 
 -- the lines of the parts up to the next one, which is refused
-module _ (parts : Contents) (p : Progress) (line : Line) (after : List Line) (form : IsProgress p)
+module _ (parts : CertificateView) (p : ReaderView) (line : Line) (after : List Line) (form : IsProgress p)
     (whole : lines_of parts ≡ lines_read p ++ line ∷ after) where
   within_parts : suc (length (lines_read p)) ≤ length (lines_of parts)
   within_parts = omega (arith, ap length whole, length-append (lines_read p) (line ∷ after))
@@ -189,8 +191,8 @@ module _ (parts : Contents) (p : Progress) (line : Line) (after : List Line) (fo
             ∙ sym (ap (take (length (lines_read p))) whole ∙ take_at (lines_read p) (line ∷ after) (length (lines_read p)) refl);
       }
 
-  -- this line is the next one of each certificate with which they begin
-  next_part : (c : Contents) → IsCertificate c →
+  -- this line is the next one of each certificate that begins so
+  next_part : (c : CertificateView) → IsCertificate c →
       take (suc (length (lines_read p))) (lines_of c) ≡ take (suc (length (lines_read p))) (lines_of parts) → IsNext p c line
   next_part c certificate begins = goes_on p c line form certificate (begins ∙ first_parts)
 
@@ -203,7 +205,7 @@ module _ (parts : Contents) (p : Progress) (line : Line) (after : List Line) (fo
         bad next.form_here next.may_follow;
   }
 
-  too_many_parts : IsLine p.contents.version line → MayFollow p line → (IsShortLine line × HasRoom p.contents line → ⊥) →
+  too_many_parts : IsLine p.contents.version line → MayFollow p line → (IsShortLine line × HasRoomFor p.contents line → ⊥) →
       HasTooManyParts parts
   too_many_parts is may many =
       let order = order_next p line form is may many in
@@ -232,7 +234,7 @@ module _ (parts : Contents) (p : Progress) (line : Line) (after : List Line) (fo
   refused_here faults.NoMemory takes = tt
 
 -- one of the lines of the parts was refused
-pub refused_part : (parts : Contents) (first : Progress) (fault : CertFault) → lines_read first ≡ [] →
+pub refused_part : (parts : CertificateView) (first : ReaderView) (fault : CertFault) → lines_read first ≡ [] →
     StopsAt first (lines_of parts) fault → IsPartsAnswer parts (Err fault)
 refused_part parts first fault none stops =
     let read : stops.before ≡ lines_read stops.at = sym (stops.read ∙ ap (λ ls. ls ++ stops.before) none) in
@@ -240,8 +242,8 @@ refused_part parts first fault none stops =
     (stops.parts ∙ ap (λ ls. ls ++ stops.line ∷ stops.after) read) fault stops.refused
 
 -- all of them were read
-pub all_parts_read : (parts : Contents) (first p : Progress) (r : Result Contents CertFault) → lines_read first ≡ [] →
-    lines_read p ≡ lines_read first ++ lines_of parts → IsProgress p → Ends p r → IsPartsAnswer parts r
+pub all_parts_read : (parts : CertificateView) (first p : ReaderView) (r : Result CertificateView CertFault) → lines_read first ≡ [] →
+    lines_read p ≡ lines_read first ++ lines_of parts → IsProgress p → EndsReading p r → IsPartsAnswer parts r
 all_parts_read parts first p (Ok c) none read form ends =
     let whole = sym (read ∙ ap (λ ls. ls ++ lines_of parts) none) in
     (ends.1 ∙ ends_with p parts whole, subst IsInForm (sym ends.1) (whole_in_form p form ends.0))
@@ -249,13 +251,13 @@ all_parts_read parts first p (Err fault) none read form ends =
     let whole = sym (read ∙ ap (λ ls. ls ++ lines_of parts) none) in
     absurd (ends.1 (ends_at p parts whole))
 
--- what an answer tells
-pub parts_ok : (parts : Contents) (r : Result Contents CertFault) → IsPartsAnswer parts r →
+-- what an answer means
+pub parts_ok : (parts : CertificateView) (r : Result CertificateView CertFault) → IsPartsAnswer parts r →
     IfOk r (λ c. (c ≡ parts) × IsInForm c)
 parts_ok parts (Ok c) is = is
 parts_ok parts (Err fault) is = tt
 
-pub parts_only : (parts : Contents) (r : Result Contents CertFault) → IsPartsAnswer parts r → IsInForm parts →
+pub parts_only : (parts : CertificateView) (r : Result CertificateView CertFault) → IsPartsAnswer parts r → IsInForm parts →
     IsOkUnless r faults.NoMemory
 parts_only parts (Ok c) is form = tt
 parts_only parts (Err (faults.Line n)) is form =
@@ -264,10 +266,10 @@ parts_only parts (Err faults.Limit) is form =
     absurd (is.many record { certificate = parts; form = form; within = is.form.within; begins = refl })
 parts_only parts (Err faults.NoMemory) is form = refl
 
-pub parts_line : (parts : Contents) (r : Result Contents CertFault) → IsPartsAnswer parts r → (n : ℕ) →
+pub parts_line : (parts : CertificateView) (r : Result CertificateView CertFault) → IsPartsAnswer parts r → (n : ℕ) →
     r ≡ Err (faults.Line n) → IsFirstBadPart n parts
 parts_line parts r is n e = subst (IsPartsAnswer parts) e is
 
-pub parts_limit : (parts : Contents) (r : Result Contents CertFault) → IsPartsAnswer parts r → r ≡ Err faults.Limit →
+pub parts_limit : (parts : CertificateView) (r : Result CertificateView CertFault) → IsPartsAnswer parts r → r ≡ Err faults.Limit →
     HasTooManyParts parts
 parts_limit parts r is e = subst (IsPartsAnswer parts) e is

@@ -1,24 +1,24 @@
--- Which procedure may stand behind others.
+-- Which procedure may come after others.
 use Rattle.std.proofs.Common.{◌≡◌, ◌<◌, ◌↔◌, ◌-◌, ℕ, List, [], ◌∷◌, ◌++◌, length, slice_get, Option, Some, None, refl, sym, ap, subst, ◌∙◌}
 use Rattle.cert_lines.specs.declared.proc.Proc.{Proc}
 use Rattle.cert_lines.specs.declared.proc.ProcKind.TheVariants.{Sub}
-use Rattle.cert_order.specs.Contents.{AreSubs}
-use Rattle.cert_order.specs.Reader.{AreFirstProcs}
-use Rattle.cert_order.proofs.Lists.{all_at, all_push}
+use Rattle.cert_form.specs.Form.{AreSubs}
+use Rattle.cert_form.specs.Reader.{AreFirstProcs}
+use Rattle.cert_form.proofs.Lists.{all_at, all_push}
 use Rattle.cert_contents.proofs.LastLemmas.{follow_push, split_last, stands_to_last}
 
--- a procedure is called, and is entered above the last one where this is called too
+-- a procedure is a called one, with a higher entry than the last one if that is called too
 abbrev pub IsCalledBehind : Proc → Proc → Type 0
 IsCalledBehind last proc = (proc.kind ≡ Sub) × (last.kind ≡ Sub → last.entry < proc.entry)
 
--- the first one that is called
+-- the first called one
 first_sub : (last proc : Proc) → (last.kind ≡ Sub → ⊥) → IsCalledBehind last proc ↔ AreSubs (proc ∷ [])
 first_sub last proc other = (
   λ is. record { kind = (is.0, tt); rising = tt },
   λ are. (are.kind.0, λ sub. absurd (other sub)),
 )
 
--- one behind another that is called
+-- one after another called one
 next_sub : (before : List Proc) (last proc : Proc) → AreSubs (before ++ last ∷ []) →
     IsCalledBehind last proc ↔ AreSubs ((before ++ last ∷ []) ++ proc ∷ [])
 next_sub before last proc subs = (
@@ -33,7 +33,7 @@ next_sub before last proc subs = (
   ),
 )
 
--- behind main, and behind the NMI routine where there is a budget, come those that are called
+-- after main, and after the NMI routine if there is a budget, come the called ones
 sub_stands : (budget : Option ℕ) (before : List Proc) (last proc : Proc) → AreFirstProcs budget (before ++ last ∷ []) →
     (before ≡ [] → budget ≡ None) → IsCalledBehind last proc ↔ AreFirstProcs budget ((before ++ last ∷ []) ++ proc ∷ [])
 sub_stands None [] last proc first _ =
@@ -50,7 +50,7 @@ sub_stands (Some budget) (main ∷ nmi ∷ before) last proc first _ =
     let subs = next_sub before last proc first.2 in
     (λ is. (first.0, first.1, subs.0 is), λ are. subs.1 are.2)
 
--- likewise, with the last procedure where it stands in the list
+-- the same, with the last procedure by its place in the list
 pub called_stands : (budget : Option ℕ) (procs : List Proc) (last proc : Proc) → AreFirstProcs budget procs →
     slice_get procs (length procs - 1) ≡ Some last → (length procs ≡ 1 → budget ≡ None) →
     IsCalledBehind last proc ↔ AreFirstProcs budget (procs ++ proc ∷ [])

@@ -1,22 +1,22 @@
--- A row in form may come next exactly where its place may.
+-- A row in form may come next exactly if its place may.
 use Rattle.std.proofs.Common.{◌≤◌, ◌∷◌, [], ℕ, length}
 use Rattle.cert_lines.specs.Row.{IsRow, place_of}
 use Rattle.cert_lines.specs.declared.line.Line.TheVariants as lines
 use Rattle.cert_lines.specs.declared.row.Row.{Row}
-use Rattle.cert_order.specs.Contents.{IsRowOf, place_number}
-use Rattle.cert_order.specs.Reader.{Progress, IsProgress, MayFollow, MayStandAt}
-use Rattle.cert_order.proofs.Lists.{all_at, all_push}
+use Rattle.cert_form.specs.Form.{IsRowOf, place_number}
+use Rattle.cert_form.specs.Reader.{ReaderView, IsProgress, MayFollow, MayStandAt}
+use Rattle.cert_form.proofs.Lists.{all_at, all_push}
 use Rattle.cert_contents.proofs.LastLemmas.{follow_all, get_in_front, none_above}
 
 abbrev pub row_place_number : Row → ℕ
 row_place_number row = place_number row.proc row.address
 
--- a row of one of the procedures that were read, with cells that were
-abbrev IsRowBehind : Progress → Row → Type 0
+-- a row of one of the procedures that were read, with cells that were read
+abbrev IsRowBehind : ReaderView → Row → Type 0
 IsRowBehind p row = IsRowOf p.contents.version (length p.contents.procs) (length p.contents.cells) row
 
--- a row in form may come next where its place may
-pub row_follows : (p : Progress) (row : Row) → IsProgress p → IsRow p.contents.version row → MayStandAt p (place_of row) →
+-- a row in form may come next if its place may
+pub row_follows : (p : ReaderView) (row : Row) → IsProgress p → IsRow p.contents.version row → MayStandAt p (place_of row) →
     MayFollow p (lines.Row row)
 row_follows p row h form may = (
   may.stage,
@@ -27,8 +27,8 @@ row_follows p row h form may = (
   },
 )
 
--- and the place of a row that may come next may
-pub row_stands : (p : Progress) (row : Row) → MayFollow p (lines.Row row) → MayStandAt p (place_of row)
+-- the place of a row that may come next may
+pub row_stands : (p : ReaderView) (row : Row) → MayFollow p (lines.Row row) → MayStandAt p (place_of row)
 row_stands p row may =
     let rows = p.contents.rows in
     let is = all_at (IsRowBehind p) rows row [] may.1.each in

@@ -1,2 +1,2 @@
--- The definition of a certificate's parts.
+-- Definition of a certificate's parts.
 pub mod Parts

@@ -1,15 +1,16 @@
-// What a certificate says (docs/CERTIFICATE.md): its fields, how it is made of its lines or of its parts, and how it is carried to version 2.
+// A certificate's value (docs/CERTIFICATE.md): its fields, how it is made of lines or of parts, and migration to
+// version 2.
 #![tactic(auto)]
 
-mod certificate;
 mod fields;
 mod migrating;
 mod parts;
 mod places;
 mod reader;
 mod taking;
+mod value;
 
-pub use certificate::{Certificate, RowId};
 pub use migrating::migrate;
 pub use parts::Parts;
 pub use reader::Reader;
+pub use value::{Certificate, RowId};

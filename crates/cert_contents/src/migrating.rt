@@ -1,13 +1,15 @@
-// Version 1 carried to version 2.
+// Migration of version 1 to version 2.
 
 ghost use Rattle.std.specs.Prelude.{◌≡◌};
-ghost use Rattle.cert_order.specs.Contents.{IsInForm, migrated};
+ghost use Rattle.cert_form.specs.Migrated.{migrated};
+ghost use Rattle.cert_form.specs.Form.{IsInForm};
 
-use crate::certificate::Certificate;
+use crate::value::Certificate;
 use cert_lines::Version;
 
-/// The certificate in version 2: of the Galaxian board, without cells and with none armed, where it was of version 1. All else is as
-/// it was, and a certificate of version 2 stays as it is. It takes no memory.
+/// The certificate in version 2 (docs/CERTIFICATE.md, "From version 1 to version 2"). From version 1 it gets the
+/// Galaxian board, no cells and none armed; everything else stays. A certificate of version 2 stays as it is. No memory
+/// is taken.
 pub fn migrate(certificate: Certificate) -> Certificate
     ensures value { result ≡ migrated certificate }
     ensures form { IsInForm result }

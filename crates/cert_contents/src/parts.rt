@@ -1,21 +1,21 @@
 // The parts of a certificate, as values.
 
 ghost use Rattle.std.specs.Prelude.{◌≡◌, ℕ, Err, IfOk, IsOkUnless, map};
-ghost use Rattle.cert_order.specs.Contents.{IsInForm};
-ghost use Rattle.cert_order.specs.Reader.{IsProgress};
-ghost use Rattle.cert_order.specs.Text.{board_lines, head_lines, lines_of, list_lines};
+ghost use Rattle.cert_form.specs.Form.{IsInForm};
+ghost use Rattle.cert_form.specs.Reader.{IsProgress};
+ghost use Rattle.cert_form.specs.Text.{board_lines, head_lines, lines_of, list_lines};
 ghost use Rattle.cert_contents.specs.Parts.{HasTooManyParts, IsFirstBadPart, TakesLines};
 
-use crate::certificate::Certificate;
 use crate::reader::Reader;
+use crate::value::Certificate;
 use abs_state::KeptCell;
 use address_map::Region;
+use cert_form::CertFault;
 use cert_lines::{BoardMap, Line, Proc, Row, Split, Version};
-use cert_order::CertFault;
 use std::alloc::Global;
 use std::marker::Model;
 
-/// What a certificate is made of (docs/CERTIFICATE.md): each list in the order of the text.
+/// The parts of a certificate, each list in the order of the text (docs/CERTIFICATE.md).
 #[derive(Drop)]
 pub struct Parts {
     pub version: Version,
@@ -31,9 +31,9 @@ pub struct Parts {
 }
 
 impl Model for Parts {
-    ghost use Rattle.cert_order.specs.Contents.{Contents};
+    ghost use Rattle.cert_form.specs.Contents.{CertificateView};
 
-    ghost Value = { Contents };
+    ghost Value = { CertificateView };
 
     ghost view = { λ p. record {
       version = p.version;
@@ -50,13 +50,14 @@ impl Model for Parts {
 }
 
 impl Certificate {
-    /// The certificate of these parts. Memory is taken for its rows, their shapes and the other lists.
+    /// The certificate with these parts. Memory is taken for the lists and for the rows with their shapes.
     ///
     /// # Errors
     ///
-    /// The fault that is met first, line by line of the parts' text: `Line` with the number, counted from 1, of the first line with which
-    /// the lines begin no certificate, or `Limit` where this line is in form, but is one too many. `NoMemory` where memory was refused.
-    /// At each the parts are dropped.
+    /// The first fault, line by line of the text that the parts would have (docs/CERTIFICATE.md, "What is refused").
+    /// `Line` has the number, counted from 1, of the first line with which the lines so far begin no certificate.
+    /// `Limit` comes if that line is in form but one too many. `NoMemory` comes where memory was refused. The parts are
+    /// dropped.
     pub fn of(alloc: Global, parts: Parts) -> Result<Certificate, CertFault>
         ensures ok { IfOk result (λ c. (c ≡ parts) × IsInForm c) }
         ensures only { IsInForm parts → IsOkUnless result CertFault.NoMemory }
@@ -80,7 +81,6 @@ impl Reader {
         self.take(Line::End)
     }
 
-    /// Reads the lines before the procedures.
     fn take_head(&mut self, parts: &Parts) -> Result<(), CertFault>
         requires { IsProgress self.old }
         ensures { TakesLines self.old (head_lines parts.now) result self.new }
@@ -92,7 +92,7 @@ impl Reader {
         self.take(Line::Budget(parts.budget))
     }
 
-    /// Reads the line of the board's map, if there is one.
+    /// Reads the line of the board's map, if the version has one.
     fn take_board_lines(&mut self, version: Version, board: BoardMap) -> Result<(), CertFault>
         requires { IsProgress self.old }
         ensures { TakesLines self.old (board_lines version board) result self.new }
@@ -103,7 +103,7 @@ impl Reader {
         }
     }
 
-    /// Reads the lines of the lists.
+    /// Reads the procedures, splits, inline calls, cells and rows.
     fn take_lists(&mut self, parts: Parts) -> Result<(), CertFault>
         requires { IsProgress self.old }
         ensures { TakesLines self.old (list_lines parts) result self.new }

@@ -1,12 +1,12 @@
 // A certificate that is read line by line.
 
 ghost use Rattle.std.specs.Prelude.{◌≡◌, [], suc, length, OnErr};
-ghost use Rattle.cert_order.specs.Reader.{Ends, IsProgress, TakesLine, TakesText, lines_read};
-ghost use Rattle.cert_order.specs.Text.{list_lines};
+ghost use Rattle.cert_form.specs.Reader.{EndsReading, IsProgress, TakesLine, TakesText, lines_read};
+ghost use Rattle.cert_form.specs.Text.{list_lines};
 
-use crate::certificate::{Certificate, Draft};
+use crate::value::{Certificate, Unfinished};
+use cert_form::{CertFault, Stage};
 use cert_lines::{Line, ReadLine, Version};
-use cert_order::{CertFault, Stage};
 use std::alloc::Global;
 use std::marker::Model;
 
@@ -14,13 +14,13 @@ use std::marker::Model;
 #[derive(Drop)]
 pub struct Reader {
     pub(crate) stage: Stage,
-    pub(crate) draft: Draft,
+    pub(crate) draft: Unfinished,
 }
 
 impl Model for Reader {
-    ghost use Rattle.cert_order.specs.Reader.{Progress, IsProgress};
+    ghost use Rattle.cert_form.specs.Reader.{ReaderView, IsProgress};
 
-    ghost Value = { Progress };
+    ghost Value = { ReaderView };
 
     ghost view = { λ r. record { stage = r.stage; contents = r.draft } };
 
@@ -35,7 +35,7 @@ impl Reader {
     {
         Reader {
             stage: Stage::Header,
-            draft: Draft::new(alloc),
+            draft: Unfinished::new(alloc),
         }
     }
 
@@ -76,6 +76,11 @@ impl Reader {
     }
 
     /// Reads one more line.
+    ///
+    /// # Errors
+    ///
+    /// `Line` with the line's number if the line is out of form or may not come next; `Limit` if it is in form but one
+    /// too many; `NoMemory` where memory was refused. The reader stays as it was.
     pub fn take(&mut self, line: Line) -> Result<(), CertFault>
         ensures line { TakesLine self.old line result self.new }
         ensures err { OnErr result (self.new ≡ self.old) }
@@ -95,7 +100,11 @@ impl Reader {
         }
     }
 
-    /// Reads the text of one more line, which comes without its LF.
+    /// Reads one more line from its text, which is given without its line feed.
+    ///
+    /// # Errors
+    ///
+    /// As for `take`. `Limit` comes also for a row with too many slots, facts or terms.
     pub fn line(&mut self, text: &[u8]) -> Result<(), CertFault>
         ensures line { TakesText self.old text.now result self.new }
         ensures err { OnErr result (self.new ≡ self.old) }
@@ -107,9 +116,9 @@ impl Reader {
         }
     }
 
-    /// The certificate, if all of its lines were read.
+    /// The certificate, if all of its lines were read; else the fault of the next line.
     pub fn end(self) -> Result<Certificate, CertFault>
-        ensures { Ends self result }
+        ensures { EndsReading self result }
     {
         if self.stage != Stage::Nothing {
             return Err(self.bad_line());

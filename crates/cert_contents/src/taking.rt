@@ -1,36 +1,29 @@
-// How each kind of line is taken by a reader: whether it may come next, whether there is room for it, and what it says.
+// How a reader takes each kind of line: whether it may come next, whether there is room for it, and what it says.
 
 ghost use Rattle.std.specs.Prelude.{◌≡◌, ◌<◌, ◌≤◌, ◌∷◌, [], ◌++◌, ◌↔◌, ℕ, IsTrue, OnErr, Some, length, slice_get};
 ghost use Rattle.cert_lines.specs.Row.{IsRow, IsShortRow};
 ghost use Rattle.cert_lines.specs.declared.line.Line.{Line};
 ghost use Rattle.cert_lines.specs.declared.row.Row.{Row};
-ghost use Rattle.cert_order.specs.Contents.{AreCells, AreInlines, AreSplits, MayArm, RisePlaces, place_number};
-ghost use Rattle.row_fields.specs.Pair.{IsRange};
-ghost use Rattle.cert_order.specs.Reader.{AreFirstProcs, IsOpenTo, MayFollow, MayStandAt, TakesLine, TellsCrowded, stage_rank};
+ghost use Rattle.cert_form.specs.Form.{AreCells, AreInlines, AreSplits, MayArm, RisePlaces, place_number};
+ghost use Rattle.cert_fields.specs.Pair.{IsRange};
+ghost use Rattle.cert_form.specs.Reader.{AreFirstProcs, IsOpenTo, MayFollow, MayStandAt, TakesLine, TellsCrowded, stage_rank};
 
 use crate::reader::Reader;
 use abs_state::{KeptCell, Mode};
 use address_map::Region;
-use cert_lines::{BoardMap, Place, Proc, ProcKind, Row, Split, Version};
-use cert_order::{CertFault, Stage};
-use cert_rows::{Rows, place_number};
-use linear_fields::is_linear;
-use row_fields::{are_facts, is_shape};
+use cert_fields::{are_facts, is_linear, is_shape};
+use cert_form::{
+    CELL_LIMIT, CertFault, INLINE_LIMIT, PROC_LIMIT, ROW_LIMIT, Rows, SPLIT_LIMIT, Stage,
+    place_number,
+};
+use cert_lines::{BoardMap, Proc, ProcKind, Row, RowPlace, Split, Version};
 
-/// How many procedures, splits and inline calls a certificate may have, each.
-const LIST_LIMIT: usize = 1_024;
-
-/// How many cells a certificate may have.
-const CELL_LIMIT: usize = 256;
-
-/// How many rows a certificate may have.
-const ROW_LIMIT: usize = 65_535;
-
-/// How many addresses of work RAM cells may have.
+/// How many addresses of work RAM may be cells.
 const CELL_ADDRESSES: u16 = 0x400;
 
 impl Reader {
-    /// Whether a list's line may come, up to this stage: the procedures are complete, and no line of a later stage was read.
+    /// Whether a line of the list of this stage may come: the procedures are complete, and no line of a later stage was
+    /// read.
     fn is_open_to(&self, stage: Stage) -> bool
         ensures { IsTrue result ↔ IsOpenTo (stage_rank stage) self.now }
     {
@@ -114,7 +107,7 @@ impl Reader {
         if self.stage != Stage::Procs || !fits || !follows {
             return Err(self.bad_line());
         }
-        if self.draft.procs.len() == LIST_LIMIT {
+        if self.draft.procs.len() == PROC_LIMIT {
             return Err(CertFault::Limit);
         }
         if self.draft.procs.push(proc).is_err() {
@@ -123,7 +116,7 @@ impl Reader {
         Ok(())
     }
 
-    /// Whether a procedure of this number was read.
+    /// Whether a procedure with this number was read.
     fn has_proc(&self, proc: u16) -> bool
         ensures { IsTrue result ↔ (proc < length self.now.contents.procs) }
     {
@@ -139,7 +132,7 @@ impl Reader {
         {
             return Err(self.bad_line());
         }
-        if self.draft.splits.len() == LIST_LIMIT {
+        if self.draft.splits.len() == SPLIT_LIMIT {
             return Err(CertFault::Limit);
         }
         if self.draft.splits.push(split).is_err() {
@@ -156,7 +149,7 @@ impl Reader {
         if !self.is_open_to(Stage::Inlines) || !inline_may_follow(&self.draft.inlines, address) {
             return Err(self.bad_line());
         }
-        if self.draft.inlines.len() == LIST_LIMIT {
+        if self.draft.inlines.len() == INLINE_LIMIT {
             return Err(CertFault::Limit);
         }
         if self.draft.inlines.push(address).is_err() {
@@ -186,7 +179,7 @@ impl Reader {
         Ok(())
     }
 
-    /// Whether so many cells may be armed in this mode.
+    /// Whether this many cells may be armed in this mode.
     fn may_arm(&self, mode: Mode, armed: u16) -> bool
         ensures { IsTrue result ↔ MayArm (length self.now.contents.cells) mode armed }
     {
@@ -197,8 +190,8 @@ impl Reader {
         }
     }
 
-    /// Whether a row may stand at this place behind the lines that were read.
-    fn row_may_follow(&self, place: Place) -> bool
+    /// Whether a row may have this place after the lines that were read.
+    fn row_may_follow(&self, place: RowPlace) -> bool
         ensures { IsTrue result ↔ MayStandAt self.now place }
     {
         self.is_open_to(Stage::Rows)
@@ -207,9 +200,10 @@ impl Reader {
             && self.may_arm(place.mode, place.armed)
     }
 
-    /// Whether a row is in form, and may come next.
+    /// Whether a row is in form and may come next.
     fn row_fits(&self, row: &Row) -> bool
-        ensures { IsTrue result ↔ (IsRow self.now.contents.version row.now × MayFollow self.now (Line.Row row.now)) }
+        ensures { IsTrue result
+            ↔ (IsRow self.now.contents.version row.now × MayFollow self.now (Line.Row row.now)) }
     {
         self.row_may_follow(row.place()) && row.is_in_form(self.draft.version)
     }
@@ -232,8 +226,8 @@ impl Reader {
         Ok(())
     }
 
-    /// The fault of a row whose slots, facts or terms are too many: where it may stand, it is that.
-    pub(crate) fn crowded(&self, place: Place) -> CertFault
+    /// The fault of a row with too many slots, facts or terms: `Limit` if a row may have its place, else a bad line.
+    pub(crate) fn crowded(&self, place: RowPlace) -> CertFault
         ensures { TellsCrowded self.now place result }
     {
         if self.row_may_follow(place) {
@@ -255,7 +249,7 @@ impl Reader {
     }
 }
 
-/// Whether a procedure may stand behind others: main first, then the NMI routine where there is a budget, then those that are called, by
+/// Whether a procedure may come after these: main first, then the NMI routine if there is a budget, then called ones by
 /// rising entry.
 fn proc_may_follow(procs: &[Proc], budget: Option<u16>, proc: Proc) -> bool
     requires { AreFirstProcs budget procs.now }
@@ -268,14 +262,16 @@ fn proc_may_follow(procs: &[Proc], budget: Option<u16>, proc: Proc) -> bool
     }
 }
 
-/// Whether a procedure is called, and is entered above the last one where this is called too.
+/// Whether a procedure is a called one, with a higher entry than the last one if that is called too.
 fn is_called_behind(last: Proc, proc: Proc) -> bool
-    ensures { IsTrue result ↔ ((proc.kind ≡ ProcKind.Sub) × (last.kind ≡ ProcKind.Sub → last.entry < proc.entry)) }
+    ensures { IsTrue result
+        ↔ ((proc.kind ≡ ProcKind.Sub) × (last.kind ≡ ProcKind.Sub → last.entry < proc.entry)) }
 {
     proc.kind == ProcKind::Sub && (last.kind != ProcKind::Sub || last.entry < proc.entry)
 }
 
-/// Whether a split may stand behind others in a certificate of so many procedures: it is of one of these, and its place is above theirs.
+/// Whether a split may come after these, in a certificate of `procs` procedures: it is of one of them, and its place is
+/// above the last one's.
 fn split_may_follow(splits: &[Split], procs: usize, split: Split) -> bool
     requires { AreSplits procs splits.now }
     ensures { IsTrue result ↔ AreSplits procs (splits.now ++ split ∷ []) }
@@ -290,7 +286,7 @@ fn split_may_follow(splits: &[Split], procs: usize, split: Split) -> bool
     }
 }
 
-/// Whether an address may stand behind those of other inline calls: it is above them.
+/// Whether the address of an inline call may come after these: it is above the last one.
 fn inline_may_follow(inlines: &[u16], address: u16) -> bool
     requires { AreInlines inlines.now }
     ensures { IsTrue result ↔ AreInlines (inlines.now ++ address ∷ []) }
@@ -301,7 +297,7 @@ fn inline_may_follow(inlines: &[u16], address: u16) -> bool
     }
 }
 
-/// Whether a cell may stand behind others: it is in the first addresses of work RAM, and above theirs.
+/// Whether a cell may come after these: it is in the first 400h addresses of work RAM, and above the last one.
 fn cell_may_follow(cells: &[KeptCell], board: BoardMap, cell: &KeptCell) -> bool
     requires { AreCells board cells.now }
     ensures { IsTrue result ↔ AreCells board (cells.now ++ cell.now ∷ []) }
@@ -317,17 +313,19 @@ fn cell_may_follow(cells: &[KeptCell], board: BoardMap, cell: &KeptCell) -> bool
     }
 }
 
-/// What the type of a cell tells: its bytes are a range.
+/// A law: by its type, a cell has a range of bytes.
 fn is_cell(cell: &KeptCell)
     ensures { IsRange 255 cell.now.range }
 {
     let _low = cell.range.low();
 }
 
-/// Whether a place may stand behind those of rows: it is before none of them.
-fn place_may_follow(rows: &Rows, place: Place) -> bool
+/// Whether a row at this place may come after these rows: it is not before the last one.
+fn place_may_follow(rows: &Rows, place: RowPlace) -> bool
     requires { RisePlaces rows.now }
-    ensures { IsTrue result ↔ ((i : ℕ) (row : Row) → slice_get rows.now i ≡ Some row → place_number row.proc row.address ≤ place_number place.proc place.address) }
+    ensures { IsTrue result
+        ↔ ((i : ℕ) (row : Row) → slice_get rows.now i ≡ Some row
+        → place_number row.proc row.address ≤ place_number place.proc place.address) }
 {
     let number = place_number(place.proc, place.address);
     match rows.last_place() {
@@ -336,7 +334,7 @@ fn place_may_follow(rows: &Rows, place: Place) -> bool
     }
 }
 
-/// What the types of a row's values tell: its slots, facts and terms are within their limits.
+/// A law: by their types, a row's slots, facts and terms are within their limits.
 fn is_short(row: &Row)
     ensures { IsShortRow row.now }
 {

@@ -1,19 +1,17 @@
--- The fields of a line tell what it says.
-use Rattle.std.proofs.Common.{◌≡◌, ◌==◌, ◌<◌, ◌≤◌, ◌^◌, ℕ, List, [], ◌∷◌, get_or, length, codes, Option, Some, None, IfSome, refl, sym, ap, subst, ◌∙◌, inl, arith}
-use Rattle.std.proofs.lemmas.Bool.{false≢true}
-use Rattle.std.proofs.Common.{Bool, true, false, if◌then◌else◌, nat_le}
-use Rattle.std.proofs.lemmas.Bool.{leb-false}
-use Rattle.intervals.specs.Range.{Interval, between}
+-- The fields of a line determine what it says.
+use Rattle.std.proofs.Common.{◌≡◌, ◌==◌, ◌<◌, ◌≤◌, ◌^◌, ℕ, List, [], ◌∷◌, get_or, length, codes, Option, Some, None, IfSome, refl, sym, ap, subst, ◌∙◌, inl, arith, Bool, true, false, if◌then◌else◌, nat_le}
+use Rattle.std.proofs.lemmas.Bool.{false≢true, leb-false}
+use Rattle.intervals.specs.Range.{RangeView, between}
 use Rattle.std.specs.Fmt.{decimal}
 use Rattle.std.proofs.lemmas.Fmt.{decimal_injective}
 use Rattle.cert_lines.specs.Proc.{IsOfKind, IsProc, decimal_or_dash, kind_word, proc_fields}
 use Rattle.cert_lines.specs.declared.proc.Proc.{Proc}
 use Rattle.cert_lines.specs.declared.proc.ProcKind.{ProcKind}
 use Rattle.cert_lines.specs.declared.proc.ProcKind.TheVariants.{Main, Nmi, Sub}
-use Rattle.linear_fields.proofs.CutLemmas.{Lacks}
-use Rattle.linear_fields.proofs.DecimalLemmas.{decimal_lacks}
-use Rattle.row_fields.proofs.HexLemmas.{hex2_injective, hex4_injective}
-use Rattle.row_fields.specs.Pair.{IsRange}
+use Rattle.cert_fields.proofs.CutLemmas.{Lacks}
+use Rattle.cert_fields.proofs.DecimalLemmas.{decimal_lacks}
+use Rattle.cert_fields.proofs.HexLemmas.{hex2_injective, hex4_injective}
+use Rattle.cert_fields.specs.Pair.{IsRange}
 use Rattle.abs_state.specs.declared.cell.KeptCell.{KeptCell}
 use Rattle.texts.specs.Numbers.{IsWord, hex2, hex4}
 
@@ -57,7 +55,7 @@ within_64 : (n : Option ℕ) → IfSome n (λ k. k ≤ 1000000000) → IfSome n 
 within_64 None small = tt
 within_64 (Some k) small = omega (arith, small)
 
--- a procedure whose fields these are has this kind, entry and time, and none is left
+-- a procedure with these fields has this kind, entry and time, and no field is left
 module _ (kind : ProcKind) (entry : ℕ) (rank depth : List ℕ) (time : Option ℕ) (rest : List (List ℕ)) (p : Proc) (form : IsProc p) (word : IsWord entry)
     (small : IfSome time (λ k. k ≤ 1000000000)) (same : kind_word kind ∷ hex4 entry ∷ rank ∷ depth ∷ decimal_or_dash time ∷ rest ≡ proc_fields p) where
   others1 : hex4 entry ∷ rank ∷ depth ∷ decimal_or_dash time ∷ rest ≡ hex4 p.entry ∷ decimal p.rank ∷ decimal p.depth ∷ decimal_or_dash p.time ∷ []
@@ -85,11 +83,11 @@ module _ (kind : ProcKind) (entry : ℕ) (rank depth : List ℕ) (time : Option 
   proc_of_kind =
       subst (λ k. IsOfKind k entry time) (sym kind_is) (subst (λ a. IsOfKind p.kind a time) (sym entry_is) (subst (λ t. IsOfKind p.kind p.entry t) (sym time_is) form.kind))
 
--- one field was taken off, and what is left begins so
+-- one field was read, and the rest begins so
 pub more : (old mid rest : List (List ℕ)) (field text : List ℕ) → old ≡ field ∷ mid → field ≡ text → mid ≡ rest → old ≡ text ∷ rest
 more old mid rest field text e f g = e ∙ ap (λ x. x ∷ mid) f ∙ ap (λ xs. text ∷ xs) g
 
--- a range whose bounds are those of a cell's line has its lower bound first
+-- a range with the bounds of a cell's line has its lower bound first
 pub cell_order : (at low high : List ℕ) (l h : ℕ) (rest : List (List ℕ)) (c : KeptCell) → IsRange 255 c.range → low ≡ hex2 l → high ≡ hex2 h →
     at ∷ low ∷ high ∷ rest ≡ hex4 c.at ∷ hex2 c.range.low ∷ hex2 c.range.high ∷ [] → l ≤ h
 cell_order at low high l h rest c range e f same =
@@ -98,10 +96,10 @@ cell_order at low high l h rest c range e f same =
     let greatest : h ≡ c.range.high = hex2_injective h c.range.high (sym f ∙ same_first _ _ _ _ (same_others _ _ _ _ others)) in
     omega (arith, range.order, least, greatest)
 
-some_no_none : (r : Interval) → Some r ≡ None → ⊥
+some_no_none : (r : RangeView) → Some r ≡ None → ⊥
 some_no_none r e = cc
 
-none_from : (b : Bool) (r : Interval) → (if b then Some r else None) ≡ None → b ≡ false
+none_from : (b : Bool) (r : RangeView) → (if b then Some r else None) ≡ None → b ≡ false
 none_from true r e = absurd (some_no_none r e)
 none_from false r e = refl
 

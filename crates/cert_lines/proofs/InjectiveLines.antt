@@ -21,10 +21,10 @@ use Rattle.cert_lines.specs.declared.version.BoardMap.{BoardMap}
 use Rattle.cert_lines.specs.declared.version.BoardMap.TheVariants.{Galaxian, Raised}
 use Rattle.cert_lines.specs.declared.version.Version.{Version}
 use Rattle.cert_lines.specs.declared.version.Version.TheVariants.{One, Two}
-use Rattle.row_fields.proofs.InjectiveLaws.{register_letter_injective}
-use Rattle.linear_fields.proofs.NameLemmas.{code}
-use Rattle.row_fields.specs.Names.{register_letter}
-use Rattle.row_fields.specs.Pair.{IsRange}
+use Rattle.cert_fields.proofs.InjectiveLaws.{register_letter_injective}
+use Rattle.cert_fields.proofs.NameLemmas.{code}
+use Rattle.cert_fields.specs.Names.{register_letter}
+use Rattle.cert_fields.specs.Pair.{IsRange}
 use Rattle.texts.proofs.NumberLemmas.{hex2_injective, hex4_injective}
 use Rattle.texts.specs.Numbers.{IsWord, hex2, hex4}
 
@@ -80,7 +80,7 @@ line_of keywords.Cell x = lines.Cell x
 line_of keywords.Row x = lines.Row x
 line_of keywords.End x = lines.End
 
--- a line of a kind, and the keyword that it begins with
+-- a line of a kind, and its keyword
 record IsOf (v : Version) (line : Line) : Type 0 where
   kind : Keyword
   says : Says kind

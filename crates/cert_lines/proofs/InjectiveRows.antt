@@ -6,29 +6,29 @@ use Rattle.abs_state.specs.declared.fact.FlagFact.{FlagFact}
 use Rattle.abs_state.specs.declared.pairs.Pairs.{Pairs}
 use Rattle.cert_lines.proofs.RowLists.{pairs_in}
 use Rattle.cert_lines.specs.Row.{IsArmed, IsPlace, IsRow, armed_field, fields_of_row, last_fields, pair_fields, place_fields, place_of}
-use Rattle.cert_lines.specs.declared.row.Place.{Place}
+use Rattle.cert_lines.specs.declared.row.RowPlace.{RowPlace}
 use Rattle.cert_lines.specs.declared.row.Row.{Row}
 use Rattle.cert_lines.specs.declared.version.Version.{Version}
 use Rattle.cert_lines.specs.declared.version.Version.TheVariants.{One, Two}
 use Rattle.intervals.specs.declared.pair.Pair.{Pair}
-use Rattle.loop_bounds.specs.Linear.{Sum}
-use Rattle.linear_fields.proofs.InjectiveLaws.{potential_text_injective}
-use Rattle.row_fields.proofs.InjectiveLaws.{facts_text_injective, flag_text_injective, mode_letter_injective, pair_text_injective, shape_text_injective}
-use Rattle.row_fields.specs.Facts.{AreFacts}
-use Rattle.linear_fields.specs.Linear.{IsPotential}
-use Rattle.row_fields.specs.Pair.{pair_text}
+use Rattle.loop_bounds.specs.Linear.{LinearView}
+use Rattle.cert_fields.proofs.LinearInjectiveLaws.{potential_text_injective}
+use Rattle.cert_fields.proofs.InjectiveLaws.{facts_text_injective, flag_text_injective, mode_letter_injective, pair_text_injective, shape_text_injective}
+use Rattle.cert_fields.specs.Facts.{AreFacts}
+use Rattle.cert_fields.specs.Linear.{IsPotential}
+use Rattle.cert_fields.specs.Pair.{pair_text}
 use Rattle.stack_shape.specs.declared.slot.Slot.{Slot}
 use Rattle.texts.proofs.NumberLemmas.{hex4_injective}
 use Rattle.texts.specs.Numbers.{IsWord}
 
--- a field of a line by its number
+-- a field of a line by its place
 abbrev pub field : ℕ → List (List ℕ) → List ℕ
 field n fields = get_or fields n []
 
 pub word_injective : (m n : ℕ) → IsWord m → IsWord n → decimal m ≡ decimal n → m ≡ n
 word_injective m n small too e = decimal_injective m n (omega (arith, small)) (omega (arith, too)) e
 
--- lists whose first parts are as long as one another are the same part by part
+-- lists with first parts of equal length are equal part by part
 same_parts : {X : Type 0} (xs ys us vs : List X) → length xs ≡ length ys → xs ++ us ≡ ys ++ vs → (xs ≡ ys) × (us ≡ vs)
 same_parts [] [] us vs count e = (refl, e)
 same_parts [] (y ∷ ys) us vs count e = absurd (omega (arith, count))
@@ -47,16 +47,16 @@ length_armed : (v : Version) (m n : ℕ) → length (armed_field v m) ≡ length
 length_armed One m n = refl
 length_armed Two m n = refl
 
-same_place : (v : Version) (p q : Place) → IsPlace v p → IsPlace v q → place_fields v p ≡ place_fields v q → p ≡ q
+same_place : (v : Version) (p q : RowPlace) → IsPlace v p → IsPlace v q → place_fields v p ≡ place_fields v q → p ≡ q
 same_place v p q form too e =
     let others : armed_field v p.armed ≡ armed_field v q.armed = cc in
-    ap (λ n. let r : Place = record { proc = n; address = p.address; mode = p.mode; armed = p.armed } in r)
+    ap (λ n. let r : RowPlace = record { proc = n; address = p.address; mode = p.mode; armed = p.armed } in r)
     (word_injective p.proc q.proc form.proc too.proc (ap (field 0) e))
-    ∙ ap (λ a. let r : Place = record { proc = q.proc; address = a; mode = p.mode; armed = p.armed } in r)
+    ∙ ap (λ a. let r : RowPlace = record { proc = q.proc; address = a; mode = p.mode; armed = p.armed } in r)
     (hex4_injective p.address q.address form.address too.address (ap (field 1) e))
-    ∙ ap (λ m. let r : Place = record { proc = q.proc; address = q.address; mode = m; armed = p.armed } in r)
+    ∙ ap (λ m. let r : RowPlace = record { proc = q.proc; address = q.address; mode = m; armed = p.armed } in r)
     (mode_letter_injective p.mode q.mode (ap (field 2) e))
-    ∙ ap (λ n. let r : Place = record { proc = q.proc; address = q.address; mode = q.mode; armed = n } in r)
+    ∙ ap (λ n. let r : RowPlace = record { proc = q.proc; address = q.address; mode = q.mode; armed = n } in r)
     (same_armed v p.armed q.armed form.armed too.armed others)
 
 -- the ten pairs of a list
@@ -86,8 +86,8 @@ pair_texts_injective (p ∷ ps) (q ∷ qs) e =
 same_pairs : (p q : Pairs) → pair_fields p ≡ pair_fields q → p ≡ q
 same_pairs p q e = ap (pairs_of p.af) (pair_texts_injective (pairs_in p) (pairs_in q) e)
 
--- the parts that make up a row
-abbrev row_of : Place → Pairs → Option FlagFact → List Sum → List Slot → Option Sum → Row
+-- the parts of a row
+abbrev row_of : RowPlace → Pairs → Option FlagFact → List LinearView → List Slot → Option LinearView → Row
 row_of place pairs flag facts shape potential = record {
   proc = place.proc;
   address = place.address;

@@ -25,7 +25,7 @@ fields_begin v lines.End = (keywords.End, _, refl)
 head_same : (x y : List ℕ) (xs ys zs : List (List ℕ)) → zs ≡ x ∷ xs → zs ≡ y ∷ ys → x ≡ y
 head_same x y xs ys zs e f = cc
 
--- so fields whose first is no keyword are no line's
+-- so fields whose first one is no keyword are the fields of no line
 pub no_keyword : (v : Version) (fields rest : List (List ℕ)) (field : List ℕ) → fields ≡ field ∷ rest → ((k : Keyword) → Unit {0} → field ≡ keyword_text k → ⊥) →
     (line : Line) → fields ≡ fields_of v line → ⊥
 no_keyword v fields rest field e none line same =

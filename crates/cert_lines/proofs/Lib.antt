@@ -1,3 +1,4 @@
+-- Lemmas about a certificate's lines.
 pub mod FieldLemmas
 pub mod InjectiveLines
 pub mod InjectiveRows
@@ -7,3 +8,4 @@ pub mod RowFacts
 pub mod RowLemmas
 pub mod RowLists
 pub mod ShortLines
+pub mod SpellingLemmas

@@ -12,16 +12,16 @@ use Rattle.cert_lines.specs.declared.line.Line.TheVariants as lines
 use Rattle.cert_lines.specs.declared.proc.Proc.{Proc}
 use Rattle.cert_lines.specs.declared.proc.ProcKind.{ProcKind}
 use Rattle.cert_lines.specs.declared.proc.ProcKind.TheVariants as kinds
-use Rattle.cert_lines.specs.declared.row.Place.{Place}
+use Rattle.cert_lines.specs.declared.row.RowPlace.{RowPlace}
 use Rattle.cert_lines.specs.declared.row.Row.{Row}
 use Rattle.cert_lines.specs.declared.version.BoardMap.{BoardMap}
 use Rattle.cert_lines.specs.declared.version.BoardMap.TheVariants.{Galaxian, Raised}
 use Rattle.cert_lines.specs.declared.version.Version.{Version}
 use Rattle.cert_lines.specs.declared.version.Version.TheVariants.{One, Two}
 use Rattle.intervals.specs.declared.pair.Pair.{Pair}
-use Rattle.linear_fields.proofs.PlainLaws.{plain_potential}
-use Rattle.row_fields.proofs.PlainLaws.{plain_facts, plain_flag_fact, plain_mode, plain_pair, plain_register, plain_shape}
-use Rattle.row_fields.specs.Pair.{pair_text}
+use Rattle.cert_fields.proofs.LinearPlainLaws.{plain_potential}
+use Rattle.cert_fields.proofs.PlainLaws.{plain_facts, plain_flag_fact, plain_mode, plain_pair, plain_register, plain_shape}
+use Rattle.cert_fields.specs.Pair.{pair_text}
 use Rattle.texts.proofs.PlainLemmas.{ArePlain, IsPlain, plain_decimal, plain_from_test, plain_hex2, plain_hex4}
 use Rattle.texts.specs.Numbers.{IsWord}
 
@@ -65,7 +65,7 @@ plain_armed : (v : Version) (armed : ℕ) → IsArmed v armed → ArePlain (arme
 plain_armed One armed form = tt
 plain_armed Two armed form = (plain_word armed form, tt)
 
-plain_place : (v : Version) (place : Place) → IsPlace v place → ArePlain (place_fields v place)
+plain_place : (v : Version) (place : RowPlace) → IsPlace v place → ArePlain (place_fields v place)
 plain_place v place form = (
   plain_word place.proc form.proc,
   (

@@ -1,4 +1,4 @@
--- The pairs of a row as a list, and what holds of each element of two lists.
+-- The pairs of a row as a list, and properties of each element of two lists.
 use Rattle.std.proofs.Common.{List, [], ◌∷◌, ◌++◌}
 use Rattle.std.specs.List.{AllByRecursion}
 use Rattle.abs_state.specs.declared.pairs.Pairs.{Pairs}

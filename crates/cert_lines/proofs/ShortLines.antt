@@ -1,4 +1,4 @@
--- A line whose counts are within their limits is short enough to be read.
+-- A line with counts within their limits is short enough to be read.
 use Rattle.std.proofs.Common.{ℕ, ◌<◌, ◌≤◌, ◌*◌, List, [], ◌∷◌, ◌++◌, length, map, Option, Some, None, IfSome, arith, length-append}
 use Rattle.std.specs.Fmt.{decimal}
 use Rattle.std.specs.List.{AllByRecursion, join_with_byte}
@@ -16,17 +16,17 @@ use Rattle.cert_lines.specs.declared.line.Line.{Line}
 use Rattle.cert_lines.specs.declared.line.Line.TheVariants as lines
 use Rattle.cert_lines.specs.declared.proc.ProcKind.{ProcKind}
 use Rattle.cert_lines.specs.declared.proc.ProcKind.TheVariants as kinds
-use Rattle.cert_lines.specs.declared.row.Place.{Place}
+use Rattle.cert_lines.specs.declared.row.RowPlace.{RowPlace}
 use Rattle.cert_lines.specs.declared.row.Row.{Row}
 use Rattle.cert_lines.specs.declared.version.BoardMap.{BoardMap}
 use Rattle.cert_lines.specs.declared.version.BoardMap.TheVariants.{Galaxian, Raised}
 use Rattle.cert_lines.specs.declared.version.Version.{Version}
 use Rattle.cert_lines.specs.declared.version.Version.TheVariants.{One, Two}
-use Rattle.linear_fields.proofs.LengthLaws.{length_potential}
-use Rattle.row_fields.proofs.LengthLaws.{length_facts, length_flag_fact, length_pair, length_shape}
+use Rattle.cert_fields.proofs.LinearLengthLaws.{length_potential}
+use Rattle.cert_fields.proofs.LengthLaws.{length_facts, length_flag_fact, length_pair, length_shape}
 use Rattle.intervals.specs.declared.pair.Pair.{Pair}
-use Rattle.row_fields.specs.Names.{mode_letter, register_letter}
-use Rattle.row_fields.specs.Pair.{pair_text}
+use Rattle.cert_fields.specs.Names.{mode_letter, register_letter}
+use Rattle.cert_fields.specs.Pair.{pair_text}
 use Rattle.texts.proofs.NumberLemmas.{length_decimal_32, length_decimal_word, length_hex2, length_hex4}
 use Rattle.texts.specs.Numbers.{IsWord, hex2, hex4}
 
@@ -91,7 +91,7 @@ brief_armed : (v : Version) (armed : ℕ) → IsArmed v armed → AreBrief (arme
 brief_armed One armed form = tt
 brief_armed Two armed form = (brief_word armed form, tt)
 
-brief_place : (v : Version) (place : Place) → IsPlace v place → AreBrief (place_fields v place)
+brief_place : (v : Version) (place : RowPlace) → IsPlace v place → AreBrief (place_fields v place)
 brief_place v place form = (
   brief_word place.proc form.proc,
   (

@@ -16,7 +16,7 @@ keyword_text keywords.Cell = codes "cell"
 keyword_text keywords.Row = codes "row"
 keyword_text keywords.End = codes "end"
 
--- the lines of which a certificate has one
+-- the lines that a certificate has once
 abbrev pub StandsOnce : Keyword → Type 0
 StandsOnce keywords.Proc = ⊥
 StandsOnce keywords.Split = ⊥

@@ -1,4 +1,5 @@
--- The definitions of a certificate's lines.
+-- Definitions of a certificate's lines.
+pub mod BoardMaps
 pub mod Keyword
 pub mod Line
 pub mod Proc

@@ -8,11 +8,11 @@ use Rattle.cert_lines.specs.Version.{board_name, version_digit}
 use Rattle.cert_lines.specs.declared.line.Line.{Line}
 use Rattle.cert_lines.specs.declared.line.Line.TheVariants as lines
 use Rattle.cert_lines.specs.declared.version.Version.{Version}
-use Rattle.row_fields.specs.Names.{register_letter}
-use Rattle.row_fields.specs.Pair.{IsRange}
+use Rattle.cert_fields.specs.Names.{register_letter}
+use Rattle.cert_fields.specs.Pair.{IsRange}
 use Rattle.texts.specs.Numbers.{IsWord, hex2, hex4}
 
--- the fields of each kind of line; those of a row hang on the version
+-- the fields of each kind of line; those of a row depend on the version
 unfoldable pub fields_of : Version → Line → List (List ℕ)
 fields_of version (lines.Header v) = codes "galcert" ∷ version_digit v ∷ []
 fields_of version (lines.Rom len) = codes "rom" ∷ decimal len ∷ []
@@ -26,7 +26,7 @@ fields_of version (lines.Cell cell) = codes "cell" ∷ hex4 cell.at ∷ hex2 cel
 fields_of version (lines.Row row) = codes "row" ∷ fields_of_row version row
 fields_of version lines.End = codes "end" ∷ []
 
--- a line's text, without its line feed: single spaces part the fields
+-- a line's text without its line feed: its fields with single spaces between them
 abbrev pub line_text : Version → Line → List ℕ
 line_text version line = join_with_byte 32 (fields_of version line)
 
@@ -34,7 +34,7 @@ line_text version line = join_with_byte 32 (fields_of version line)
 abbrev pub fed_line : Version → Line → List ℕ
 fed_line version line = line_text version line ++ 10 ∷ []
 
--- a line in form by itself, but that a row's slots, facts and terms may be too many
+-- a line in form by itself, except that a row may have too many slots, facts or terms
 abbrev pub IsLine : Version → Line → Type 0
 IsLine version (lines.Header v) = Unit {0}
 IsLine version (lines.Rom len) = IsWord len

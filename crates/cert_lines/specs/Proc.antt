@@ -11,22 +11,22 @@ kind_word Main = codes "main"
 kind_word Nmi = codes "nmi"
 kind_word Sub = codes "sub"
 
--- a number in decimal, or a dash for none
+-- a decimal, or a dash for none
 abbrev pub decimal_or_dash : Option ℕ → List ℕ
 decimal_or_dash None = codes "-"
 decimal_or_dash (Some n) = decimal n
 
--- the fields behind `proc`
+-- the fields after `proc`
 abbrev pub proc_fields : Proc → List (List ℕ)
 proc_fields p = kind_word p.kind ∷ hex4 p.entry ∷ decimal p.rank ∷ decimal p.depth ∷ decimal_or_dash p.time ∷ []
 
--- main is entered at 0000 and has no time, the NMI routine is entered at 0066 and has one
+-- main has the entry 0000 and no time, the NMI routine has the entry 0066 and a time
 abbrev pub IsOfKind : ProcKind → ℕ → Option ℕ → Type 0
 IsOfKind Main entry time = (entry ≡ 0) × (time ≡ None)
 IsOfKind Nmi entry time = (entry ≡ 102) × IsSome time
 IsOfKind Sub entry time = Unit {0}
 
--- a procedure in form: rank and depth are words, a time is 1,000,000,000 at most
+-- a procedure in form: rank and depth are words, and a time is at most 1,000,000,000
 pub record IsProc (p : Proc) : Type 0 where
   pub entry : IsWord p.entry
   pub rank : IsWord p.rank

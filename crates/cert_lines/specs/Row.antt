@@ -4,18 +4,18 @@ use Rattle.std.specs.Fmt.{decimal}
 use Rattle.abs_state.specs.declared.mode.Mode.TheVariants.{Unset}
 use Rattle.abs_state.specs.declared.pairs.Pairs.{Pairs}
 use Rattle.abs_state.specs.declared.fact.FlagFact.{FlagFact}
-use Rattle.loop_bounds.specs.Linear.{Sum}
+use Rattle.loop_bounds.specs.Linear.{LinearView}
 use Rattle.stack_shape.specs.declared.slot.Slot.{Slot}
-use Rattle.cert_lines.specs.declared.row.Place.{Place}
+use Rattle.cert_lines.specs.declared.row.RowPlace.{RowPlace}
 use Rattle.cert_lines.specs.declared.row.Row.{Row}
 use Rattle.cert_lines.specs.declared.version.Version.{Version}
 use Rattle.cert_lines.specs.declared.version.Version.TheVariants.{One, Two}
-use Rattle.row_fields.specs.Facts.{AreFacts, AreFewFacts, facts_text}
-use Rattle.row_fields.specs.Flag.{IsFlag, flag_text}
-use Rattle.linear_fields.specs.Linear.{IsPotential, IsShortPotential, potential_text}
-use Rattle.row_fields.specs.Names.{mode_letter}
-use Rattle.row_fields.specs.Pair.{IsPair, pair_text}
-use Rattle.row_fields.specs.Shape.{IsShape, IsShortShape, shape_text}
+use Rattle.cert_fields.specs.Facts.{AreFacts, AreFewFacts, facts_text}
+use Rattle.cert_fields.specs.Flag.{IsFlag, flag_text}
+use Rattle.cert_fields.specs.Linear.{IsPotential, IsShortPotential, potential_text}
+use Rattle.cert_fields.specs.Names.{mode_letter}
+use Rattle.cert_fields.specs.Pair.{IsPair, pair_text}
+use Rattle.cert_fields.specs.Shape.{IsShape, IsShortShape, shape_text}
 use Rattle.texts.specs.Numbers.{IsWord, hex4}
 
 -- the ten pairs in their order
@@ -24,25 +24,25 @@ pair_fields p =
     pair_text p.af ∷ pair_text p.bc ∷ pair_text p.de ∷ pair_text p.hl ∷ pair_text p.ix ∷ pair_text p.iy ∷
     pair_text p.alternate_af ∷ pair_text p.alternate_bc ∷ pair_text p.alternate_de ∷ pair_text p.alternate_hl ∷ []
 
--- how many cells are armed, which only version 2 says
+-- the number of armed cells, which only version 2 has
 abbrev pub armed_field : Version → ℕ → List (List ℕ)
 armed_field One armed = []
 armed_field Two armed = decimal armed ∷ []
 
--- the fields that tell where a row stands, its mode and its armed cells
-abbrev pub place_fields : Version → Place → List (List ℕ)
+-- the fields of a row's place, mode and armed cells
+abbrev pub place_fields : Version → RowPlace → List (List ℕ)
 place_fields version place = decimal place.proc ∷ hex4 place.address ∷ mode_letter place.mode ∷ armed_field version place.armed
 
--- where a row stands, its mode and its armed cells
-abbrev pub place_of : Row → Place
+-- a row's place, mode and armed cells
+abbrev pub place_of : Row → RowPlace
 place_of row = record { proc = row.proc; address = row.address; mode = row.state.mode; armed = row.state.armed }
 
--- what the last fields of a row say: the flag fact, the facts, the shape and the potential
+-- the values of a row's last fields: the flag fact, the facts, the shape and the potential
 pub record Last : Type 0 where
   pub flag : Option FlagFact
-  pub facts : List Sum
+  pub facts : List LinearView
   pub shape : List Slot
-  pub potential : Option Sum
+  pub potential : Option LinearView
 
 abbrev pub last_of : Row → Last
 last_of row = record { flag = row.state.flag; facts = row.facts; shape = row.state.shape; potential = row.potential }
@@ -53,7 +53,7 @@ last_texts last = flag_text last.flag ∷ facts_text last.facts ∷ shape_text l
 abbrev pub last_fields : Row → List (List ℕ)
 last_fields row = last_texts (last_of row)
 
--- the fields behind `row`
+-- the fields after `row`
 unfoldable pub fields_of_row : Version → Row → List (List ℕ)
 fields_of_row version row = place_fields version (place_of row) ++ (pair_fields row.state.pairs ++ last_fields row)
 
@@ -74,14 +74,14 @@ abbrev pub IsArmed : Version → ℕ → Type 0
 IsArmed One armed = armed ≡ 0
 IsArmed Two armed = IsWord armed
 
--- numbers of a row's place in form
-pub record IsPlace (version : Version) (place : Place) : Type 0 where
+-- the numbers of a row's place are in form
+pub record IsPlace (version : Version) (place : RowPlace) : Type 0 where
   pub proc : IsWord place.proc
   pub address : IsWord place.address
   pub armed : IsArmed version place.armed
 
--- a row in form, but that its slots, facts and terms may be too many: no fact and no potential names a slot beyond the shape, and
--- where SP may not be set the shape is empty. It has fewer slots than a line has bytes.
+-- a row in form, except that it may have too many slots, facts or terms: no fact and no potential names a slot beyond
+-- the shape, and in mode `u` the shape is empty. It has fewer slots than a line may have bytes.
 pub record IsRow (version : Version) (row : Row) : Type 0 where
   pub place : IsPlace version (place_of row)
   pub pairs : ArePairs row.state.pairs

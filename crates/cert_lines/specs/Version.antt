@@ -1,6 +1,5 @@
 -- The names of versions and of boards in a certificate's text (docs/CERTIFICATE.md).
 use Rattle.std.specs.Prelude.{ℕ, List, codes}
-use Rattle.address_map.specs.AddressMap.{AddressMap}
 use Rattle.address_map.specs.Boards.{galaxian, raised}
 use Rattle.cert_lines.specs.declared.version.BoardMap.{BoardMap}
 use Rattle.cert_lines.specs.declared.version.BoardMap.TheVariants.{Galaxian, Raised}
@@ -14,11 +13,6 @@ version_digit Two = codes "2"
 abbrev pub board_name : BoardMap → List ℕ
 board_name Galaxian = codes "galaxian"
 board_name Raised = codes "raised"
-
--- the map of this name, for a ROM of this length
-abbrev pub map_named : BoardMap → ℕ → AddressMap
-map_named Galaxian rom_len = galaxian rom_len
-map_named Raised rom_len = raised rom_len
 
 -- the first address of a board's work RAM
 abbrev pub work_start_of : BoardMap → ℕ

@@ -7,7 +7,7 @@ use crate::version::{BoardMap, Version};
 use abs_state::KeptCell;
 use address_map::Region;
 
-/// One line of a certificate's text, with what it says.
+/// One line of a certificate's text, as a value (docs/CERTIFICATE.md).
 #[derive(Drop)]
 pub enum Line {
     /// The version of the text.
@@ -16,15 +16,15 @@ pub enum Line {
     Rom(u16),
     /// The board's map, in version 2.
     Board(BoardMap),
-    /// The region of the stack.
+    /// The stack region.
     Stack(Region),
-    /// The most T-states that the NMI routine may take, or none without an NMI routine.
+    /// The most T-states that the NMI routine may take; None if there is no routine.
     Budget(Option<u16>),
     Proc(Proc),
     Split(Split),
-    /// The address of a call whose return address the callee takes from the stack.
+    /// The address of a call whose callee takes its return address from the stack.
     Inline(u16),
-    /// A cell of work RAM that keeps a range, in version 2.
+    /// A kept cell, in version 2.
     Cell(KeptCell),
     Row(Row),
     End,

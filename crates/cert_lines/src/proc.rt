@@ -3,10 +3,12 @@
 ghost use Rattle.std.specs.Prelude.{◌↔◌, IsTrue};
 ghost use Rattle.cert_lines.specs.Proc.{IsOfKind, IsProc};
 
-/// The greatest time of a procedure, in T-states.
-pub(crate) const GREATEST_TIME: u32 = 1_000_000_000;
+use z80_moves::NMI_ADDRESS;
 
-/// What a procedure is.
+/// The greatest time of a procedure, in T-states.
+pub const GREATEST_TIME: u32 = 1_000_000_000;
+
+/// The kind of a procedure.
 #[derive(Clone, Copy, PartialEq, Eq)]
 pub enum ProcKind {
     /// The main procedure, which a reset enters at 0000.
@@ -17,24 +19,24 @@ pub enum ProcKind {
     Sub,
 }
 
-/// A procedure: how it stands in the order of calls, the bytes of stack that it needs, and the T-states that it may take.
+/// A procedure of a certificate (docs/CERTIFICATE.md, "Procedures").
 #[derive(Clone, Copy)]
 pub struct Proc {
     pub kind: ProcKind,
     /// The address of its first instruction.
     pub entry: u16,
-    /// The callees' ranks are below it, 0 to 65,535.
+    /// The rules want each callee's rank below this one, 0 to 65,535.
     pub rank: u16,
-    /// Stack bytes, with those of its callees and, but for main, its return word: 0 to 65,535.
+    /// The bytes of stack that it and its callees need, 0 to 65,535; for all but main the return word is included.
     pub depth: u16,
-    /// T-states from its entry to the end of its return, and for the NMI routine the 11 of the acceptance as well: 0 to
-    /// 1,000,000,000, or None for a procedure without a time.
+    /// The T-states from its entry to the end of its return, 0 to 1,000,000,000; for the NMI routine the 11 of the
+    /// acceptance are included. None for a procedure without a time.
     pub time: Option<u32>,
 }
 
 impl Proc {
-    /// Whether the procedure is in form by itself: main is entered at 0000 and has no time, the NMI routine is entered at 0066 and has
-    /// one, and a time is 1,000,000,000 at most.
+    /// Whether the procedure is in form by itself. Main has the entry 0000 and no time; the NMI routine has the entry
+    /// 0066 and a time; a time is at most 1,000,000,000.
     pub fn is_in_form(self) -> bool
         ensures { IsTrue result ↔ IsProc self }
     {
@@ -42,13 +44,13 @@ impl Proc {
     }
 }
 
-/// Whether an entry and a time are those of a kind.
+/// Whether the kind may have this entry and this time.
 pub(crate) fn is_of_kind(kind: ProcKind, entry: u16, time: Option<u32>) -> bool
     ensures { IsTrue result ↔ IsOfKind kind entry time }
 {
     match kind {
         ProcKind::Main => entry == 0 && time.is_none(),
-        ProcKind::Nmi => entry == 0x66 && time.is_some(),
+        ProcKind::Nmi => entry == NMI_ADDRESS && time.is_some(),
         ProcKind::Sub => true,
     }
 }

@@ -6,32 +6,32 @@ ghost use Rattle.cert_lines.specs.Keyword.{StandsOnce, keyword_text};
 ghost use Rattle.cert_lines.specs.Proc.{IsProc, IsOfKind, decimal_or_dash, kind_word, proc_fields};
 ghost use Rattle.cert_lines.specs.Read.{ReadsLine};
 ghost use Rattle.cert_lines.specs.Version.{board_name, version_digit};
-ghost use Rattle.row_fields.specs.Names.{register_letter};
-ghost use Rattle.row_fields.specs.Pair.{IsRange};
+ghost use Rattle.cert_fields.specs.Names.{register_letter};
+ghost use Rattle.cert_fields.specs.Pair.{IsRange};
 ghost use Rattle.texts.specs.Fields.{fields_in};
 ghost use Rattle.texts.specs.Numbers.{Always, IsWord, Reads, hex2, hex4};
 
 use crate::line::Line;
 use crate::proc::{GREATEST_TIME, Proc, ProcKind, is_of_kind};
-use crate::row::Place;
+use crate::row::RowPlace;
 use crate::row_reading::{ReadRow, read_row};
 use crate::split::Split;
 use crate::version::{BoardMap, Version};
 use abs_state::KeptCell;
 use address_map::Region;
+use cert_fields::register_field;
 use intervals::ByteRange;
-use row_fields::register_field;
 use texts::{Fields, decimal_between, decimal_field, hex2_field, hex4_field};
 
 /// What was read of a line.
 #[derive(Drop)]
 pub enum ReadLine {
     Whole(Line),
-    /// A row in form, but that its slots, facts or terms are too many: where it stands.
-    Crowded(Place),
+    /// A row that is out of form only because it has too many slots, facts or terms; only its place is given.
+    Crowded(RowPlace),
 }
 
-/// The first field of a line, which tells its kind.
+/// The first field of a line, which determines its kind.
 #[derive(Clone, Copy)]
 pub enum Keyword {
     Galcert,
@@ -65,7 +65,7 @@ fn keyword_field(field: &[u8]) -> Option<Keyword>
     }
 }
 
-/// The keywords of lines that stand once.
+/// The keywords of lines that a certificate has once.
 fn head_keyword(field: &[u8]) -> Option<Keyword>
     ensures { Reads keyword_text StandsOnce field.now result }
 {
@@ -96,18 +96,6 @@ fn version_field(field: &[u8]) -> Option<Version>
     }
 }
 
-fn board_field(field: &[u8]) -> Option<BoardMap>
-    ensures { Reads board_name Always field.now result }
-{
-    if field == b"galaxian".as_slice() {
-        Some(BoardMap::Galaxian)
-    } else if field == b"raised".as_slice() {
-        Some(BoardMap::Raised)
-    } else {
-        None
-    }
-}
-
 fn kind_field(field: &[u8]) -> Option<ProcKind>
     ensures { Reads kind_word Always field.now result }
 {
@@ -122,7 +110,7 @@ fn kind_field(field: &[u8]) -> Option<ProcKind>
     }
 }
 
-/// A number up to a greatest one in decimal, or a dash for none.
+/// A decimal from 0 to `most`, or a dash for none.
 fn decimal_or_dash_field(field: &[u8], most: u32) -> Option<Option<u32>>
     ensures { Reads decimal_or_dash (λ n. IfSome n (λ n. n ≤ most)) field.now result }
 {
@@ -132,7 +120,7 @@ fn decimal_or_dash_field(field: &[u8], most: u32) -> Option<Option<u32>>
     Some(Some(decimal_between(field, 0, most)?))
 }
 
-/// `V`, behind `galcert`.
+/// `V`, after `galcert`.
 fn header_fields(mut fields: Fields) -> Option<Version>
     ensures { Reads (λ v. version_digit v ∷ []) Always fields.entry result }
 {
@@ -144,7 +132,7 @@ fn header_fields(mut fields: Fields) -> Option<Version>
     }
 }
 
-/// `LEN`, behind `rom`.
+/// `LEN`, after `rom`.
 fn rom_fields(mut fields: Fields) -> Option<u16>
     ensures { Reads (λ len. decimal len ∷ []) IsWord fields.entry result }
 {
@@ -152,17 +140,18 @@ fn rom_fields(mut fields: Fields) -> Option<u16>
     if fields.is_empty() { Some(len) } else { None }
 }
 
-/// `NAME`, behind `map`.
+/// `NAME`, after `map`.
 fn board_fields(mut fields: Fields) -> Option<BoardMap>
     ensures { Reads (λ b. board_name b ∷ []) Always fields.entry result }
 {
-    let board = board_field(fields.next()?)?;
+    let board = BoardMap::named(fields.next()?)?;
     if fields.is_empty() { Some(board) } else { None }
 }
 
-/// `LOW TOP`, behind `stack`.
+/// `LOW TOP`, after `stack`.
 fn stack_fields(mut fields: Fields) -> Option<Region>
-    ensures { Reads (λ region. hex4 region.low ∷ hex4 region.top ∷ []) (λ region. IsWord region.low × IsWord region.top) fields.entry result }
+    ensures { Reads (λ region. hex4 region.low ∷ hex4 region.top ∷ []) (λ region. IsWord region.low
+        × IsWord region.top) fields.entry result }
 {
     let low = hex4_field(fields.next()?)?;
     let top = hex4_field(fields.next()?)?;
@@ -173,9 +162,10 @@ fn stack_fields(mut fields: Fields) -> Option<Region>
     }
 }
 
-/// `N` or a dash, behind `budget`.
+/// `N` or a dash, after `budget`.
 fn budget_fields(mut fields: Fields) -> Option<Option<u16>>
-    ensures { Reads (λ budget. decimal_or_dash budget ∷ []) (λ budget. IfSome budget IsWord) fields.entry result }
+    ensures { Reads (λ budget. decimal_or_dash budget
+        ∷ []) (λ budget. IfSome budget IsWord) fields.entry result }
 {
     let budget = decimal_or_dash_field(fields.next()?, u32::from(u16::MAX))?;
     if fields.is_empty() {
@@ -185,7 +175,7 @@ fn budget_fields(mut fields: Fields) -> Option<Option<u16>>
     }
 }
 
-/// `KIND ENTRY RANK DEPTH TIME`, behind `proc`.
+/// `KIND ENTRY RANK DEPTH TIME`, after `proc`.
 fn proc_of_fields(mut fields: Fields) -> Option<Proc>
     ensures { Reads proc_fields IsProc fields.entry result }
 {
@@ -207,9 +197,10 @@ fn proc_of_fields(mut fields: Fields) -> Option<Proc>
     }
 }
 
-/// `PROC ADDR REG`, behind `split`.
+/// `PROC ADDR REG`, after `split`.
 fn split_fields(mut fields: Fields) -> Option<Split>
-    ensures { Reads (λ s. decimal s.proc ∷ hex4 s.address ∷ register_letter s.register ∷ []) (λ s. IsWord s.proc × IsWord s.address) fields.entry result }
+    ensures { Reads (λ s. decimal s.proc ∷ hex4 s.address ∷ register_letter s.register
+        ∷ []) (λ s. IsWord s.proc × IsWord s.address) fields.entry result }
 {
     let proc = decimal_field(fields.next()?)?;
     let address = hex4_field(fields.next()?)?;
@@ -225,7 +216,7 @@ fn split_fields(mut fields: Fields) -> Option<Split>
     }
 }
 
-/// `ADDR`, behind `inline`.
+/// `ADDR`, after `inline`.
 fn inline_fields(mut fields: Fields) -> Option<u16>
     ensures { Reads (λ a. hex4 a ∷ []) IsWord fields.entry result }
 {
@@ -237,9 +228,10 @@ fn inline_fields(mut fields: Fields) -> Option<u16>
     }
 }
 
-/// `ADDR LO HI`, behind `cell`.
+/// `ADDR LO HI`, after `cell`.
 fn cell_fields(mut fields: Fields) -> Option<KeptCell>
-    ensures { Reads (λ c. hex4 c.at ∷ hex2 c.range.low ∷ hex2 c.range.high ∷ []) (λ c. IsWord c.at × IsRange 255 c.range) fields.entry result }
+    ensures { Reads (λ c. hex4 c.at ∷ hex2 c.range.low ∷ hex2 c.range.high ∷ []) (λ c. IsWord c.at
+        × IsRange 255 c.range) fields.entry result }
 {
     let at = hex4_field(fields.next()?)?;
     let low = hex2_field(fields.next()?)?;
@@ -253,8 +245,8 @@ fn cell_fields(mut fields: Fields) -> Option<KeptCell>
 }
 
 impl Line {
-    /// The line of this version that has this text, which comes without its LF. None is the text of no line; of a row whose slots, facts
-    /// or terms are too many, all else being in form, only its place is told.
+    /// The line of this version with this text, which is given without its line feed; None if no line has the text. For
+    /// a row that is out of form only because it has too many slots, facts or terms, only its place is given.
     #[tactic(auto, unfolding(crate::specs::Line::fields_of))]
     pub fn of(version: Version, text: &[u8]) -> Option<ReadLine>
         ensures { ReadsLine version (fields_in text.now) result }

@@ -3,36 +3,37 @@
 ghost use Rattle.std.specs.Prelude.{◌≡◌, ◌↔◌, IsTrue};
 ghost use Rattle.abs_state.specs.declared.mode.Mode.TheVariants.{Unset};
 ghost use Rattle.cert_lines.specs.Row.{ArePairs, IsPlace, IsRow, place_of};
-ghost use Rattle.row_fields.specs.Facts.{AreFacts};
-ghost use Rattle.row_fields.specs.Flag.{IsFlag};
-ghost use Rattle.linear_fields.specs.Linear.{IsPotential};
+ghost use Rattle.cert_fields.specs.Facts.{AreFacts};
+ghost use Rattle.cert_fields.specs.Flag.{IsFlag};
+ghost use Rattle.cert_fields.specs.Linear.{IsPotential};
 
 use crate::version::Version;
 use abs_state::{AbsState, FlagFact, Mode, Pairs};
 use call_graph::ProcId;
+use cert_fields::{Facts, are_facts, facts_stay_within, is_pair, is_shape, stays_within};
 use loop_bounds::Linear;
-use row_fields::{Facts, are_facts, facts_stay_within, is_pair, is_shape, stays_within};
 use stack_shape::Shape;
 use std::marker::Model;
 
-/// One abstract state at one instruction of one procedure.
+/// One abstract state at one instruction of one procedure (docs/CERTIFICATE.md, "Rows").
 #[derive(Drop)]
 pub struct Row {
     /// The number of the procedure, from 0.
     pub proc: ProcId,
     /// The address of the instruction.
     pub address: u16,
-    /// What is known there.
+    /// The state at the instruction.
     pub state: AbsState,
     /// Linears that are 0 there.
     pub facts: Facts,
-    /// At most so many T-states are left until the procedure's return has ended; None where no time is claimed.
+    /// The potential: an upper bound for the T-states that are left until the end of the procedure's return. None if
+    /// the row has none.
     pub potential: Option<Linear>,
 }
 
-/// What of a row is told against the lines before it.
+/// What decides whether a row may come next: its procedure, address, mode and armed cells.
 #[derive(Clone, Copy)]
-pub struct Place {
+pub struct RowPlace {
     pub proc: ProcId,
     pub address: u16,
     pub mode: Mode,
@@ -40,11 +41,10 @@ pub struct Place {
 }
 
 impl Row {
-    /// Where the row stands, its mode and its armed cells.
-    pub fn place(&self) -> Place
+    pub fn place(&self) -> RowPlace
         ensures { result ≡ place_of self.now }
     {
-        Place {
+        RowPlace {
             proc: self.proc,
             address: self.address,
             mode: self.state.mode,
@@ -52,8 +52,8 @@ impl Row {
         }
     }
 
-    /// Whether the row is in form by itself: no fact and no potential names a slot beyond the shape, where SP may not be set
-    /// the shape is empty, and in version 1 no cell is armed.
+    /// Whether the row is in form by itself: no fact and no potential names a slot beyond the shape; in mode `u` the
+    /// shape is empty; in version 1 no cell is armed.
     pub fn is_in_form(&self, version: Version) -> bool
         ensures { IsTrue result ↔ IsRow version self.now }
     {
@@ -69,8 +69,8 @@ impl Row {
     }
 }
 
-/// Whether the numbers of a row's place are in form: whether no cell is armed, in version 1.
-fn place_is_in_form(version: Version, place: Place) -> bool
+/// Whether a row's place is in form: in version 1 no cell is armed.
+fn place_is_in_form(version: Version, place: RowPlace) -> bool
     ensures { IsTrue result ↔ IsPlace version place }
 {
     match version {
@@ -79,19 +79,19 @@ fn place_is_in_form(version: Version, place: Place) -> bool
     }
 }
 
-/// Whether a row of this mode may have so many slots: none, where SP may not be set.
+/// Whether a row of this mode may have this many slots: in mode `u` it has none.
 fn mode_is_in_form(mode: Mode, slots: usize) -> bool
     ensures { IsTrue result ↔ (mode ≡ Unset → slots ≡ 0) }
 {
     mode != Mode::Unset || slots == 0
 }
 
-/// What the type of a flag fact tells: the number that it has is a byte.
+/// A law: by its type, a flag fact compares A with a byte.
 fn is_flag(flag: Option<FlagFact>)
     ensures { IsFlag flag }
 {}
 
-/// What the types of pairs tell: their ranges are ranges of words and of bytes.
+/// A law: by their types, pairs have ranges of words and of bytes.
 fn are_pairs(pairs: &Pairs)
     ensures { ArePairs pairs.now }
 {
@@ -107,7 +107,7 @@ fn are_pairs(pairs: &Pairs)
     is_pair(&pairs.alternate_hl);
 }
 
-/// Whether facts are in form in a row with so many slots: whether they name no slot beyond them.
+/// Whether the facts name no slot beyond these.
 fn facts_are_within(facts: &Facts, slots: usize) -> bool
     ensures { IsTrue result ↔ AreFacts slots facts.now }
 {
@@ -115,7 +115,7 @@ fn facts_are_within(facts: &Facts, slots: usize) -> bool
     facts_stay_within(facts, slots)
 }
 
-/// Whether a potential is in form in a row with so many slots, likewise.
+/// Whether the potential names no slot beyond these.
 fn potential_is_within(potential: Option<Linear>, slots: usize) -> bool
     ensures { IsTrue result ↔ IsPotential slots potential }
 {
@@ -125,9 +125,9 @@ fn potential_is_within(potential: Option<Linear>, slots: usize) -> bool
     }
 }
 
-/// A row that is lent, field by field.
+/// A borrowed row, field by field.
 #[derive(Drop)]
-pub struct RowView<'a> {
+pub struct RowRef<'a> {
     pub proc: ProcId,
     pub address: u16,
     pub mode: Mode,
@@ -139,7 +139,7 @@ pub struct RowView<'a> {
     pub potential: Option<Linear>,
 }
 
-impl<'a> Model for RowView<'a> {
+impl<'a> Model for RowRef<'a> {
     ghost use Rattle.cert_lines.specs.declared.row.Row.{Row};
 
     ghost Value = { Row };
@@ -153,8 +153,8 @@ impl<'a> Model for RowView<'a> {
     } };
 }
 
-impl<'a> RowView<'a> {
-    /// What is known at the row, as a value of its own. It takes no memory.
+impl<'a> RowRef<'a> {
+    /// The row's state, as a value of its own. No memory is taken.
     pub fn state(&self) -> AbsState
         ensures { result ≡ self.now.state }
     {

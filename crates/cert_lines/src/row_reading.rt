@@ -1,34 +1,34 @@
-// How the line of a row is read from its fields.
+// How a row is read from the fields of its line.
 
 ghost use Rattle.std.specs.Prelude.{◌≡◌};
-ghost use Rattle.cert_lines.specs.Read.{MakesRow, ReadsLast, ReadsRow, TakesPart};
+ghost use Rattle.cert_lines.specs.Read.{MakesRow, ReadsLast, ReadsRow, TakesFields};
 ghost use Rattle.cert_lines.specs.Row.{ArePairs, IsArmed, IsPlace, armed_field, pair_fields, place_fields};
 
-use crate::row::{Place, Row};
+use crate::row::{Row, RowPlace};
 use crate::version::Version;
 use abs_state::{AbsState, FlagFact, Mode, Pairs};
-use loop_bounds::Linear;
-use row_fields::{
+use cert_fields::{
     Counted, Facts, ReadShape, facts_field, flag_fact_field, mode_field, pair_field,
     potential_field, shape_field,
 };
+use loop_bounds::Linear;
 use stack_shape::Shape;
 use texts::{Fields, decimal_field, hex4_field};
 
-/// A line has fewer slots than bytes, which are 1,048,576 at most.
+/// A line has fewer slots than bytes, and at most 1,048,576 bytes.
 const SLOT_BOUND: usize = 1_048_576;
 
 /// What was read of a row's line.
 #[derive(Drop)]
 pub enum ReadRow {
     Whole(Row),
-    /// A row in form, but that its slots, facts or terms are too many: where it stands.
-    Crowded(Place),
+    /// A row that is out of form only because it has too many slots, facts or terms; only its place is given.
+    Crowded(RowPlace),
 }
 
-/// How many cells are armed: version 1 does not say it, and arms none.
+/// The number of armed cells. Version 1 does not say it and arms none.
 fn take_armed(version: Version, fields: &mut Fields) -> Option<u16>
-    ensures { TakesPart (armed_field version) (IsArmed version) fields.old result fields.new }
+    ensures { TakesFields (armed_field version) (IsArmed version) fields.old result fields.new }
 {
     match version {
         Version::One => Some(0),
@@ -37,14 +37,14 @@ fn take_armed(version: Version, fields: &mut Fields) -> Option<u16>
 }
 
 /// `PROC ADDR MODE`, and in version 2 `ARMED`.
-fn take_place(version: Version, fields: &mut Fields) -> Option<Place>
-    ensures { TakesPart (place_fields version) (IsPlace version) fields.old result fields.new }
+fn take_place(version: Version, fields: &mut Fields) -> Option<RowPlace>
+    ensures { TakesFields (place_fields version) (IsPlace version) fields.old result fields.new }
 {
     let proc = decimal_field(fields.next()?)?;
     let address = hex4_field(fields.next()?)?;
     let mode = mode_field(fields.next()?)?;
     let armed = take_armed(version, fields)?;
-    Some(Place {
+    Some(RowPlace {
         proc,
         address,
         mode,
@@ -52,9 +52,8 @@ fn take_place(version: Version, fields: &mut Fields) -> Option<Place>
     })
 }
 
-/// The ten pairs.
 fn take_pairs(fields: &mut Fields) -> Option<Pairs>
-    ensures { TakesPart pair_fields ArePairs fields.old result fields.new }
+    ensures { TakesFields pair_fields ArePairs fields.old result fields.new }
 {
     Some(Pairs {
         af: pair_field(fields.next()?)?,
@@ -74,14 +73,14 @@ fn take_pairs(fields: &mut Fields) -> Option<Pairs>
 #[derive(Drop)]
 pub struct ReadLast {
     pub flag: Option<FlagFact>,
-    /// How many slots the shape has, which may be above 64.
+    /// How many slots the shape has, which may be more than 64.
     pub count: usize,
     pub shape: Counted<Shape>,
     pub facts: Counted<Facts>,
     pub potential: Counted<Option<Linear>>,
 }
 
-/// `FLAG FACTS SHAPE POT`, and nothing behind them.
+/// `FLAG FACTS SHAPE POT`, with nothing after them.
 fn read_last(mut fields: Fields) -> Option<ReadLast>
     ensures { ReadsLast fields.entry result }
 {
@@ -102,8 +101,8 @@ fn read_last(mut fields: Fields) -> Option<ReadLast>
     })
 }
 
-/// The row of what was read, or its place where something is too many.
-fn row_of(place: Place, pairs: Pairs, last: ReadLast) -> ReadRow
+/// The row of what was read; only its place if something is too many.
+fn row_of(place: RowPlace, pairs: Pairs, last: ReadLast) -> ReadRow
     ensures { MakesRow place pairs last result }
 {
     let ReadLast {
@@ -118,7 +117,7 @@ fn row_of(place: Place, pairs: Pairs, last: ReadLast) -> ReadRow
     ) else {
         return ReadRow::Crowded(place);
     };
-    let Place {
+    let RowPlace {
         proc,
         address,
         mode,
@@ -139,7 +138,7 @@ fn row_of(place: Place, pairs: Pairs, last: ReadLast) -> ReadRow
     })
 }
 
-/// The row of these fields, which stand behind `row`.
+/// The row of the fields after `row`.
 pub(crate) fn read_row(version: Version, mut fields: Fields) -> Option<ReadRow>
     ensures { ReadsRow version fields.entry result }
 {

@@ -3,7 +3,7 @@
 use call_graph::ProcId;
 use z80_decode::Register8;
 
-/// An address of a procedure at which states are told apart by the values of a register.
+/// A split: at this address of a procedure, states are distinguished by the value of a register.
 #[derive(Clone, Copy)]
 pub struct Split {
     /// The number of the procedure, from 0.

@@ -1,17 +1,19 @@
-// The version of a certificate's text, and the board that it speaks of.
+// The version of a certificate's text, and the board that it names.
 
-ghost use Rattle.std.specs.Prelude.{◌≡◌, ◌≤◌};
+ghost use Rattle.std.specs.Prelude.{◌≡◌, ◌≤◌, length};
+ghost use Rattle.texts.specs.Numbers.{Always, Reads};
 ghost use Rattle.address_map.specs.Boards.{galaxian, raised};
-ghost use Rattle.cert_lines.specs.Version.{map_named, work_start_of};
+ghost use Rattle.cert_lines.specs.Version.{board_name, work_start_of};
+ghost use Rattle.cert_lines.specs.BoardMaps.{map_named};
 
 use address_map::Map;
 
-/// The version of a certificate's text.
+/// The version of a certificate's text (docs/CERTIFICATE.md).
 #[derive(Clone, Copy, PartialEq, Eq)]
 pub enum Version {
     /// For the Galaxian board, without kept cells.
     One,
-    /// With the name of the board's map, and with kept cells.
+    /// Names the board's map, and may have kept cells.
     Two,
 }
 
@@ -23,7 +25,7 @@ pub enum BoardMap {
 }
 
 impl BoardMap {
-    /// The map of this name, for a ROM of 1 to 16,384 bytes.
+    /// The map with this name, for a ROM of 1 to 16,384 bytes.
     pub fn map(self, rom_len: u16) -> Map
         requires some { 1 ≤ rom_len }
         requires fits { rom_len ≤ 0x4000 }
@@ -33,6 +35,30 @@ impl BoardMap {
         match self {
             BoardMap::Galaxian => Map::galaxian(rom_len),
             BoardMap::Raised => Map::raised(rom_len),
+        }
+    }
+
+    /// The name, in a certificate and in annotations.
+    pub fn name(self) -> &'static [u8]
+        ensures value { result.now ≡ board_name self }
+        ensures short { length result.now ≤ 8 }
+    {
+        match self {
+            BoardMap::Galaxian => b"galaxian",
+            BoardMap::Raised => b"raised",
+        }
+    }
+
+    /// The board of a name, or None where no board has it.
+    pub fn named(name: &[u8]) -> Option<BoardMap>
+        ensures { Reads board_name Always name.now result }
+    {
+        if name == BoardMap::Galaxian.name() {
+            Some(BoardMap::Galaxian)
+        } else if name == BoardMap::Raised.name() {
+            Some(BoardMap::Raised)
+        } else {
+            None
         }
     }
 

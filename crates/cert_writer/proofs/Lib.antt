@@ -1,2 +1,2 @@
--- What the answers of the writer cite.
+-- Lemmas for the contracts of the writer.
 mod RoutineLemmas

@@ -4,10 +4,10 @@ use Rattle.std.specs.List.{AllByRecursion}
 use Rattle.std.proofs.lemmas.Option.{same_Some}
 use Rattle.cert_lines.specs.declared.proc.Proc.{Proc}
 use Rattle.cert_lines.specs.declared.proc.ProcKind.TheVariants.{Main, Nmi, Sub}
-use Rattle.cert_order.specs.Contents.{AreInOrder}
+use Rattle.cert_form.specs.Form.{AreInOrder}
 use Rattle.cert_writer.specs.Routine.{HasRoutine}
 
--- none of the procedures that are called is one
+-- none of the called procedures is one
 no_routine : (subs : List Proc) (number : ℕ) (proc : Proc) → AllByRecursion (λ p. p.kind ≡ Sub) subs → slice_get subs number ≡ Some proc → proc.kind ≡ Nmi → ⊥
 no_routine [] number proc each at kind = search rules
 no_routine (sub ∷ subs) zero proc each at kind =
@@ -35,7 +35,7 @@ one_with budget [] order = absurd order
 one_with budget (main ∷ []) order = absurd order
 one_with budget (main ∷ nmi ∷ subs) order = record { number = 1; proc = nmi; at = refl; kind = order.1 }
 
--- both ways, for the budget that is asked for
+-- both ways, for the budget that was asked for
 pub routine_of : (asked budget : Option ℕ) (procs : List Proc) → budget ≡ asked → AreInOrder budget procs → IsSome asked ↔ HasRoutine procs
 routine_of asked budget procs same order = routine_by asked procs (subst (λ (b : Option ℕ). AreInOrder b procs) same order) where
   routine_by : (asked : Option ℕ) (procs : List Proc) → AreInOrder asked procs → IsSome asked ↔ HasRoutine procs

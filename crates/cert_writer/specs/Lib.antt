@@ -1,2 +1,2 @@
--- The definition of a certificate that has an NMI routine.
+-- Definition of a certificate with an NMI routine.
 pub mod Routine

@@ -1,4 +1,4 @@
--- Whether procedures have an NMI routine among them (docs/ANALYSIS.md).
+-- Whether one of the procedures is an NMI routine (docs/ANALYSIS.md).
 use Rattle.std.specs.Prelude.{ℕ, ◌≡◌, List, slice_get, Some}
 use Rattle.cert_lines.specs.declared.proc.Proc.{Proc}
 use Rattle.cert_lines.specs.declared.proc.ProcKind.TheVariants.{Nmi}

@@ -1,7 +1,7 @@
 // From a ROM and annotations to a certificate.
 
 ghost use Rattle.std.specs.Prelude.{◌≡◌, ◌↔◌, IfOk, IsSome, length};
-ghost use Rattle.cert_rules.specs.Acceptance.{Accepts};
+ghost use Rattle.check_rules.specs.Acceptance.{Accepts};
 ghost use Rattle.cert_writer.specs.Routine.{HasRoutine};
 
 use crate::calls::{calls_of, procs_in_order, under_all};
@@ -15,34 +15,33 @@ use address_map::Rom;
 use analysis::{Flow, Task};
 use annotations::Annotations;
 use call_graph::ProcId;
-use cert_rules::{Refused, examine};
+use cert_form::{CELL_LIMIT, INLINE_LIMIT};
 use certificate::{Certificate, Parts, Proc, ProcKind, Row, Split};
+use check_rules::{Refused, examine};
 use std::alloc::Global;
+use z80_moves::NMI_ADDRESS;
 
-/// The most cells that a certificate has.
-const CELLS: usize = 256;
-
-/// The most addresses of inline calls that a certificate has.
-const INLINES: usize = 1_024;
-
-/// A certificate for a ROM, made from what its ways on lead to and from what is said of it (docs/ANALYSIS.md). It is accepted: nothing is against it.
+/// Makes a certificate for a ROM by its annotations (docs/ANALYSIS.md). The rules accept it.
 ///
 /// # Errors
 ///
-/// The first that applies: `Refused` for reason 1 or 2; `Limit` where a certificate has no room for the lines; `Refused` with the first row that is refused for
-/// itself; `Recursion`; `LoopUnbounded`; `Limit` for a depth, a time or a potential; `Refused` with what `examine` answers. `NoMemory` where memory was refused.
+/// The first that applies (docs/ANALYSIS.md, "What is answered"): `Refused` for reason 1 or 2; `Limit` if a certificate
+/// has no room for the lines; `Refused` with the first row that leads nowhere for a reason; `Recursion`;
+/// `LoopUnbounded`; `Limit` for a depth, a time or a potential; `Refused` with the answer of `examine`. `NoMemory`
+/// where memory was refused.
 pub fn analyse(alloc: Global, bytes: &[u8], said: &Annotations) -> Result<Certificate, WriterFault>
     ensures accepted { IfOk result (λ c. Accepts bytes.now c) }
-    // The region, the budget, the board and the cells are those that are said.
-    ensures said { IfOk result (λ c. (c.region ≡ said.now.region) × (c.budget ≡ said.now.budget) × (c.board ≡ said.now.board) × (c.cells ≡ said.now.cells)) }
-    // There is an NMI routine exactly where one is said, which has a budget then.
+    // The region, the budget, the board and the cells are those of the annotations.
+    ensures said { IfOk result (λ c. (c.region ≡ said.now.region) × (c.budget ≡ said.now.budget)
+        × (c.board ≡ said.now.board) × (c.cells ≡ said.now.cells)) }
+    // The certificate has an NMI routine exactly where the annotations have a budget.
     ensures routine { IfOk result (λ c. IsSome said.now.budget ↔ HasRoutine c.procs) }
 {
     let Some(rom) = Rom::of(bytes) else {
         return Err(of_whole(Reason::Rom));
     };
     judge_whole(alloc, bytes, &rom, said)?;
-    if said.inlines().len() > INLINES {
+    if said.inlines().len() > INLINE_LIMIT {
         return Err(WriterFault::Limit);
     }
     let map = said.board().map(rom.len());
@@ -58,7 +57,7 @@ pub fn analyse(alloc: Global, bytes: &[u8], said: &Annotations) -> Result<Certif
     }
 }
 
-/// A refusal of the whole, told at 0000.
+/// A refusal of the whole, reported at 0000.
 fn of_whole(reason: Reason) -> WriterFault {
     WriterFault::Refused(Refused {
         row: None,
@@ -67,7 +66,8 @@ fn of_whole(reason: Reason) -> WriterFault {
     })
 }
 
-/// Looks for reasons 1 and 2: against a certificate without rows, for some of the cells at a time, since there may be more than a certificate has.
+/// Judges reasons 1 and 2 on certificates without rows. Each has some of the cells, since there may be more than a
+/// certificate can have.
 fn judge_whole(
     alloc: Global,
     bytes: &[u8],
@@ -75,8 +75,8 @@ fn judge_whole(
     said: &Annotations,
 ) -> Result<(), WriterFault> {
     let mut rest = said.cells();
-    for _ in 0..=said.cells().len() / CELLS {
-        let count = rest.len().min(CELLS);
+    for _ in 0..=said.cells().len() / CELL_LIMIT {
+        let count = rest.len().min(CELL_LIMIT);
         judge_cells(alloc, bytes, rom, said, &rest[..count])?;
         rest = &rest[count..];
     }
@@ -94,7 +94,7 @@ fn judge_cells(
     let mut procs = Vec::new(alloc);
     procs.push(proc_of(ProcKind::Main, 0, None))?;
     if said.budget().is_some() {
-        procs.push(proc_of(ProcKind::Nmi, 0x66, Some(0)))?;
+        procs.push(proc_of(ProcKind::Nmi, NMI_ADDRESS, Some(0)))?;
     }
     let certificate = certificate_of(
         alloc,
@@ -109,7 +109,7 @@ fn judge_cells(
     judged(examine(alloc, bytes, &certificate))
 }
 
-/// Reason 1 or 2 of a verdict.
+/// Keeps reason 1 or 2 of a verdict; any other verdict is ignored.
 fn judged(verdict: Result<(), Refused>) -> Result<(), WriterFault> {
     match verdict {
         Err(refused) if refused.reason.number() <= 2 => Err(WriterFault::Refused(refused)),
@@ -117,7 +117,7 @@ fn judged(verdict: Result<(), Refused>) -> Result<(), WriterFault> {
     }
 }
 
-/// A procedure of which nothing is known but this.
+/// A procedure with rank and depth 0.
 fn proc_of(kind: ProcKind, entry: u16, time: Option<u32>) -> Proc {
     Proc {
         kind,
@@ -128,7 +128,7 @@ fn proc_of(kind: ProcKind, entry: u16, time: Option<u32>) -> Proc {
     }
 }
 
-/// The certificate of what the annotations say of the whole, and these lists.
+/// The certificate of what the annotations say about the whole ROM, with these lists.
 fn certificate_of(
     alloc: Global,
     rom: &Rom,
@@ -141,7 +141,8 @@ fn certificate_of(
 ) -> Result<Certificate, WriterFault>
     ensures len { IfOk result (λ c. c.rom_len ≡ length rom.now) }
     ensures cells { IfOk result (λ c. c.cells ≡ cells.now) }
-    ensures said { IfOk result (λ c. (c.region ≡ said.now.region) × (c.budget ≡ said.now.budget) × (c.board ≡ said.now.board)) }
+    ensures said { IfOk result (λ c. (c.region ≡ said.now.region) × (c.budget ≡ said.now.budget)
+        × (c.board ≡ said.now.board)) }
 {
     let parts = Parts {
         version: version_of(said),
@@ -161,7 +162,7 @@ fn certificate_of(
     }
 }
 
-/// The certificate of what an analysis found, whether it is accepted or not.
+/// The certificate of what an analysis found, which may not be accepted.
 fn certified(
     alloc: Global,
     rom: &Rom,
@@ -169,7 +170,8 @@ fn certified(
     said: &Annotations,
     flow: &Flow,
 ) -> Result<Certificate, WriterFault>
-    ensures said { IfOk result (λ c. (c.region ≡ said.now.region) × (c.budget ≡ said.now.budget) × (c.board ≡ said.now.board) × (c.cells ≡ said.now.cells)) }
+    ensures said { IfOk result (λ c. (c.region ≡ said.now.region) × (c.budget ≡ said.now.budget)
+        × (c.board ≡ said.now.board) × (c.cells ≡ said.now.cells)) }
 {
     let layout = Layout::of(alloc, flow, said.budget().is_some())?;
     let splits = splits_of(alloc, task, flow, &layout)?;
@@ -201,7 +203,7 @@ fn certified(
     )
 }
 
-/// The potentials of rows and the times of procedures, by a certificate without any.
+/// The potentials of rows and the times of procedures, computed on a certificate without any.
 fn timed_of(
     alloc: Global,
     rom: &Rom,
@@ -227,7 +229,7 @@ fn timed_of(
     Timed::of(alloc, rom, &draft, flow, layout, order, said.loops())
 }
 
-/// The procedures with their kinds and entries alone.
+/// The procedures with only their kinds and entries.
 fn shallow_procs(alloc: Global, layout: &Layout) -> Result<Vec<Proc>, WriterFault> {
     let mut procs = Vec::new(alloc);
     for id in 0..layout.count() {

@@ -1,12 +1,12 @@
-// The order of procedures by their calls, with the ranks and the depths that it gives.
+// The order of procedures by their calls, with the ranks and depths that follow from it.
 
 use crate::fault::WriterFault;
 use crate::layout::Layout;
-use analysis::{Flow, MAIN, Place};
+use analysis::{Flow, MAIN, ProgramPoint};
 use call_graph::{Edge, GraphFault, ProcId, order};
 use std::alloc::Global;
 
-/// A call, and the bytes that its procedure has on the stack then.
+/// A call, and the bytes of stack of the calling activation then.
 #[derive(Clone, Copy)]
 pub(crate) struct Holding {
     pub(crate) caller: ProcId,
@@ -14,7 +14,7 @@ pub(crate) struct Holding {
     pub(crate) bytes: u32,
 }
 
-/// The bytes that an activation has on the stack with so many for its slots: for all but main's two more for its return address.
+/// The bytes of stack of an activation: those of its slots and, except for main, two for its return address.
 fn bytes_of(proc: u32, slots: u16) -> u32 {
     let slots = u32::from(slots);
     if proc == MAIN {
@@ -24,7 +24,6 @@ fn bytes_of(proc: u32, slots: u16) -> u32 {
     }
 }
 
-/// The calls that an analysis found.
 pub(crate) fn calls_of(
     alloc: Global,
     flow: &Flow,
@@ -33,7 +32,7 @@ pub(crate) fn calls_of(
     let mut calls = Vec::new(alloc);
     for (callee, number) in flow.calls(alloc)? {
         if let Some(row) = flow.row(number) {
-            let place = Place::of(number);
+            let place = ProgramPoint::of(number);
             calls.push(Holding {
                 caller: layout.id_of(place.proc),
                 callee: layout.id_of(callee),
@@ -44,7 +43,7 @@ pub(crate) fn calls_of(
     Ok(calls)
 }
 
-/// The procedures, each once and behind those that it calls.
+/// The procedures, each once and after those that it calls.
 pub(crate) fn procs_in_order(
     alloc: Global,
     layout: &Layout,
@@ -70,7 +69,7 @@ pub(crate) fn procs_in_order(
     }
 }
 
-/// Of so many procedures those that are not in an order, and then those that are.
+/// The procedures that are not in the order, and then those that are.
 fn with_others(
     alloc: Global,
     count: usize,
@@ -94,14 +93,14 @@ fn with_others(
     Ok(procs)
 }
 
-/// What lies under a procedure: the procedures that it calls, and theirs, by rank, and the bytes of stack that it needs.
+/// The rank of a procedure, and the bytes of stack that it and its callees need.
 #[derive(Clone, Copy)]
 pub(crate) struct Under {
     pub(crate) rank: u16,
     pub(crate) depth: u32,
 }
 
-/// What lies under each procedure, where each in the order stands behind those that it calls.
+/// The rank and the depth of each procedure. In the order each comes after those that it calls.
 pub(crate) fn under_all(
     alloc: Global,
     flow: &Flow,
@@ -120,7 +119,7 @@ pub(crate) fn under_all(
     Ok(all)
 }
 
-/// The calls of a procedure, of calls that stand by their callers.
+/// The calls of a procedure, out of calls that are sorted by their callers.
 fn calls_from(calls: &[Holding], proc: ProcId) -> &[Holding] {
     let start = calls
         .partition_point(|call| call.caller < proc)
@@ -132,11 +131,11 @@ fn calls_from(calls: &[Holding], proc: ProcId) -> &[Holding] {
     &behind[..count]
 }
 
-/// The most bytes that the rows of each procedure have on the stack, or where they lead, at rank 0.
+/// Rank 0 and, as the depth, the most bytes of stack that the rows of each procedure and their successors have.
 fn own_bytes(alloc: Global, flow: &Flow, layout: &Layout) -> Result<Vec<Under>, WriterFault> {
     let mut all = vec![in alloc; Under { rank: 0, depth: 0 }; layout.count()]?;
     for (number, row) in flow.rows().iter() {
-        let proc = Place::of(*number).proc;
+        let proc = ProgramPoint::of(*number).proc;
         let bytes = bytes_of(proc, row.bytes);
         if let Some(under) = all.get_mut(usize::from(layout.id_of(proc))) {
             under.depth = under.depth.max(bytes);
@@ -145,7 +144,7 @@ fn own_bytes(alloc: Global, flow: &Flow, layout: &Layout) -> Result<Vec<Under>, 
     Ok(all)
 }
 
-/// Adds what lies under a callee to its caller.
+/// Raises the rank and depth of a caller by those of its callee.
 fn add_call(all: &mut [Under], call: &Holding) {
     let Some(callee) = all.get(usize::from(call.callee)).copied() else {
         return;

@@ -1,27 +1,27 @@
 // Why the writer gives no certificate.
 
 use analysis::FlowFault;
-use cert_rules::Refused;
 use certificate::CertFault;
+use check_rules::Refused;
 use std::alloc::{AllocError, AllocFailed};
 use thiserror::Error;
 
 /// Why the writer gives no certificate for a ROM.
 #[derive(Debug, Drop, Error)]
 pub enum WriterFault {
-    /// What is against the ROM: the reason, and the address at which it is told.
+    /// A reason applies; `Refused` has it and the address at which it is reported.
     #[error("refused at {:04X}: {}", .0.address, .0.reason)]
     Refused(Refused),
-    /// Procedures that call one another in a circle, by their entries.
+    /// Procedures call one another in a cycle; these are their entries along it.
     #[error("procedures call one another in a circle")]
     Recursion(Vec<u16>),
-    /// Rows of a timed procedure go round without passing an address that is marked as that of a loop; the lowest address of such a row.
+    /// A timed procedure has a cycle of rows that passes no annotated loop; this is the lowest address of a row on such
+    /// a cycle.
     #[error("no loop bounds the rows that go round at {0:04X}")]
     LoopUnbounded(u16),
     /// A certificate has no room for the number of its lines, for a depth, for a time or for a potential.
     #[error("a certificate has no room for it")]
     Limit,
-    /// Memory was refused.
     #[error("out of memory")]
     NoMemory,
 }

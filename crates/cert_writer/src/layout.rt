@@ -5,8 +5,9 @@ use analysis::{Flow, MAIN, NMI};
 use call_graph::ProcId;
 use certificate::{Proc, ProcKind};
 use std::alloc::Global;
+use z80_moves::NMI_ADDRESS;
 
-/// The procedures that a certificate has: main, the NMI routine if there is one, and those that are called, by rising entry.
+/// The procedures of a certificate: main, the NMI routine if there is one, and the called ones by rising entry.
 #[derive(Drop)]
 pub(crate) struct Layout {
     routine: bool,
@@ -14,7 +15,6 @@ pub(crate) struct Layout {
 }
 
 impl Layout {
-    /// The procedures that an analysis found.
     pub(crate) fn of(alloc: Global, flow: &Flow, routine: bool) -> Result<Layout, WriterFault> {
         let mut entries = Vec::new(alloc);
         for entry in flow.entries().iter() {
@@ -23,12 +23,11 @@ impl Layout {
         Ok(Layout { routine, entries })
     }
 
-    /// How many procedures stand before those that are called.
+    /// How many procedures come before the called ones.
     fn before(&self) -> usize {
         if self.routine { 2 } else { 1 }
     }
 
-    /// How many procedures there are.
     pub(crate) fn count(&self) -> usize {
         self.before().saturating_add(self.entries.len())
     }
@@ -59,11 +58,11 @@ impl Layout {
     pub(crate) fn entry_at(&self, id: usize) -> u16 {
         match id.checked_sub(self.before()) {
             Some(place) => self.entries.get(place).copied().unwrap_or(0),
-            None => if id == 1 { 0x66 } else { 0 },
+            None => if id == 1 { NMI_ADDRESS } else { 0 },
         }
     }
 
-    /// What a procedure is, by its number in the certificate.
+    /// The kind of a procedure, by its number in the certificate.
     pub(crate) fn kind_at(&self, id: usize) -> ProcKind {
         if id == 0 {
             ProcKind::Main
@@ -74,7 +73,7 @@ impl Layout {
         }
     }
 
-    /// The line of a procedure with this rank, depth and time.
+    /// The procedure with this rank, depth and time.
     pub(crate) fn proc(&self, id: usize, rank: u16, depth: u16, time: Option<u32>) -> Proc {
         Proc {
             kind: self.kind_at(id),

@@ -1,4 +1,4 @@
-// The writer: a certificate for a ROM, from what the analysis finds and what a programmer says (docs/ANALYSIS.md).
+// The writer: a certificate for a ROM, from what the analysis finds and what the annotations say (docs/ANALYSIS.md).
 #![tactic(auto)]
 
 mod analysing;

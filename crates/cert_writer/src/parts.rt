@@ -1,24 +1,22 @@
-// What a certificate is made of.
+// The parts of a certificate.
 
 use crate::calls::Under;
 use crate::fault::WriterFault;
 use crate::layout::Layout;
 use crate::times::Timed;
-use analysis::{Flow, Noted, Place, Task, facts_at, names_slots_below};
+use analysis::{Flow, Noted, ProgramPoint, Task, facts_at, names_slots_below};
 use annotations::{Annotations, FactNote};
+use cert_fields::Facts;
+use cert_form::SPLIT_LIMIT;
 use certificate::{BoardMap, Proc, Row, Split, Version};
 use loop_bounds::Linear;
-use row_fields::Facts;
 use stack_shape::Shape;
 use std::alloc::Global;
 
-/// The most splits that a certificate has.
-const SPLITS: usize = 1_024;
-
-/// The most facts that a row has.
+/// The most facts of a row.
 const FACTS: usize = 4;
 
-/// The version that annotations ask for: 2 where there are cells, or the board is not the Galaxian's.
+/// The version that the annotations need: 2 if there are cells or the board is the raised one.
 pub(crate) fn version_of(said: &Annotations) -> Version {
     match said.board() {
         BoardMap::Galaxian if said.cells().is_empty() => Version::One,
@@ -36,11 +34,11 @@ pub(crate) fn splits_of(
     let mut splits = Vec::new(alloc);
     let mut last = None;
     for (number, _) in flow.rows().iter() {
-        let place = Place::of(*number);
+        let place = ProgramPoint::of(*number);
         let here = Some((place.proc, place.address));
         if here != last {
             if let Some(note) = task.split_at(place.address) {
-                if splits.len() >= SPLITS {
+                if splits.len() >= SPLIT_LIMIT {
                     return Err(WriterFault::Limit);
                 }
                 splits.push(Split {
@@ -55,17 +53,17 @@ pub(crate) fn splits_of(
     Ok(splits)
 }
 
-/// Whether no address that has a row has more than four facts.
+/// Whether no address with a row has more than four facts.
 pub(crate) fn facts_fit(said: &Annotations, flow: &Flow) -> bool {
     for (number, _) in flow.rows().iter() {
-        if facts_at(said.facts(), Place::of(*number).address).len() > FACTS {
+        if facts_at(said.facts(), ProgramPoint::of(*number).address).len() > FACTS {
             return false;
         }
     }
     true
 }
 
-/// The facts of a row with this shape, of those at its address.
+/// The facts of a row with this shape: those at its address that name only slots of the shape.
 fn facts_of(notes: &[FactNote], shape: &Shape) -> Facts {
     let mut facts = Facts::none();
     for note in notes {
@@ -76,11 +74,10 @@ fn facts_of(notes: &[FactNote], shape: &Shape) -> Facts {
     facts
 }
 
-/// The row at a place.
 fn row_of(
     said: &Annotations,
     layout: &Layout,
-    place: Place,
+    place: ProgramPoint,
     noted: &Noted,
     potential: Option<Linear>,
 ) -> Row {
@@ -105,13 +102,13 @@ pub(crate) fn rows_of(
     let mut id = 0usize;
     for (number, noted) in flow.rows().iter() {
         let potential = potentials.get(id).copied().flatten();
-        rows.push(row_of(said, layout, Place::of(*number), noted, potential))?;
+        rows.push(row_of(said, layout, ProgramPoint::of(*number), noted, potential))?;
         id = id.saturating_add(1);
     }
     Ok(rows)
 }
 
-/// The procedures with what lies under them, and with these times where they are timed.
+/// The procedures with their ranks and depths; the timed ones have these times.
 pub(crate) fn procs_of(
     alloc: Global,
     flow: &Flow,

@@ -8,18 +8,14 @@ use address_map::Rom;
 use analysis::{Flow, NMI};
 use annotations::LoopNote;
 use call_graph::ProcId;
+use cert_lines::GREATEST_TIME;
 use certificate::{Certificate, RowId};
 use loop_bounds::Linear;
-use potentials::{PotentialFault, greatest_value, potentials};
 use std::alloc::Global;
+use t_states::NMI_COST;
+use write_potentials::{PotentialFault, greatest_value, potentials};
 
-/// The greatest time of a procedure in T-states.
-const GREATEST_TIME: i128 = 1_000_000_000;
-
-/// The T-states of the acceptance, which the NMI routine's time has besides.
-const ACCEPTANCE: i128 = 11;
-
-/// The potentials of rows by their numbers, and the times of procedures by theirs; what stands in the way of some.
+/// The potentials of rows and the times of procedures, by their numbers, and what was in the way of some.
 #[derive(Drop)]
 pub(crate) struct Timed {
     pub(crate) potentials: Vec<Option<Linear>>,
@@ -29,8 +25,8 @@ pub(crate) struct Timed {
 }
 
 impl Timed {
-    /// The potentials and times of all timed procedures of a certificate, where each in the order stands behind those that it calls. The ROM has as many bytes
-    /// as the certificate says.
+    /// The potentials and times of all timed procedures of a certificate. In the order each procedure comes after those
+    /// that it calls. The ROM has as many bytes as the certificate says.
     pub(crate) fn of(
         alloc: Global,
         rom: &Rom,
@@ -57,7 +53,7 @@ impl Timed {
         timed.judged()
     }
 
-    /// Adds those of a procedure.
+    /// Adds those of one procedure.
     fn add(
         &mut self,
         alloc: Global,
@@ -81,10 +77,15 @@ impl Timed {
         Ok(())
     }
 
-    /// Keeps the potentials of a procedure's rows, and the greatest value of those at its entry as its time.
+    /// Keeps the potentials of a procedure's rows. Its time is the greatest value of those at its entry, for the NMI
+    /// routine with the acceptance.
     fn keep(&mut self, certificate: &Certificate, proc: ProcId, number: u32, list: &[Linear]) {
         let entry = certificate.entry(proc).unwrap_or(0);
-        let before = if number == NMI { ACCEPTANCE } else { 0 };
+        let before = if number == NMI {
+            i128::from(NMI_COST)
+        } else {
+            0
+        };
         let mut id = certificate.rows_of(proc).start;
         let mut time = 0i128;
         for potential in list {
@@ -99,16 +100,15 @@ impl Timed {
         self.keep_time(proc, time);
     }
 
-    /// Keeps the potential of a row.
     fn keep_potential(&mut self, id: RowId, potential: Linear) {
         if let Some(place) = self.potentials.get_mut(id as usize) {
             *place = Some(potential);
         }
     }
 
-    /// Keeps the time of a procedure.
+    /// Keeps the time of a procedure; a time above the greatest one is a limit.
     fn keep_time(&mut self, proc: ProcId, time: i128) {
-        if time > GREATEST_TIME {
+        if time > i128::from(GREATEST_TIME) {
             self.limit = true;
             return;
         }
@@ -117,7 +117,7 @@ impl Timed {
         }
     }
 
-    /// Whether all went well.
+    /// The result, or what was in the way.
     fn judged(self) -> Result<Timed, WriterFault> {
         if let Some(address) = self.unbounded {
             return Err(WriterFault::LoopUnbounded(address));

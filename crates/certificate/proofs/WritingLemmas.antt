@@ -1,4 +1,4 @@
--- Lines that are written one after another are written as one text, or a beginning of it is.
+-- Lines that are written one after another are written as one text, or a prefix of it is.
 use Rattle.std.proofs.Common.{arith, ◌≡◌, ◌<◌, ◌+◌, ℕ, zero, suc, length, List, [], ◌∷◌, ◌++◌, map, take, drop, get_or, slice_get, Option, Some, None, Result, Ok, Err, refl, sym, ap, subst, ◌∙◌, append_assoc, append-nil}
 use Rattle.std.specs.List.{flat_map}
 use Rattle.std.proofs.lemmas.List.{flat_map_more, take-append-drop, take_more}
@@ -9,9 +9,10 @@ use Rattle.cert_lines.specs.declared.line.Line.{Line}
 use Rattle.cert_lines.specs.declared.line.Line.TheVariants as lines
 use Rattle.cert_lines.specs.declared.version.Version.{Version}
 use Rattle.cert_lines.specs.declared.version.Version.TheVariants.{One, Two}
-use Rattle.cert_order.specs.Contents.{Contents, SuitsVersion}
-use Rattle.cert_order.specs.Text.{board_lines, text_of_lines}
-use Rattle.cert_order.proofs.Cuts.{text_append}
+use Rattle.cert_form.specs.Contents.{CertificateView}
+use Rattle.cert_form.specs.Form.{SuitsVersion}
+use Rattle.cert_form.specs.Text.{board_lines, text_of_lines}
+use Rattle.cert_form.proofs.Cuts.{text_append}
 use Rattle.texts.specs.Device.{DeviceState, FailsAmid, HasGrown, Puts, Takes, TakesBytes, TakesPart}
 use Rattle.texts.proofs.DeviceLemmas.{takes_both}
 
@@ -35,7 +36,7 @@ same_text v w (lines.Cell cell) no_row = refl
 same_text v w (lines.Row row) no_row = absurd no_row
 same_text v w lines.End no_row = refl
 
--- a beginning of the second bytes was taken behind the first ones
+-- the sink took the first bytes and a prefix of the second ones
 part_behind : (a b c : Option (List ℕ)) (xs ys : List ℕ) → TakesBytes a xs b → TakesPart b ys c → TakesPart a (xs ++ ys) c
 part_behind None b c xs ys first second = tt
 part_behind (Some old) b c xs ys first second =
@@ -46,43 +47,43 @@ part_behind (Some old) b c xs ys first second =
       ap (λ bytes. xs ++ bytes) parts ∙ sym (append_assoc xs part rest),
     )
 
--- a beginning of the first bytes is one of all of them
+-- a prefix of the first bytes is a prefix of all of them
 part_before : (a b : Option (List ℕ)) (xs ys : List ℕ) → TakesPart a xs b → TakesPart a (xs ++ ys) b
 part_before None b xs ys first = tt
 part_before (Some old) b xs ys (part, rest, taken, parts) =
     (part, rest ++ ys, taken, ap (λ bytes. bytes ++ ys) parts ∙ append_assoc part rest ys)
 
--- a sink failed amid bytes behind others
+-- a sink took the first bytes and failed inside the second ones
 pub fails_behind : (a b c : DeviceState) (xs ys : List ℕ) → Takes a xs b → FailsAmid b ys c → FailsAmid a (xs ++ ys) c
 fails_behind a b c xs ys first second = record {
   part = part_behind a.bytes b.bytes c.bytes xs ys first.taken second.part;
   failed = subst (λ n. HasGrown n c.failures) first.quiet second.failed;
 }
 
--- bytes were put behind others
+-- the first bytes were taken, and the second ones were put
 pub puts_behind : {T E : Type 0} (a b c : DeviceState) (xs ys : List ℕ) (r : Result T E) → Takes a xs b → Puts b ys r c →
     Puts a (xs ++ ys) r c
 puts_behind a b c xs ys (Ok x) first second = takes_both a b c xs ys first second
 puts_behind a b c xs ys (Err e) first second = fails_behind a b c xs ys first second
 
--- a sink that failed amid the first bytes failed amid all of them
+-- a sink that failed inside the first bytes failed inside all of them
 pub fails_before : (a b : DeviceState) (xs ys : List ℕ) → FailsAmid a xs b → FailsAmid a (xs ++ ys) b
 fails_before a b xs ys first =
     record { part = part_before a.bytes b.bytes xs ys first.part; failed = first.failed }
 
--- lines were put behind others
+-- the first lines were taken, and the second ones were put
 pub lines_then : {T E : Type 0} (v : Version) (a b c : DeviceState) (xs ys : List Line) (r : Result T E) →
     Takes a (text_of_lines v xs) b → Puts b (text_of_lines v ys) r c → Puts a (text_of_lines v (xs ++ ys)) r c
 lines_then v a b c xs ys r first second =
     subst (λ text. Puts a text r c) (sym (text_append v xs ys)) (puts_behind a b c _ _ r first second)
 
--- a sink failed amid lines behind others
+-- a sink took the first lines and failed inside the second ones
 pub lines_then_fail : (v : Version) (a b c : DeviceState) (xs ys : List Line) → Takes a (text_of_lines v xs) b →
     FailsAmid b (text_of_lines v ys) c → FailsAmid a (text_of_lines v (xs ++ ys)) c
 lines_then_fail v a b c xs ys first second =
     subst (λ text. FailsAmid a text c) (sym (text_append v xs ys)) (fails_behind a b c _ _ first second)
 
--- a sink that failed amid the first lines failed amid all of them
+-- a sink that failed inside the first lines failed inside all of them
 pub lines_fail : (v : Version) (a b : DeviceState) (xs ys : List Line) → FailsAmid a (text_of_lines v xs) b →
     FailsAmid a (text_of_lines v (xs ++ ys)) b
 lines_fail v a b xs ys first =
@@ -112,7 +113,7 @@ unfolding text_of_lines
 puts_nothing v a = takes_none a
 
 -- version 1 has no line of the board's map
-pub no_board_line : (v : Version) (c : Contents) → SuitsVersion v c → One ≡ v → [] ≡ board_lines v c.board
+pub no_board_line : (v : Version) (c : CertificateView) → SuitsVersion v c → One ≡ v → [] ≡ board_lines v c.board
 no_board_line One c old is = ap (board_lines One) (sym old.board)
 no_board_line Two c any is = cc
 
@@ -132,7 +133,7 @@ takes_more text xs i x bytes a b c at is first second =
     subst (λ all. Takes a all c) (ap (λ one. flat_map text (take i xs) ++ one) is ∙ one_more text xs i x at)
     (takes_both a b c _ bytes first second)
 
--- a sink that failed amid the text of one more element failed amid those of all
+-- a sink that failed inside the text of one more element failed inside the texts of all
 pub fails_at : {X : Type 0} (text : X → List ℕ) (xs : List X) (i : ℕ) (x : X) (bytes : List ℕ) (a b c : DeviceState) →
     slice_get xs i ≡ Some x → bytes ≡ text x → Takes a (flat_map text (take i xs)) b → FailsAmid b bytes c →
     FailsAmid a (flat_map text xs) c

@@ -1,3 +1,3 @@
--- The definitions of what is read in pieces, and of what is written.
+-- Definitions of reading a certificate in pieces, and of writing it.
 pub mod Pieces
 pub mod Writing

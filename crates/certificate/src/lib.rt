@@ -1,4 +1,4 @@
-// The certificate: how it is read from its text, whole or in pieces, and written (docs/CERTIFICATE.md).
+// Reads certificates from their text, whole or in pieces, and writes them (docs/CERTIFICATE.md).
 #![tactic(auto)]
 
 mod pieces;
@@ -7,8 +7,8 @@ mod writing;
 
 pub use abs_state::Mode;
 pub use cert_contents::{Certificate, Parts, RowId, migrate};
-pub use cert_lines::{BoardMap, Proc, ProcKind, Row, RowView, Split, Version};
-pub use cert_order::CertFault;
+pub use cert_form::CertFault;
+pub use cert_lines::{BoardMap, Proc, ProcKind, Row, RowRef, Split, Version};
 pub use pieces::{ReadFault, read_from};
 pub use reading::read;
 pub use texts::{DeviceFault, Sink, Source};

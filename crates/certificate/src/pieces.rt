@@ -1,14 +1,15 @@
-// A certificate that is read in pieces.
+// Reads a certificate from a source, piece by piece.
 
 ghost use Rattle.std.specs.Prelude.{◌≡◌, ◌≢◌, ℕ, [], Some, IfOk, Err};
-ghost use Rattle.cert_order.specs.Contents.{Contents, IsInForm};
-ghost use Rattle.cert_order.specs.Text.{HasTooMany, IsFirstBadLine, text_of};
-ghost use Rattle.certificate.specs.Pieces.{GivesAll, IsReadUnless, OfBytes, read_fault};
-ghost use Rattle.texts.specs.Device.{HasFailed, IsQuiet};
+ghost use Rattle.cert_form.specs.Contents.{CertificateView};
+ghost use Rattle.cert_form.specs.Form.{IsInForm};
+ghost use Rattle.cert_form.specs.Text.{HasTooMany, IsFirstBadLine, text_of};
+ghost use Rattle.certificate.specs.Pieces.{GivesAll, GivesSome, IsReadUnless, OfBytes, read_fault};
+ghost use Rattle.texts.specs.Device.{HasFailed, CountsNoFailure};
 
 use crate::reading::LONGEST_LINE;
 use cert_contents::{Certificate, Reader};
-use cert_order::CertFault;
+use cert_form::CertFault;
 use std::alloc::Global;
 use texts::{Incoming, LineEnd, LineFault, Source};
 use thiserror::Error;
@@ -16,13 +17,14 @@ use thiserror::Error;
 /// Why no certificate was read from a source.
 #[derive(Clone, Copy, Debug, Error, PartialEq, Eq)]
 pub enum ReadFault {
-    /// The first line, counted from 1, with which the lines up to it begin no certificate.
+    /// The number, counted from 1, of the first line with which the lines so far begin no certificate.
     #[error("bad certificate line {0}")]
     Line(u64),
-    /// Every line up to this one is in form, but that this one has or is one too many of what is counted.
+    /// The lines before this one begin a certificate, and this one is out of form only because a count is above its
+    /// limit.
     #[error("bad certificate limit")]
     Limit,
-    /// There was no memory for what the certificate says, or for one of its lines.
+    /// Memory was refused, for a part of the certificate or for one of its lines.
     #[error("out of memory")]
     NoMemory,
     /// The source failed.
@@ -33,7 +35,6 @@ pub enum ReadFault {
 impl From<CertFault> for ReadFault {
     ghost from_gives = { λ fault e. e ≡ read_fault fault };
 
-    /// The same fault.
     fn from(fault: CertFault) -> ReadFault {
         match fault {
             CertFault::Line(number) => ReadFault::Line(number),
@@ -43,27 +44,36 @@ impl From<CertFault> for ReadFault {
     }
 }
 
-/// Reads a certificate from a source, in pieces as they come: what `read` answers for all of its bytes. Memory is taken for its rows,
-/// their shapes, the other lists and one line.
+/// Reads a certificate from a source, in pieces as the source gives them. It answers what `read` answers for all bytes
+/// of the source. It takes memory for the lists, the rows with their shapes, and one line.
 ///
 /// # Errors
 ///
-/// As those of `read`, and `Read` where the source failed; `NoMemory` where memory was refused for a byte of a line, or for a line of a list. A line is judged once its LF, its 1,048,576th byte or the end was read, and its
-/// fault is answered before another read is asked for.
+/// `Line` and `Limit` come as in `read`. A line is judged once its line feed, its 1,048,576th byte or the end of the
+/// source was read; nothing is read after that before its fault is answered. `Read` comes where the source failed.
+/// `NoMemory` comes where memory was refused for a byte of a line, or for a line of a list.
 pub fn read_from<R: Source>(alloc: Global, input: &mut R) -> Result<Certificate, ReadFault>
-    // What is read is in form, and its text is all that the source gave and has.
+    // Ok: the certificate is in form, and the source gave its text and has no bytes left.
     ensures form { IfOk result IsInForm }
     ensures found { IfOk result (λ c. GivesAll (R.state input.old) (text_of c) (R.state input.new)) }
-    // The text of a certificate in form is read as this certificate, unless memory runs out or the source fails.
-    ensures only { (c : Contents) → IsInForm c → (R.state input.old).bytes ≡ Some (text_of c) → IsReadUnless result c }
-    // Which fault other bytes give.
-    ensures line { (n : ℕ) → result ≡ Err (ReadFault.Line n) → OfBytes (R.state input.old).bytes (IsFirstBadLine n) }
+    // The text of a certificate in form gives this certificate, unless memory is refused or the source fails.
+    ensures only { (c : CertificateView) → IsInForm c → (R.state input.old).bytes ≡ Some (text_of c)
+        → IsReadUnless result c }
+    // Which bytes give the other faults.
+    ensures line { (n : ℕ) → result ≡ Err (ReadFault.Line n)
+        → OfBytes (R.state input.old).bytes (IsFirstBadLine n) }
     ensures limit { result ≡ Err ReadFault.Limit → OfBytes (R.state input.old).bytes HasTooMany }
-    // Memory is asked for once a byte was read, for the line that it begins.
-    ensures memory { result ≡ Err ReadFault.NoMemory → OfBytes (R.state input.old).bytes (λ bytes. bytes ≢ []) }
-    // When the source failed: then, and only then, it is told.
-    ensures quiet { result ≢ Err ReadFault.Read → IsQuiet (R.state input.old) (R.state input.new) }
-    ensures failed { result ≡ Err ReadFault.Read → HasFailed (R.state input.old) (R.state input.new) }
+    // Memory is first taken for the line that a byte begins, so the source had at least one byte.
+    ensures memory { result ≡ Err ReadFault.NoMemory
+        → OfBytes (R.state input.old).bytes (λ bytes. bytes ≢ []) }
+    // Where the source did not fail, it gave a prefix of its bytes and still has the rest.
+    ensures taken { result ≢ Err ReadFault.Read
+        → GivesSome (R.state input.old) (R.state input.new) }
+    // The answer is `Read` exactly where the source counted a failure.
+    ensures quiet { result ≢ Err ReadFault.Read
+        → CountsNoFailure (R.state input.old) (R.state input.new) }
+    ensures failed { result ≡ Err ReadFault.Read
+        → HasFailed (R.state input.old) (R.state input.new) }
 {
     let mut reader = Reader::new(alloc);
     let mut incoming = Incoming::new();

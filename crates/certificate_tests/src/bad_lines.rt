@@ -1,4 +1,4 @@
-// Texts that are no certificate's, read whole and in pieces, and the line that is told.
+// Texts that are no certificate, read whole and in pieces, and the bad line that is reported.
 
 use crate::samples::{EVERY_FORM as FORMS, JUMP, WHOLE};
 use certificate::{CertFault, ReadFault, read, read_from};
@@ -6,7 +6,7 @@ use memory_devices::Bytes;
 use std::alloc::{AllocError, Global};
 use std::test::Fail;
 
-/// A text, the number of a line of it, what stands in place of that line, and the line that is told.
+/// A text, the number of one of its lines, the line that replaces it, and the bad line that is reported.
 const REPLACED: &[(&str, usize, &str, u64)] = &[
     (JUMP, 1, "galcert 3", 1),
     (JUMP, 1, "galcert 1 ", 1),
@@ -64,7 +64,7 @@ const REPLACED: &[(&str, usize, &str, u64)] = &[
     (FORMS, 20, "row 1 0066 n 1 * * * * * * * * * * - - - -", 20),
 ];
 
-/// A text with one of its lines, counted from 1, replaced.
+/// A text with one of its lines replaced; lines count from 1.
 fn with_line(alloc: Global, text: &str, number: usize, line: &str) -> Result<String, AllocError> {
     let mut changed = String::new(alloc);
     for (place, own) in text.split_terminator('\n').enumerate() {
@@ -74,7 +74,7 @@ fn with_line(alloc: Global, text: &str, number: usize, line: &str) -> Result<Str
     Ok(changed)
 }
 
-/// The line that is told of a text that is read in pieces of so many bytes, or whole.
+/// The bad line that is reported for a text, which is read in pieces of this many bytes, or whole.
 fn told_of(alloc: Global, text: &[u8], piece: usize) -> Option<u64> {
     if piece == WHOLE {
         match read(alloc, text) {
@@ -115,7 +115,7 @@ fn proper_beginnings(rt: HostRuntime) {
     assert!(rt; 9 == line);
 }
 
-/// What stands behind the end of a certificate of eight lines, in pieces of how many bytes it is read, and the line that is told.
+/// What follows the end of a certificate of eight lines, the size of the pieces in which it is read, and the bad line.
 const BEHIND: &[(&str, usize, u64)] = &[
     ("x", WHOLE, 9),
     ("\n", WHOLE, 9),

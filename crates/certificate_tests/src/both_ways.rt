@@ -5,7 +5,7 @@ use certificate::{Certificate, DeviceFault, migrate, read, read_from, write};
 use memory_devices::{Bytes, Taken};
 use std::alloc::Global;
 
-/// A text, in pieces of how many bytes it is read, whether it is then migrated, how many bytes at once the sink takes, and the text that is written.
+/// A text, the size of its pieces, whether it is migrated, how many bytes the sink takes at once, and the result.
 const WRITTEN: &[(&str, usize, bool, usize, &str)] = &[
     (JUMP, WHOLE, false, 4096, JUMP),
     (JUMP, WHOLE, false, 1, JUMP),
@@ -28,7 +28,7 @@ const WRITTEN: &[(&str, usize, bool, usize, &str)] = &[
     (EVERY_FORM, 4096, false, 4096, EVERY_FORM),
 ];
 
-/// A text's certificate, read whole or in pieces of so many bytes.
+/// The certificate of a text, read whole or in pieces of this many bytes.
 fn read_in(alloc: Global, text: &[u8], piece: usize) -> Option<Certificate> {
     if piece == WHOLE {
         read(alloc, text).ok()
@@ -37,7 +37,7 @@ fn read_in(alloc: Global, text: &[u8], piece: usize) -> Option<Certificate> {
     }
 }
 
-/// Whether a certificate is written as this text by a sink that takes so many bytes at once.
+/// Whether a certificate is written as this text by a sink that takes `piece` bytes at once.
 fn is_written_as(alloc: Global, certificate: &Certificate, piece: usize, text: &str) -> bool {
     let mut out = Taken::failing(alloc, piece, u64::MAX);
     write(certificate, &mut out).is_ok() && out.bytes.as_slice() == text.as_bytes()
@@ -57,10 +57,10 @@ fn written(rt: HostRuntime) {
     }
 }
 
-/// How many bytes a sink takes before it fails, of the text that is written.
+/// A text, after how many bytes the sink fails, and how many bytes it has taken then.
 const TAKEN: &[(&str, u64, usize)] = &[(JUMP, 0, 0), (JUMP, 13, 13), (JUMP, 147, 147)];
 
-/// How many bytes a sink has taken that fails behind so many, where they are the beginning of the text.
+/// How many bytes a sink has taken that fails after `bytes` bytes, if they are a prefix of the text.
 fn taken_before(alloc: Global, text: &str, bytes: u64) -> Option<usize> {
     let certificate = read(alloc, text.as_bytes()).ok()?;
     let mut out = Taken::failing(alloc, 1, bytes);

@@ -1,4 +1,4 @@
-// Every field of every line, by its reader.
+// Every field of every line, by its accessor.
 
 use crate::samples::{EVERY_FORM, ROUTINE};
 use Word::{Of, Slot};
@@ -14,12 +14,12 @@ use std::ops::Range;
 use std::test::Fail;
 use z80_decode::Register8;
 
-/// The certificate of every form.
+/// The certificate of `EVERY_FORM`.
 fn every_form(alloc: Global) -> Result<Certificate, CertFault> {
     read(alloc, EVERY_FORM.as_bytes())
 }
 
-/// A text, its version, its board, and its numbers: the length of the ROM, the stack's region, the budget, and how many rows there are.
+/// A text, its version, its board, and its numbers: the ROM's length, the stack region, the budget, and the rows.
 const WHOLE: &[(&str, Version, BoardMap, Numbers)] = &[
     (
         ROUTINE,
@@ -59,7 +59,7 @@ fn of_the_whole(rt: HostRuntime) -> Result<(), Fail> {
     Ok(())
 }
 
-/// A procedure, its kind, and its entry, rank, depth and time.
+/// The number of a procedure, its kind, and its entry, rank, depth and time.
 const PROCS: &[(u16, Option<ProcKind>, Option<ProcNumbers>)] = &[
     (0, Some(Main), Some((0, 3, 16, None))),
     (1, Some(Nmi), Some((0x66, 1, 24, Some(6_500)))),
@@ -89,7 +89,7 @@ fn of_procedures(rt: HostRuntime) -> Result<(), Fail> {
     Ok(())
 }
 
-/// A place, and there the split, its procedure, address and register; the inline call; and the cell, its address, least and greatest byte.
+/// A place in the lists, with the split there (procedure, address, register), the inline call, and the cell.
 const LISTS: &[(
     usize,
     Option<(u16, u16, Register8)>,
@@ -139,7 +139,7 @@ fn of_lists(rt: HostRuntime) -> Result<(), Fail> {
     Ok(())
 }
 
-/// A row, its procedure, address and armed cells, its mode, and how many slots and facts it has, and whether a potential.
+/// A row's number, procedure, address, armed cells and mode; its slots and facts, and whether it has a potential.
 const ROWS: &[(u32, (u16, u16, u16), Mode, (usize, usize, bool))] = &[
     (0, (0, 0x0, 0), Mode::Unset, (0, 0, false)),
     (1, (0, 0x3, 1), Mode::Set, (2, 0, false)),
@@ -164,7 +164,7 @@ fn counts_of(certificate: &Certificate, id: u32) -> Option<(usize, usize, bool)>
     ))
 }
 
-/// Whether nothing is told of a row.
+/// Whether no accessor gives anything for a row.
 fn is_no_row(certificate: &Certificate, id: u32) -> bool {
     place_of(certificate, id).is_none()
         && certificate.mode(id).is_none()
@@ -187,7 +187,7 @@ fn of_rows(rt: HostRuntime) -> Result<(), Fail> {
     Ok(())
 }
 
-/// A row, and what its flags tell.
+/// The number of a row, and its flag fact.
 const FLAGS: &[(u32, Option<FlagFact>)] = &[
     (0, None),
     (1, Some(FlagFact::Zero(Register8::B))),
@@ -214,17 +214,17 @@ fn of_flags(rt: HostRuntime) -> Result<(), Fail> {
     Ok(())
 }
 
-/// A word: a pair of registers, or the slot of a number.
+/// A word: a register pair, or the slot with this number.
 #[derive(Clone, Copy)]
 enum Word {
     Of(RegPair),
     Slot(usize),
 }
 
-/// The bounds of any word, of its high and of its low byte.
+/// The bounds of a full word, of its high byte and of its low byte.
 const ANY: [u16; 6] = [0, 0xFFFF, 0, 0xFF, 0, 0xFF];
 
-/// A row, a word, its bounds and those of its high and of its low byte, and its origin.
+/// The number of a row, a word, the bounds of the word, of its high byte and of its low byte, and the origin.
 const WORDS: &[(u32, Word, [u16; 6], Option<RegPair>)] = &[
     (1, Of(Af), [0x12, 0xFFED, 0x01, 0xFE, 0x13, 0xEC], Some(Hl)),
     (1, Of(Bc), ANY, Some(Af)),
@@ -277,14 +277,14 @@ fn of_words(rt: HostRuntime) -> Result<(), Fail> {
     Ok(())
 }
 
-/// The fact of a place, or the potential, of a row.
+/// A fact of a row, by its place, or the row's potential.
 #[derive(Clone, Copy)]
 enum Sum {
     Fact(u32, usize),
     Potential(u32),
 }
 
-/// What a term counts: a register, a pair, or a part of the slot of a number.
+/// The variable of a term: a register, a pair, or a part of the slot with this number.
 #[derive(Clone, Copy)]
 enum Counted {
     A,
@@ -296,7 +296,7 @@ enum Counted {
     Slot(u8, Part),
 }
 
-/// A sum, its constant, and its terms.
+/// A linear, its constant, and its terms.
 const SUMS: &[(Sum, i32, &[(i32, Counted)])] = &[
     (Sum::Fact(2, 0), -5, &[(2, Counted::B), (-3, Counted::Hl)]),
     (Sum::Fact(2, 1), 7, &[]),
@@ -359,7 +359,7 @@ fn of_sums(rt: HostRuntime) -> Result<(), Fail> {
     Ok(())
 }
 
-/// A procedure, an address, the row that is the first from there on, and the rows at the address, where there are any.
+/// A procedure, an address, the first row from there on, and the rows at the address, if there are any.
 const PLACES: &[(u16, u16, u32, Option<(u32, u32)>)] = &[
     (0, 0x3, 1, Some((1, 3))),
     (0, 0x4, 3, None),
@@ -367,7 +367,7 @@ const PLACES: &[(u16, u16, u32, Option<(u32, u32)>)] = &[
     (3, 0x101, 5, None),
 ];
 
-/// The first of a range of rows and the one behind the last, where there are any.
+/// The first row of a range, and the row after its last, if it has any.
 fn ends_of(rows: Range<u32>) -> Option<(u32, u32)> {
     if rows.start == rows.end {
         None

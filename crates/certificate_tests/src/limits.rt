@@ -1,4 +1,4 @@
-// Counts at their limits, and above them.
+// Counts at their limits and above.
 
 use Many::{Lines, Same};
 use certificate::CertFault::{self, Limit, Line};
@@ -6,21 +6,21 @@ use certificate::read;
 use std::alloc::{AllocError, Global};
 use std::test::Fail;
 
-/// What stands before the other lines in version 1, and more.
+/// The first lines of a text of version 1, and what follows them.
 macro_rules! head {
     ($more:literal) => {
         concat!("galcert 1\nrom 6\nstack 4380 4400\nbudget -\nproc main 0000 0 0 -\n", $more)
     };
 }
 
-/// With a row at 0003 as far as its last four fields, and as far as its first slot; and with such a row where SP is not set.
+/// Three heads of a text: with a row at 0003 up to its last four fields; up to its first slot; and that in mode `u`.
 const ROW: &str = head!("row 0 0003 s * * * * * * * * * * ");
 
 const SLOTS: &str = head!("row 0 0003 s * * * * * * * * * * - - *");
 
 const UNSET: &str = head!("row 0 0003 u * * * * * * * * * * - - *");
 
-/// What stands before the other lines in version 2.
+/// The first lines of a text of version 2.
 const TWO: &str =
     "galcert 2\nrom 6\nmap galaxian\nstack 4380 4400\nbudget -\nproc main 0000 0 0 -\n";
 
@@ -29,18 +29,18 @@ const PLAIN: &str = "row 0 0003 s * * * * * * * * * * - - - -\n";
 
 const FALLING: &str = "row 0 0002 s * * * * * * * * * * - - - -\n";
 
-/// What stands many times.
+/// Something that is repeated.
 #[derive(Clone, Copy)]
 enum Many {
-    /// The same so many times.
+    /// The same text, this many times.
     Same(&'static str, u32),
-    /// Lines with numbers in hexadecimal: what stands before the number, the first one, how many there are, and what stands behind it.
+    /// Lines with rising hexadecimal numbers: the text before, the first number, the count, and the text after.
     Lines(&'static str, u16, u16, &'static str),
 }
 
 const NONE: Many = Same("", 0);
 
-/// The head, what stands many times, and the end of a text; then its fault, or None where it is a certificate's text.
+/// The head of a text, what is repeated, and the end; then its fault, or None if it is a certificate.
 type Case = (&'static str, Many, &'static str, Option<CertFault>);
 
 const COUNTS: &[Case] = &[
@@ -75,12 +75,12 @@ const COUNTS: &[Case] = &[
         "end\n",
         Some(Line(7)),
     ),
-    // Slots: one, and so many more
+    // Slots: one, and this many more
     (SLOTS, Same(",*", 63), " -\nend\n", None),
     (SLOTS, Same(",*", 64), " -\nend\n", Some(Limit)),
-    // In mode u no row has slots, however many
+    // In mode `u` no row may have slots, however many
     (UNSET, Same(",*", 64), " -\nend\n", Some(Line(6))),
-    // All else on the line has to be in form
+    // The rest of the line has to be in form
     (SLOTS, Same(",*", 64), " +1\nend\n", Some(Line(6))),
     // Facts and terms
     (ROW, NONE, "- 1+1*A,2,3,4 - -\nend\n", None),
@@ -88,20 +88,20 @@ const COUNTS: &[Case] = &[
     (ROW, NONE, "- - - 1+1*A+1*B+1*C\nend\n", None),
     (ROW, NONE, "- - - 1+1*A+1*B+1*C+1*D\nend\n", Some(Limit)),
     (ROW, NONE, "- - - 1+1*A+1*B+1*C+1*C\nend\n", Some(Line(6))),
-    // Sizes of numbers are no counts
+    // The size of a number is no count
     (ROW, NONE, "- - - 1000000000+1000000*A\nend\n", None),
     (ROW, NONE, "- - - 1000000001\nend\n", Some(Line(6))),
     (ROW, NONE, "- - - 0+1000001*A\nend\n", Some(Line(6))),
 ];
 
-/// Rows, which take long where a test is not compiled.
+/// Rows. These take long if a test is not compiled.
 const ROWS: &[Case] = &[
     (head!(""), Same(PLAIN, 65_535), "end\n", None),
     (head!(""), Same(PLAIN, 65_536), "", Some(Limit)),
     (head!(""), Same(PLAIN, 65_535), FALLING, Some(Line(65_541))),
 ];
 
-/// Adds what stands many times.
+/// Appends what is repeated.
 fn add_many(text: &mut String, alloc: Global, many: Many) -> Result<(), AllocError> {
     match many {
         Same(piece, count) => {
@@ -129,7 +129,7 @@ fn text_of(alloc: Global, case: &Case) -> Result<String, AllocError> {
     Ok(text)
 }
 
-/// The place of the first text that has another fault, where there is one.
+/// The place of the first case with another fault, if there is one.
 fn first_wrong(alloc: Global, cases: &[Case]) -> Result<Option<usize>, AllocError> {
     for (place, case) in cases.iter().enumerate() {
         let text = text_of(alloc, case)?;

@@ -1,4 +1,4 @@
-// Memory that is refused once, at each growth in turn (`tools/memory.sh certificate_tests`): the call answers `NoMemory`, a line tells it, and the next call is right.
+// Memory is refused once, at each growth in turn (`tools/memory.sh`): the call answers `NoMemory`, and the next is right.
 
 use crate::parts::parts_of;
 use crate::samples::EVERY_FORM;
@@ -7,7 +7,7 @@ use memory_devices::{Bytes, Taken};
 use std::alloc::Global;
 use std::test::Fail;
 
-/// A call that makes the certificate of every form.
+/// A call that makes the certificate of `EVERY_FORM`.
 #[derive(Clone, Copy)]
 enum Call {
     Read,
@@ -15,12 +15,12 @@ enum Call {
     Of,
 }
 
-/// What is told of a fault: where memory was refused, or that it is another one.
+/// The report of a fault: the place where memory was refused, or that it is another fault.
 fn told(is_refused: bool, place: &'static str) -> &'static str {
     if is_refused { place } else { "another fault" }
 }
 
-/// The certificate of its own parts, or what is told.
+/// The certificate made of its own parts, or the report.
 fn made(alloc: Global, certificate: &Certificate) -> Result<Certificate, &'static str> {
     match parts_of(alloc, certificate) {
         Ok(parts) => Certificate::of(alloc, parts).map_err(|fault| told(
@@ -31,7 +31,7 @@ fn made(alloc: Global, certificate: &Certificate) -> Result<Certificate, &'stati
     }
 }
 
-/// What a call makes, or what is told where it makes nothing. A source gives a hundred bytes at once.
+/// What a call makes, or the report if it makes nothing. The source gives a hundred bytes at once.
 fn made_by(alloc: Global, call: Call) -> Result<Certificate, &'static str> {
     let text = EVERY_FORM.as_bytes();
     match call {
@@ -49,7 +49,7 @@ fn made_by(alloc: Global, call: Call) -> Result<Certificate, &'static str> {
     }
 }
 
-/// Whether what was made is written as the text of every form.
+/// Whether what was made is written as the text `EVERY_FORM`.
 fn is_every_form(alloc: Global, made: Result<Certificate, &'static str>) -> bool {
     let mut out = Taken::new(alloc);
     match made {
@@ -60,10 +60,10 @@ fn is_every_form(alloc: Global, made: Result<Certificate, &'static str>) -> bool
     }
 }
 
-/// What is told where a call makes the certificate.
+/// The report of a call that makes the certificate.
 const MADE: &str = "made";
 
-/// What is told of a call; one that is refused is made again.
+/// The report of a call. A refused call is repeated.
 fn told_of(alloc: Global, call: Call) -> &'static str {
     match made_by(alloc, call) {
         Ok(certificate) if certificate.row_count() == 5 => MADE,

@@ -1,4 +1,4 @@
-// Certificates of parts.
+// Certificates made of parts.
 
 use crate::samples::{EVERY_FORM, JUMP, ROUTINE};
 use abs_state::KeptCell;
@@ -13,7 +13,7 @@ use std::alloc::{AllocError, Global};
 use std::test::Fail;
 use z80_decode::Register8;
 
-/// A row once more.
+/// A copy of a row.
 fn row_again(certificate: &Certificate, id: u32) -> Option<Row> {
     Some(Row {
         proc: certificate.proc_of(id)?,
@@ -24,7 +24,7 @@ fn row_again(certificate: &Certificate, id: u32) -> Option<Row> {
     })
 }
 
-/// The parts that a certificate was made of.
+/// The parts of a certificate.
 pub fn parts_of(alloc: Global, certificate: &Certificate) -> Result<Parts, AllocError> {
     let mut rows = Vec::new(alloc);
     for id in 0..certificate.row_count() {
@@ -46,10 +46,10 @@ pub fn parts_of(alloc: Global, certificate: &Certificate) -> Result<Parts, Alloc
     })
 }
 
-/// Texts, each of which is written again of the parts of its certificate.
+/// Texts whose certificates are made again from their parts and written.
 const TEXTS: &[&str] = &[JUMP, ROUTINE, EVERY_FORM];
 
-/// Whether the certificate of the parts of a text is written as this text.
+/// Whether the certificate made of a text's parts is written as this text.
 fn is_made_again(alloc: Global, text: &str) -> Result<bool, Fail> {
     let certificate = read(alloc, text.as_bytes())?;
     let made = Certificate::of(alloc, parts_of(alloc, &certificate)?)?;
@@ -65,19 +65,19 @@ fn made_again(rt: HostRuntime) -> Result<(), Fail> {
     Ok(())
 }
 
-/// Procedures of one kind: the first's entry, and how many there are, each at the address behind the one before it.
+/// Procedures of one kind: the first one's entry, and how many there are, at consecutive addresses.
 type Run = (ProcKind, u16, u16);
 
 const MAIN: Run = (ProcKind::Main, 0, 1);
 
-/// As many procedures as there may be, and one more.
+/// The most procedures that a certificate may have, and one more.
 const MOST: &[Run] = &[MAIN, (ProcKind::Sub, 1, 1_023)];
 
 const ABOVE: &[Run] = &[MAIN, (ProcKind::Sub, 1, 1_024)];
 
 type Numbers = &'static [u16];
 
-/// Parts without rows: the version, the board, the procedures, the procedures of splits, the inline calls, and where cells are; then the fault, if any.
+/// Parts without rows: version, board, procedures, those of splits, inline calls, cells; then the fault, if any.
 type Case = (
     Version,
     BoardMap,
@@ -104,7 +104,7 @@ const PARTS: &[Case] = &[
     (One, Galaxian, ABOVE, &[], &[], &[], Some(Limit)),
 ];
 
-/// Procedures of these runs.
+/// The procedures of these runs.
 fn procs_of(alloc: Global, runs: &[Run]) -> Result<Vec<Proc>, AllocError> {
     let mut procs = Vec::new(alloc);
     for &(kind, first, count) in runs {
@@ -121,7 +121,7 @@ fn procs_of(alloc: Global, runs: &[Run]) -> Result<Vec<Proc>, AllocError> {
     Ok(procs)
 }
 
-/// Splits by B at 0003 in these procedures.
+/// Splits by B at 0003 of these procedures.
 fn splits_in(alloc: Global, procs: &[u16]) -> Result<Vec<Split>, AllocError> {
     let mut splits = Vec::new(alloc);
     for proc in procs {
@@ -134,7 +134,7 @@ fn splits_in(alloc: Global, procs: &[u16]) -> Result<Vec<Split>, AllocError> {
     Ok(splits)
 }
 
-/// Cells at these addresses, with any byte.
+/// Cells at these addresses, with full ranges.
 fn cells_at(alloc: Global, addresses: &[u16]) -> Result<Vec<KeptCell>, AllocError> {
     let mut cells = Vec::new(alloc);
     for at in addresses {

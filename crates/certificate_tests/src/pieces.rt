@@ -6,16 +6,16 @@ use certificate::{DeviceFault, ReadFault, Source, read_from};
 use memory_devices::Bytes;
 use std::alloc::Global;
 
-/// What a source gives at its first call, where it fails at the second; the fault, and how often the source was asked.
+/// What a source gives at its first call; it fails at the second one. Then the fault, and how many calls there were.
 const FAILING: &[(&str, ReadFault, u64)] = &[
     ("galcert 1\n", ReadFault::Read, 2),
     ("galcert 1", ReadFault::Read, 2),
-    // A bad line is told before another read is asked for
+    // A bad line is reported before another read is asked for
     ("galcert 3\n", ReadFault::Line(1), 1),
     ("galcert 1\nrom 06\nsta", ReadFault::Line(2), 1),
 ];
 
-/// The fault of a source that gives this at its first call and fails at the second, and how often it was asked.
+/// The fault for a source that gives this at its first call and fails at the second, and how many calls there were.
 fn asked_behind(alloc: Global, first: &str) -> (Option<ReadFault>, u64) {
     let mut input = Bytes::failing(first.as_bytes(), 4096, 1);
     let fault = read_from(alloc, &mut input).err();
@@ -30,7 +30,7 @@ fn a_source_that_fails(rt: HostRuntime) {
     }
 }
 
-/// A source of one byte without end.
+/// An endless source of one byte.
 #[derive(Drop)]
 struct SameBytes {
     byte: u8,
@@ -51,10 +51,10 @@ impl Source for SameBytes {
     }
 }
 
-/// The byte of a source without end, and the fault.
+/// The byte of an endless source, and the fault.
 const ENDLESS: &[(u8, ReadFault)] = &[(b' ', ReadFault::Line(1)), (b'\n', ReadFault::Line(1))];
 
-/// The fault of a source of this byte without end, and whether no more than a line and what is read at once was taken.
+/// The fault for an endless source of this byte, and whether no more was taken than a line and one read.
 fn endless_of(alloc: Global, byte: u8) -> (Option<ReadFault>, bool) {
     let mut input = SameBytes { byte, given: 0 };
     let fault = read_from(alloc, &mut input).err();

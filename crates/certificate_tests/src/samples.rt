@@ -1,6 +1,6 @@
 // Texts of certificates (docs/CERTIFICATE.md).
 
-/// LD SP,4400H and a jump to itself: its certificate of version 1.
+/// LD SP,4400h and a jump to itself: the certificate of version 1.
 pub const JUMP: &str = "galcert 1\n\
     rom 6\n\
     stack 4380 4400\n\
@@ -10,7 +10,7 @@ pub const JUMP: &str = "galcert 1\n\
     row 0 0003 s * * * * * * * * * * - - - -\n\
     end\n";
 
-/// And of version 2.
+/// The certificate of version 2.
 pub const JUMP_OF_TWO: &str = "galcert 2\n\
     rom 6\n\
     map galaxian\n\
@@ -39,7 +39,7 @@ pub const ROUTINE: &str = "galcert 1\n\
     row 1 006C n *@AF *@BC *@DE *@HL *@IX *@IY *@AF' *@BC' *@DE' *@HL' - - - 10\n\
     end\n";
 
-/// Every line and every field of version 2, with numbers that differ.
+/// Every line and every field of version 2, each with a number of its own.
 pub const EVERY_FORM: &str = "galcert 2\n\
     rom 300\n\
     map raised\n\
@@ -63,5 +63,5 @@ pub const EVERY_FORM: &str = "galcert 2\n\
     row 3 0100 n 2 * * * * * * * * * * zL 1-2*E * 15+13*s0\n\
     end\n";
 
-/// In place of a number of bytes, where a text is read whole and in no pieces.
+/// The size of the pieces if a text is read whole.
 pub const WHOLE: usize = 0;

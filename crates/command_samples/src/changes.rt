@@ -1,10 +1,11 @@
-// Certificates with some of their text exchanged, and what `verify` says of them.
+// Certificates with changed text, and the verdicts of `verify` on them.
 
 use crate::commands_over::verify_whole;
 use std::alloc::Global;
 use std::test::Fail;
 
-/// A text with parts exchanged, each at its first place, for others, in turn.
+/// The text with each `old` part replaced by its `new` one, in order. Each replacement changes the first occurrence
+/// only.
 fn changed(alloc: Global, text: &str, parts: &[(&str, &str)]) -> Result<String, Fail> {
     let mut changed = format!(in alloc; "{text}")?;
     for &(old, new) in parts {
@@ -20,7 +21,7 @@ fn with_part(alloc: Global, text: &str, old: &str, new: &str) -> Result<String, 
     Ok(format!(in alloc; "{front}{new}{rest}")?)
 }
 
-/// Whether a certificate for a ROM is refused by this line once these parts of its text are exchanged.
+/// Whether `verify` refuses the certificate with this line after these parts of its text are replaced.
 pub fn is_refused(
     alloc: Global,
     rom: &[u8],
@@ -32,7 +33,7 @@ pub fn is_refused(
     Ok(verify_whole(alloc, rom, cert.as_str()).is(1, line))
 }
 
-/// A ROM of main code from 0000 and an NMI routine from 0066, with zeros between.
+/// A ROM with main code from 0000 and an NMI routine from 0066. The bytes between them are 0.
 pub fn with_routine(alloc: Global, main: &[u8], routine: &[u8]) -> Result<Vec<u8>, Fail> {
     let mut rom = Vec::new(alloc);
     rom.extend_from_slice(main)?;

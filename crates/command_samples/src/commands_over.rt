@@ -1,11 +1,11 @@
-// The commands over devices in memory, and what they leave.
+// Runs of the commands on devices in memory, and what they leave.
 
 use crate::samples::JUMP_CERTIFICATE;
 use commands::{run_on, verify_on};
 use memory_devices::{Bytes, Taken};
 use std::alloc::Global;
 
-/// A command's status, what was asked of each device behind the ROM, what it left, and what it wrote.
+/// A command's status, the calls to each device after the ROM, the bytes that ROM and input have left, and the output.
 #[derive(Drop)]
 pub struct Outcome {
     pub status: u8,
@@ -18,18 +18,18 @@ pub struct Outcome {
 }
 
 impl Outcome {
-    /// Whether it ended with this status and wrote this text.
+    /// Whether the status and the text are these.
     pub fn is(&self, status: u8, text: &str) -> bool {
         self.status == status && self.written.as_slice() == text.as_bytes()
     }
 }
 
-/// The certificate of JUMP.
+/// The certificate of `JUMP`.
 pub fn accepted() -> Bytes<'static> {
     Bytes::whole(JUMP_CERTIFICATE.as_bytes())
 }
 
-/// `verify` over these devices; no input is asked.
+/// Runs `verify` on these devices. It has no input.
 pub fn verify(alloc: Global, rom: Bytes, cert: Bytes, out: Taken) -> Outcome {
     let (mut rom, mut cert, mut out) = (rom, cert, out);
     let status = verify_on(alloc, &mut rom, &mut cert, &mut out);
@@ -44,7 +44,7 @@ pub fn verify(alloc: Global, rom: Bytes, cert: Bytes, out: Taken) -> Outcome {
     }
 }
 
-/// `run` over these devices, for at most this many steps.
+/// Runs `run` on these devices, for at most `steps` events.
 pub fn run(
     alloc: Global,
     rom: Bytes,
@@ -66,7 +66,7 @@ pub fn run(
     }
 }
 
-/// `verify` over devices that do not fail.
+/// Runs `verify` on devices that do not fail.
 pub fn verify_whole(alloc: Global, rom: &[u8], cert: &str) -> Outcome {
     verify(
         alloc,
@@ -76,7 +76,7 @@ pub fn verify_whole(alloc: Global, rom: &[u8], cert: &str) -> Outcome {
     )
 }
 
-/// `run` over devices that do not fail.
+/// Runs `run` on devices that do not fail, for at most `steps` events.
 pub fn run_whole(alloc: Global, rom: &[u8], cert: &str, input: &str, steps: u32) -> Outcome {
     run(
         alloc,

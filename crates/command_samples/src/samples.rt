@@ -9,8 +9,8 @@ pub const STORES: &[u8] = &[
     0x58, 0x32, 0x01, 0x59, 0x32, 0xFF, 0x5F, 0x18, 0xFE,
 ];
 
-/// The text of a certificate of a ROM of this length, with a stack in this region, this depth of main (0 where none is told)
-/// and rows of these addresses and modes (docs/CERTIFICATE.md).
+/// The text of a certificate (docs/CERTIFICATE.md). It takes the length of the ROM in bytes, the stack's region, main's
+/// depth in bytes (0 if none is given), and the address and mode of each row.
 #[macro_export]
 macro_rules! certificate_text {
     ($len:literal, $region:literal, depth $depth:literal, $($row:literal),*) => {
@@ -25,9 +25,9 @@ macro_rules! certificate_text {
     };
 }
 
-/// The text of a certificate of this version: the other lines ahead of its rows; then main's rows, each with its place, what is known of
-/// AF, BC, DE and HL, and the last four fields; then the rows of other procedures, each with its procedure and place, and likewise,
-/// which keep IX, IY and the alternate set.
+/// The text of a certificate (docs/CERTIFICATE.md). It takes the version and the lines before the rows. Each row of
+/// main has its address and mode (and in version 2 its armed cells), its ranges of AF, BC, DE and HL, and its last four
+/// fields. Each row of another procedure has its procedure too. Those rows keep IX, IY and the alternate set unchanged.
 #[macro_export]
 macro_rules! rows_text {
     ($version:literal, $head:literal; $($main:literal $pairs:literal $rest:literal),*; $($row:literal $own:literal $last:literal),*) => {
@@ -40,7 +40,7 @@ macro_rules! rows_text {
     };
 }
 
-/// The certificate of STORES.
+/// The certificate of `STORES`.
 pub const STORES_CERTIFICATE: &str = certificate_text!(
     25,
     "4380 4400",
@@ -55,19 +55,19 @@ pub const STORES_CERTIFICATE: &str = certificate_text!(
     "0017 s"
 );
 
-/// The certificate of JUMP.
+/// The certificate of `JUMP`.
 pub const JUMP_CERTIFICATE: &str = certificate_text!(6, "4380 4400", "0000 u", "0003 s");
 
-/// What `verify` prints of main's depth 0 in 128 bytes, with no NMI routine.
+/// What `verify` prints for main with depth 0, a stack of 128 bytes and no NMI routine.
 pub const TABLE: &str = "accepted\nmain 0000 depth     0 time      -\nstack 0 of 128\nnmi none\n";
 
-/// JUMP's without the row of its second instruction.
+/// The certificate of `JUMP` without the row of the second instruction.
 pub const ROW_MISSING: &str = certificate_text!(6, "4380 4400", "0000 u");
 
-/// Three events of JUMP, from a reset to 00.
+/// An input of three events of `JUMP`, after a reset that fills with 00.
 pub const JUMP_INPUT: &[u8] = b"reset 0 00\n3 00 00 00 00 00 00 0\n";
 
-/// What `run` prints of three events of JUMP, from a reset to 00.
+/// What `run` prints for three events of `JUMP` after that reset.
 pub const THREE: &str = "done 3 30 0003 4400\nregs 0000 0000 0000 0000 0000 0000\nsum 0 0 0\n";
 
 /// LD SP,4400H; CALL 0008H; JR -2; and from 0008 PUSH BC; LD B,3; POP BC; RET
@@ -75,7 +75,7 @@ pub const SAVE: &[u8] = &[
     0x31, 0x00, 0x44, 0xCD, 0x08, 0x00, 0x18, 0xFE, 0xC5, 0x06, 0x03, 0xC1, 0xC9,
 ];
 
-/// The certificate of SAVE.
+/// The certificate of `SAVE`.
 pub const SAVE_CERTIFICATE: &str = rows_text!(
     1, "rom 13\nstack 4380 4400\nbudget -\nproc main 0000 1 4 -\nproc sub 0008 0 4 -";
     "0000 u" "* * * *" "- - - -",
@@ -87,6 +87,6 @@ pub const SAVE_CERTIFICATE: &str = rows_text!(
     "1 000C s" "*@AF *@BC *@DE *@HL" "- - - -"
 );
 
-/// What `verify` prints of it.
+/// What `verify` prints for it.
 pub const SAVE_TABLE: &str = "accepted\nmain 0000 depth     4 time      -\n\
     sub  0008 depth     4 time      -\nstack 4 of 128\nnmi none\n";

@@ -1,4 +1,4 @@
-// Calls and the words on the stack.
+// Calls, and words on the stack.
 
 use command_samples::{
     SAVE, SAVE_CERTIFICATE, SAVE_TABLE, certificate_text, is_refused, rows_text, run_whole,
@@ -6,7 +6,7 @@ use command_samples::{
 };
 use std::test::Fail;
 
-/// A part of its text, another in its place, and the refusal.
+/// A part of the certificate's text, its replacement, and the refusal.
 const SAVE_CHANGES: &[(&str, &str, &str)] = &[
     (
         "sub 0008 0 4 -",
@@ -24,7 +24,7 @@ const SAVE_CHANGES: &[(&str, &str, &str)] = &[
         "refused 0003 13 Rank\n",
     ),
     ("stack 4380", "stack 43FD", "refused 0000 11 StackDepth\n"),
-    // The slot is said to have another pair, and no pair: BC is not given back
+    // The slot names another pair, or no pair, so BC is not restored
     (
         "- - *@BC -\nrow 1 000B",
         "- - *@DE -\nrow 1 000B",
@@ -57,9 +57,9 @@ fn a_call_runs(rt: HostRuntime) {
     assert!(rt; run_whole(rt.alloc(), SAVE, SAVE_CERTIFICATE, input, 7).is(0, text));
 }
 
-/// A ROM, its certificate and its refusal.
+/// A ROM, its certificate and the refusal.
 const STACK_REFUSALS: &[(&[u8], &str, &str)] = &[
-    // LD SP,4400H; CALL 0008H; JR -2; LD (4780H),A; RET: 4780 is the cell 0380
+    // LD SP,4400H; CALL 0008H; JR -2; LD (4780H),A; RET: 4780 is a mirror of cell 0380
     (
         b"\x31\x00\x44\xCD\x08\x00\x18\xFE\x32\x80\x47\xC9",
         rows_text!(
@@ -72,7 +72,8 @@ const STACK_REFUSALS: &[(&[u8], &str, &str)] = &[
         ),
         "refused 0008 8 StackOverwrite\n",
     ),
-    // LD SP,4400H; CALL 0008H; JR -2; LD HL,4000H; LD DE,4001H; LD BC,03FFH; LD (HL),0; LDIR; RET: the fill reaches the stack
+    // LD SP,4400H; CALL 0008H; JR -2; LD HL,4000H; LD DE,4001H; LD BC,03FFH; LD (HL),0; LDIR; RET: the fill overwrites
+    // the stack
     (
         b"\x31\x00\x44\xCD\x08\x00\x18\xFE\x21\x00\x40\x11\x01\x40\x01\xFF\x03\x36\x00\xED\xB0\xC9",
         rows_text!(
@@ -95,7 +96,7 @@ const STACK_REFUSALS: &[(&[u8], &str, &str)] = &[
         certificate_text!(3, "4380 4400", depth 2, "0000 u", "0001 s"),
         "refused 0000 9 StackUnset\n",
     ),
-    // LD SP,4400H; POP BC; JR -2: there is no word
+    // LD SP,4400H; POP BC; JR -2: the stack is empty
     (
         b"\x31\x00\x44\xC1\x18\xFE",
         certificate_text!(6, "4380 4400", depth 2, "0000 u", "0003 s", "0004 s"),

@@ -1,4 +1,4 @@
-// Which devices are asked, and in which order.
+// Which devices the commands use, and in which order.
 
 use command_samples::{JUMP, JUMP_CERTIFICATE, JUMP_INPUT, ROW_MISSING, accepted, run, verify};
 use commands::{FileSource, run_on};
@@ -6,7 +6,7 @@ use memory_devices::{Bytes, Taken};
 use std::alloc::Global;
 use std::test::Fail;
 
-/// Whether no other device is asked where the ROM's read behind this many fails.
+/// Whether no other device is used when the ROM fails after `reads` reads.
 fn stops_at_the_rom(alloc: Global, reads: u64) -> bool {
     let rom = Bytes::failing(JUMP, 2, reads);
     let after = verify(alloc, rom, accepted(), Taken::new(alloc));
@@ -27,7 +27,7 @@ fn the_rom_is_read_first(rt: HostRuntime) {
     assert!(rt; run_stops_at_the_rom(rt.alloc()));
 }
 
-/// Where the certificate fails, the ROM was read to its end, and no other device is asked.
+/// If the certificate fails, the ROM has been read to its end, and no other device is used.
 #[test]
 fn the_certificate_is_read_next(rt: HostRuntime) {
     let alloc = rt.alloc();
@@ -41,8 +41,7 @@ fn the_certificate_is_read_next(rt: HostRuntime) {
     assert!(rt; after.input_asked == 0 && after.out_asked == 0);
 }
 
-/// Whether `run` with this certificate, and an output that fails at the write behind this many, has this status, writes this
-/// text and asks the input for no byte.
+/// Whether `run` has this status, writes this text and reads no input. The output fails after `writes` writes.
 fn asks_no_input(alloc: Global, cert: &str, writes: u64, status: u8, text: &str) -> bool {
     let (rom, cert) = (Bytes::whole(JUMP), Bytes::whole(cert.as_bytes()));
     let out = Taken::failing(alloc, 4096, writes);
@@ -55,7 +54,7 @@ const REFUSED: &[(&str, &str)] = &[
     ("galcert 1\nrom 06\n", "bad certificate line 2\n"),
 ];
 
-/// The input of a refused certificate is not asked for a byte, whether the refusal can be written or not.
+/// After a refusal the input is not read, whether the refusal can be written or not.
 #[test]
 fn no_input_after_a_refusal(rt: HostRuntime) {
     for &(cert, text) in REFUSED {
@@ -67,7 +66,7 @@ fn no_input_after_a_refusal(rt: HostRuntime) {
     }
 }
 
-/// The run's lines are written behind the last byte of the input.
+/// The lines of the run are written after the last byte of the input is read.
 #[test]
 fn the_input_is_read_before_the_lines_are_written(rt: HostRuntime) {
     let alloc = rt.alloc();
@@ -76,7 +75,7 @@ fn the_input_is_read_before_the_lines_are_written(rt: HostRuntime) {
     assert!(rt; after.status == 3 && after.input_left == 0);
 }
 
-/// A ROM file is not read past 16,385 bytes, and INPUT of a refused certificate is not read at all.
+/// A ROM file is not read past 16,385 bytes. The input of a refused certificate is not read at all.
 #[test]
 fn nothing_is_read_past_what_is_needed(rt: HostRuntime) -> Result<(), Fail> {
     let alloc = rt.alloc();
@@ -89,7 +88,7 @@ fn nothing_is_read_past_what_is_needed(rt: HostRuntime) -> Result<(), Fail> {
     Ok(())
 }
 
-/// A file is opened at its first read, so a refused certificate is told even where there is no input.
+/// A file is opened at its first read, so a refusal is reported even where the input file is missing.
 #[test]
 fn files_are_opened_at_their_first_read(rt: HostRuntime) {
     let alloc = rt.alloc();

@@ -1,4 +1,5 @@
-// The lines of an input, field by field, and what a summary tells; worked by hand from docs/PROGRAM.md.
+// The lines of an input, field by field, and the fields of a summary. The values are worked by hand from
+// docs/PROGRAM.md.
 
 use board_step::{Env, Inputs, Reset};
 use certificate::read;
@@ -8,7 +9,7 @@ use runner::{EnvLine, Machine, ResetLine, Summary, summary_lines};
 use std::alloc::Global;
 use z80_alu::{RegisterSet, Regs};
 
-/// Whether a line of environments stands for this many events in this environment, of which both reads find the same.
+/// Whether the line gives `count` events in this environment, with the same inputs for both reads.
 fn is_env_line(text: &str, count: u32, env: Env) -> bool {
     match EnvLine::of(text.as_bytes()) {
         Some(line) => line.count == count && line.env() == env,
@@ -26,7 +27,7 @@ fn env([in0, in1, in2, bus, noise, r]: [u8; 6], latch: bool) -> Env {
     }
 }
 
-/// A line, its events, its six bytes and its bit.
+/// A line, its count of events, its six bytes and its bit.
 const ENV_LINES: &[(&str, u32, [u8; 6], bool)] = &[
     (
         "7 1A 2B 3C 4D 5E 6F 1",
@@ -49,7 +50,7 @@ fn the_fields_of_a_line(rt: HostRuntime) {
     }
 }
 
-/// A set of registers of A5, and the registers of a reset to A5.
+/// A register set filled with A5. `FILLED_REGS` below holds the registers after a reset that fills with A5.
 const FILLED: RegisterSet = RegisterSet {
     a: 0xA5,
     f: 0xA5,
@@ -74,7 +75,7 @@ const FILLED_REGS: Regs = Regs {
     iff2: false,
 };
 
-/// Whether a reset has this phase, and A5 in each register and in each cell of RAM.
+/// Whether the reset has this phase, and A5 in each register and each RAM cell.
 fn is_filled(reset: &Reset, phase: u32) -> bool {
     reset.phase == phase
         && reset.regs == FILLED_REGS
@@ -90,7 +91,7 @@ fn the_fields_of_a_reset(rt: HostRuntime) {
     assert!(rt; is_filled(&line.reset(), 50_687));
 }
 
-/// Registers that differ.
+/// Registers with different values.
 const REGS: Regs = Regs {
     main: RegisterSet {
         a: 0x01,
@@ -117,8 +118,8 @@ const SUMMARY: Summary = Summary {
     sums: [1_024, 2_048, 768],
 };
 
-/// What JUMP comes to in these environments, from these registers, and each byte of work RAM 1, of video RAM 2 and of
-/// object RAM 3.
+/// The summary of `JUMP` in these environments. The run starts with `REGS`, work RAM filled with 1, video RAM with 2
+/// and object RAM with 3.
 fn summed(alloc: Global, envs: &[Env]) -> Option<Summary> {
     let certificate = read(alloc, JUMP_CERTIFICATE.as_bytes()).ok()?;
     let accepted = check(alloc, JUMP, certificate).ok()?;
@@ -136,7 +137,7 @@ fn summed(alloc: Global, envs: &[Env]) -> Option<Summary> {
 fn a_summary_tells_the_state(rt: HostRuntime) {
     assert!(rt; summed(rt.alloc(), &[]) == Some(SUMMARY));
     let two = [env([0; 6], false); 2];
-    // LD SP,4400H and JP 0003H, of 10 T-states each
+    // LD SP,4400H and JP 0003H, 10 T-states each
     let after = Summary {
         events: 2,
         time: 20,

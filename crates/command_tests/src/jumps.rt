@@ -1,15 +1,15 @@
-// Jumps by a table, calls whose return address the callee takes, and returns to a word that was pushed.
+// Jumps by a table, calls whose return address the callee pops, and returns to a pushed word.
 
 use command_samples::{TABLE, certificate_text, rows_text, run_whole, verify_whole};
 
-/// LD SP,4400H; LD A,(6000H); AND 1; ADD A,A; LD E,A; LD D,0; LD HL,0016H; ADD HL,DE; LD E,(HL); INC HL; LD D,(HL); EX DE,HL;
-/// JP (HL); the table 0003H, 001AH at 0016; JR -2
+/// LD SP,4400H; LD A,(6000H); AND 1; ADD A,A; LD E,A; LD D,0; LD HL,0016H; ADD HL,DE; LD E,(HL); INC HL; LD D,(HL);
+/// EX DE,HL; JP (HL); the table 0003H, 001AH at 0016; JR -2
 const BY_TABLE: &[u8] = &[
     0x31, 0x00, 0x44, 0x3A, 0x00, 0x60, 0xE6, 0x01, 0x87, 0x5F, 0x16, 0x00, 0x21, 0x16, 0x00, 0x19,
     0x5E, 0x23, 0x56, 0xEB, 0xE9, 0x00, 0x03, 0x00, 0x1A, 0x00, 0x18, 0xFE,
 ];
 
-/// Two rows for A = 0 and A = 1 from the split at 0008 on.
+/// From the split at 0008 to the jump at 0014, each address has a row for A = 0 and a row for A = 1.
 const BY_TABLE_CERTIFICATE: &str = rows_text!(
     1, "rom 28\nstack 4380 4400\nbudget -\nproc main 0000 0 0 -\nsplit 0 0008 A";
     "0000 u" "* * * *" "- - - -",
@@ -63,16 +63,16 @@ const PUSHED_CERTIFICATE: &str = rows_text!(
     "0008 s" "* * * *" "- - - -";
 );
 
-/// What `verify` prints of main's depth 2.
+/// What `verify` prints for main with depth 2.
 const TABLE_OF_TWO: &str =
     "accepted\nmain 0000 depth     2 time      -\nstack 2 of 128\nnmi none\n";
 
-/// A ROM, its certificate, and the status and the text of `verify`.
+/// A ROM, its certificate, and the status and output of `verify`.
 const VERDICTS: &[(&[u8], &str, u8, &str)] = &[
     (BY_TABLE, BY_TABLE_CERTIFICATE, 0, TABLE),
     (INLINE, INLINE_CERTIFICATE, 0, TABLE_OF_TWO),
     (PUSHED, PUSHED_CERTIFICATE, 0, TABLE_OF_TWO),
-    // LD SP,4400H; LD HL,(4000H); PUSH HL; RET: the word may be any
+    // LD SP,4400H; LD HL,(4000H); PUSH HL; RET: the word can have any value
     (
         b"\x31\x00\x44\x2A\x00\x40\xE5\xC9",
         rows_text!(
@@ -85,14 +85,14 @@ const VERDICTS: &[(&[u8], &str, u8, &str)] = &[
         1,
         "refused 0007 10 StackShape\n",
     ),
-    // LD SP,4400H; LD HL,(6000H); JP (HL): so may the pair
+    // LD SP,4400H; LD HL,(6000H); JP (HL): the pair can have any value
     (
         b"\x31\x00\x44\x2A\x00\x60\xE9",
         certificate_text!(7, "4380 4400", "0000 u", "0003 s", "0006 s"),
         1,
         "refused 0006 12 NotCovered\n",
     ),
-    // The call is not marked: there is no procedure at 0008
+    // The call is not marked as an inline call, and no procedure starts at 0008
     (
         INLINE,
         certificate_text!(11, "4380 4400", depth 2, "0000 u", "0003 s", "0008 s", "0009 s"),
@@ -111,7 +111,7 @@ fn jumps_are_judged(rt: HostRuntime) {
     }
 }
 
-/// A ROM, its certificate, an input and its number of events, and the text of `run`.
+/// A ROM, its certificate, an input, a number of events, and the output of `run`.
 const RUNS: &[(&[u8], &str, &str, u32, &str)] = &[
     (
         BY_TABLE,

@@ -1,4 +1,4 @@
-// The tests of an input's lines and a run's summary, and of the commands over devices in memory.
+// Tests of input lines and run summaries, and of the commands on devices in memory.
 #![tactic(auto)]
 
 #[cfg(test)]

@@ -1,5 +1,5 @@
-// Memory that is refused once, at each of the growths in turn (`tools/memory.sh command_tests`): the command has status 4 and writes
-// nothing, and the next one goes as if nothing had been; so does `check`, which answers `NoMemory`. A refusal is told by a line.
+// Memory is refused once, at each growth in turn (`tools/memory.sh command_tests`). A command then has status 4 and
+// writes nothing, a line reports it, and the next command gives the right output. `check` answers `NoMemory` instead.
 
 use certificate::read;
 use command_samples::{
@@ -9,7 +9,7 @@ use command_samples::{
 use runner::cert_checker::{CheckFault, check};
 use std::test::Fail;
 
-/// Whether a command ended for want of memory and wrote nothing; with status 3 it was the sink of this test that wanted memory.
+/// Whether the command ran out of memory and wrote nothing. Status 3 means that the test's own sink ran out of memory.
 fn wants_memory(after: &Outcome) -> bool {
     after.is(4, "") || after.status == 3
 }
@@ -45,7 +45,7 @@ fn run_again(rt: HostRuntime) -> Result<(), Fail> {
     Ok(())
 }
 
-/// The one growth of `check`, of the table of instructions, behind those of the certificate that it is handed.
+/// `check` grows one list, the table of instructions. `read` has already allocated the certificate.
 #[test]
 fn check_again(rt: HostRuntime) -> Result<(), Fail> {
     let alloc = rt.alloc();

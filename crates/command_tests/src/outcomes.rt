@@ -1,4 +1,4 @@
-// Verdicts and runs over devices in memory.
+// Verdicts and runs on devices in memory.
 
 use command_samples::{
     JUMP, JUMP_CERTIFICATE, JUMP_INPUT, ROW_MISSING, STORES, STORES_CERTIFICATE, TABLE, THREE,
@@ -9,10 +9,10 @@ use memory_devices::{Bytes, Taken};
 use std::alloc::Global;
 use std::test::Fail;
 
-/// A ROM, its certificate, and the status and the text of `verify`.
+/// A ROM, its certificate, and the status and output of `verify`.
 const VERDICTS: &[(&[u8], &str, u8, &str)] = &[
     (JUMP, JUMP_CERTIFICATE, 0, TABLE),
-    // The depth is the region's size, and one more; and all of the region
+    // The depth equals the region's size, or is one more; and the region is all of work RAM
     (
         JUMP,
         certificate_text!(6, "4380 4400", depth 128, "0000 u", "0003 s"),
@@ -31,7 +31,7 @@ const VERDICTS: &[(&[u8], &str, u8, &str)] = &[
         0,
         "accepted\nmain 0000 depth     3 time      -\nstack 3 of 1024\nnmi none\n",
     ),
-    // The ROM's length is one more or less than the certificate's
+    // The ROM is one byte longer or shorter than the certificate says
     (
         JUMP,
         certificate_text!(5, "4380 4400", "0000 u", "0003 s"),
@@ -44,7 +44,7 @@ const VERDICTS: &[(&[u8], &str, u8, &str)] = &[
         1,
         "refused 0000 1 Rom\n",
     ),
-    // Regions that end behind the first 400h addresses of work RAM, begin before them, or end where they begin
+    // Regions that end after the first 400h addresses of work RAM, begin before them, or end where they begin
     (
         JUMP,
         certificate_text!(6, "4380 4401", "0000 u", "0003 s"),
@@ -69,7 +69,8 @@ const VERDICTS: &[(&[u8], &str, u8, &str)] = &[
         1,
         "refused 0000 2 Region\n",
     ),
-    // LD SP,4400H; LD (nn),A; JR -2: the first and the last byte of the ROM and the one behind it, 4800, and the enable's mirror
+    // LD SP,4400H; LD (nn),A; JR -2: the first and the last byte of the ROM, the byte after it, 4800, and the mirror of
+    // the NMI enable
     (
         b"\x31\x00\x44\x32\x00\x00\x18\xFE",
         certificate_text!(8, "4380 4400", "0000 u", "0003 s", "0006 s"),
@@ -101,7 +102,7 @@ const VERDICTS: &[(&[u8], &str, u8, &str)] = &[
         "refused 0003 12 NotCovered\n",
     ),
     (JUMP, ROW_MISSING, 1, "refused 0000 12 NotCovered\n"),
-    // A row of mode n, and no NMI routine
+    // A row in mode n, without an NMI routine
     (
         JUMP,
         certificate_text!(6, "4380 4400", "0000 u", "0003 n"),
@@ -128,7 +129,7 @@ const VERDICTS: &[(&[u8], &str, u8, &str)] = &[
         1,
         "refused 0000 3 Entry\n",
     ),
-    // The first byte of a jump, and no instruction
+    // The first byte of a jump, and a code that is not an instruction
     (
         b"\xC3\x00",
         certificate_text!(2, "4380 4400", "0000 u"),
@@ -141,7 +142,7 @@ const VERDICTS: &[(&[u8], &str, u8, &str)] = &[
         1,
         "refused 0000 4 Decode Undocumented\n",
     ),
-    // HALT, with no row behind it, and OUT (00),A
+    // HALT, with no row after it, and OUT (00),A
     (
         b"\x76",
         certificate_text!(1, "4380 4400", "0000 u"),
@@ -154,14 +155,14 @@ const VERDICTS: &[(&[u8], &str, u8, &str)] = &[
         1,
         "refused 0000 5 IoSpace\n",
     ),
-    // A ROM of no bytes
+    // An empty ROM
     (
         b"",
         certificate_text!(0, "4380 4400", "0000 u"),
         1,
         "refused 0000 1 Rom\n",
     ),
-    // The last line without its line feed, a number with a leading zero, and no line
+    // The last line without its line feed, a number with a leading zero, and an empty text
     (
         JUMP,
         "galcert 1\nrom 6\nstack 4380 4400\nbudget -\nproc main 0000 0 0 -\n\
@@ -184,8 +185,8 @@ fn verdicts_are_told(rt: HostRuntime) {
     }
 }
 
-/// A ROM and a certificate against which two reasons stand, and the one that is told: the lower of a row's or of the whole's,
-/// and a row's before StackDepth.
+/// A ROM and a certificate with two reasons for a refusal, and the reason that is reported. The lower code wins among
+/// the reasons of one row and among those of the whole certificate. A row's reason comes before StackDepth.
 const TWO_REASONS: &[(&[u8], &str, &str)] = &[
     // Rom and Region, Region and Entry, Region and StackDepth
     (
@@ -232,13 +233,13 @@ const TWO_REASONS: &[(&[u8], &str, &str)] = &[
         certificate_text!(3, "4380 4400", "0000 u"),
         "refused 0000 12 NotCovered\n",
     ),
-    // NotCovered of a row, and StackDepth
+    // NotCovered at a row, and StackDepth
     (
         JUMP,
         certificate_text!(6, "4380 4400", depth 129, "0000 u"),
         "refused 0000 12 NotCovered\n",
     ),
-    // SpWrite of the first row, and WriteRom of the second: LD SP,4200H; LD (0000H),A; JR -2
+    // SpWrite at the first row, and WriteRom at the second: LD SP,4200H; LD (0000H),A; JR -2
     (
         b"\x31\x00\x42\x32\x00\x00\x18\xFE",
         certificate_text!(8, "4380 4400", "0000 u", "0003 s", "0006 s"),
@@ -261,17 +262,17 @@ fn a_rom_of_too_many_bytes_is_refused(rt: HostRuntime) -> Result<(), Fail> {
     Ok(())
 }
 
-/// An input, at most this many steps of it, and the status and the text of `run` with JUMP.
+/// An input, the most events to run, and the status and output of `run` for `JUMP`.
 const RUNS: &[(&str, u32, u8, &str)] = &[
     ("reset 0 00\n3 00 00 00 00 00 00 0\n", 3, 0, THREE),
-    // A fill of A5, and no line of environments
+    // A fill with A5, and no line of environments
     (
         "reset 50687 A5\n",
         1,
         0,
         "done 0 0 0000 A5A5\nregs A5A5 A5A5 A5A5 A5A5 A5A5 A5A5\nsum 168960 168960 42240\n",
     ),
-    // Lines of one and of four events: all of them, those that are asked for, and up to a line that is not needed
+    // Lines of one and of four events: all of the events, the first three, and as far as the lines are needed
     (
         "reset 0 00\n1 00 00 00 00 00 00 0\n4 00 00 00 00 00 00 0\n",
         9,
@@ -302,7 +303,7 @@ const RUNS: &[(&str, u32, u8, &str)] = &[
         0,
         "done 0 0 0000 0000\nregs 0000 0000 0000 0000 0000 0000\nsum 0 0 0\n",
     ),
-    // The longest line: 30 bytes, with its line feed as the 31st
+    // The longest line: 30 bytes and its line feed
     ("reset 0 00\n4294967295 00 00 00 00 00 00 0\n", 3, 0, THREE),
     ("", 2, 1, "bad input line 1\n"),
     ("reset 50688 00\n", 2, 1, "bad input line 1\n"),
@@ -347,7 +348,7 @@ fn runs_are_told(rt: HostRuntime) {
     }
 }
 
-/// Two stores of 12H to video RAM, three to object RAM's copies and one to work RAM, over cells of 01.
+/// Two stores of 12H to video RAM, three to mirrors of object RAM and one to work RAM. All cells are 01 before.
 #[test]
 fn stores_reach_their_rams(rt: HostRuntime) {
     let input = "reset 50687 01\n4 00 00 00 00 00 00 0\n9 FF FF FF FF FF FF 1\n";
@@ -381,20 +382,20 @@ fn bytes_one_by_one(rt: HostRuntime) {
     assert!(rt; after.is(0, THREE));
 }
 
-/// Whether `verify` has status 3 where the write behind these bytes, of one each, fails, and these stay written.
+/// Whether `verify` has status 3 when the output fails after these bytes, and whether these bytes stay written.
 fn write_failure_is_told(alloc: Global, written: &[u8]) -> bool {
     let out = Taken::failing(alloc, 1, written.len() as u64);
     let after = verify(alloc, Bytes::whole(JUMP), accepted(), out);
     after.status == 3 && after.written.as_slice() == written
 }
 
-/// Whether `verify` has status 3 and writes nothing where the ROM's read behind this many fails.
+/// Whether `verify` has status 3 and writes nothing when the ROM fails after `reads` reads.
 fn rom_failure_is_told(alloc: Global, reads: u64) -> bool {
     let (rom, cert) = (Bytes::failing(JUMP, 2, reads), accepted());
     verify(alloc, rom, cert, Taken::new(alloc)).is(3, "")
 }
 
-/// The same of `run`, where the input's read behind this many, of a byte each, fails.
+/// Whether `run` has status 3 and writes nothing when the input fails after `reads` reads of one byte.
 fn input_failure_is_told(alloc: Global, reads: usize) -> bool {
     let (rom, cert) = (Bytes::whole(JUMP), accepted());
     let input = Bytes::failing(JUMP_INPUT, 1, reads as u64);

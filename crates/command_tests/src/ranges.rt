@@ -1,4 +1,4 @@
-// Ranges and facts of main code: work RAM filled by LDIR, where DE and BC have one sum.
+// Ranges and linear equalities in main code: LDIR fills work RAM, where DE + BC is constant.
 
 use command_samples::{TABLE, is_refused, rows_text, run_whole, verify_whole};
 use std::test::Fail;
@@ -26,7 +26,7 @@ const FILL_CERTIFICATE: &str = rows_text!(
     "0010 s" "* * * *" "- - - -";
 );
 
-/// The fact is left out; a fill from 4001 on that may go anywhere.
+/// The row has no fact, so the fill from 4001 on can write anywhere.
 const FACT_LEFT_OUT: &[(&str, &str)] = &[("-17408+1*BC+1*DE", "-")];
 
 const FILL_ANYWHERE: &[(&str, &str)] = &[
@@ -49,7 +49,7 @@ fn a_fact_keeps_a_fill_in_work_ram(rt: HostRuntime) -> Result<(), Fail> {
     Ok(())
 }
 
-/// Each turn of LDIR is an event: 5 before the first, 1,023 turns, and none behind them.
+/// Each turn of LDIR is an event. Five events come before the first turn, then 1,023 turns, and none after them.
 #[test]
 fn a_fill_runs(rt: HostRuntime) {
     let input = "reset 0 FF\n1028 00 00 00 00 00 00 0\n";

@@ -6,15 +6,16 @@ use Rattle.std.proofs.lemmas.List.{length-take-le}
 use Rattle.board_step.specs.Hardware.{Hardware}
 use Rattle.board_step.specs.Safe.{Safe}
 use Rattle.runner.specs.Certified.{Accepts, IsRefused, board_of, certified_profile, nmi_time}
-use Rattle.cert_order.specs.Contents.{Contents, migrated}
-use Rattle.cert_order.specs.Text.{HasTooMany, IsFirstBadLine, text_of}
+use Rattle.cert_form.specs.Contents.{CertificateView}
+use Rattle.cert_form.specs.Migrated.{migrated}
+use Rattle.cert_form.specs.Text.{HasTooMany, IsFirstBadLine, text_of}
 use Rattle.certificate.specs.Pieces.{OfBytes}
 use Rattle.texts.specs.Device.{DeviceState, GivesBytes}
-use Rattle.commands.specs.Judging.{HoldAccepted, IsAccepted, IsTextOf, OnAccepted, TellsAccepted, TellsRefusal, WritesRefusalOf, WritesUnread}
+use Rattle.commands.specs.Judging.{HoldAccepted, IsAccepted, IsCertificateText, OnAccepted, TellsAccepted, TellsRefusal, WritesRefusalOf, WritesUnread}
 use Rattle.commands.specs.Migrating.{TellsMigrated}
 use Rattle.commands.specs.Reading.{FirstBytes, ROM_READ_LEN}
 use Rattle.commands.specs.Running.{PlaysPart, PlaysTo, PlaysToBadLine, TellsBadInput, TellsPart, TellsRun}
-use Rattle.verdicts.specs.Verdict.{Refused, accepted_text, bad_line_text, refused_text}
+use Rattle.command_verdicts.specs.Verdict.{Refused, accepted_text, bad_line_text, refused_text}
 
 first_of : (file after : Option (List ℕ)) (most len : ℕ) (items : List ℕ) → len ≡ length items → len ≤ most → (len < most → IfSome file (λ all. items ≡ all)) → GivesBytes file items after → IfSome file (λ all. items ≡ take most all)
 first_of None after most len items same within whole given = tt
@@ -33,7 +34,7 @@ first_bytes file after most len items same within whole given = record {
   first = first_of file after most len items same within whole given;
 }
 
--- a list that is shorter than what was asked for is the whole
+-- a prefix that is shorter than what was asked for is the whole
 take_whole : (most : ℕ) (all bytes : List ℕ) → bytes ≡ take most all → length bytes < most → bytes ≡ all
 take_whole most all bytes first few =
     elim (cases_lt (length all) most) [
@@ -46,108 +47,108 @@ of_first : (rom : Option (List ℕ)) (bytes : List ℕ) (Holds : List ℕ → Ty
 of_first None bytes Holds first holds = (bytes, subst Holds (sym (take_all ROM_READ_LEN bytes first.within)) holds)
 of_first (Some all) bytes Holds first holds = subst Holds first.first holds
 
--- where the ROM is short enough, it holds of the whole file
+-- if the ROM is short enough, it holds of the whole file
 pub of_whole : (rom : Option (List ℕ)) (bytes : List ℕ) (Holds : List ℕ → Type 0) → FirstBytes ROM_READ_LEN rom bytes → length bytes < ROM_READ_LEN → Holds bytes → OfBytes rom Holds
 of_whole None bytes Holds first few holds = (bytes, holds)
 of_whole (Some all) bytes Holds first few holds = subst Holds (take_whole ROM_READ_LEN all bytes first.first few) holds
 
--- what follows from what holds of the bytes of a source holds of them too
+-- a weaker property of a source's bytes holds too
 pub of_bytes : (text : Option (List ℕ)) (P Q : List ℕ → Type 0) → ((bytes : List ℕ) → P bytes → Q bytes) → OfBytes text P → OfBytes text Q
 of_bytes (Some bytes) P Q follows holds = follows bytes holds
 of_bytes None P Q follows (bytes, holds) = (bytes, follows bytes holds)
 
--- it holds of some bytes
+-- the property holds of some bytes
 some_bytes : (text : Option (List ℕ)) (P : List ℕ → Type 0) → OfBytes text P → (bytes : List ℕ) × P bytes
 some_bytes (Some bytes) P holds = (bytes, holds)
 some_bytes None P (bytes, holds) = (bytes, holds)
 
 -- a certificate that was read and accepted is that of its source
-pub accepted_of : (rom : List ℕ) (text : Option (List ℕ)) (read kept : Contents) → kept ≡ read → OfBytes text (IsTextOf read) →
+pub accepted_of : (rom : List ℕ) (text : Option (List ℕ)) (read kept : CertificateView) → kept ≡ read → OfBytes text (IsCertificateText read) →
     Accepts rom read → Safe (certified_profile rom read) (nmi_time read) → OfBytes text (λ lines. IsAccepted rom lines kept)
 accepted_of rom text read kept same is accepts safe =
-    subst (λ (c : Contents). OfBytes text (λ lines. IsAccepted rom lines c)) (sym same)
-    (of_bytes text (IsTextOf read) (λ lines. IsAccepted rom lines read) (λ lines here. record { in_form = here.in_form; text_is = here.text_is; accepts = accepts; safe = safe }) is)
+    subst (λ (c : CertificateView). OfBytes text (λ lines. IsAccepted rom lines c)) (sym same)
+    (of_bytes text (IsCertificateText read) (λ lines. IsAccepted rom lines read) (λ lines here. record { in_form = here.in_form; text_is = here.text_is; accepts = accepts; safe = safe }) is)
 
--- the line of the first reason against a certificate that was read was printed, to a sink that is the same
-pub refused_of : {X : Type 0} (Writes : DeviceState → List ℕ → DeviceState → Type 0) (state : X → DeviceState) (rom : List ℕ) (text : Option (List ℕ)) (new : DeviceState) (read : Contents) (refused : Refused) (printed : List ℕ) (before same : X) →
-    OfBytes text (IsTextOf read) → before ≡ same → IsRefused rom read refused.row refused.address refused.reason → printed ≡ refused_text refused → Writes (state before) printed new →
+-- the line of the first reason was printed, to an unchanged sink
+pub refused_of : {X : Type 0} (Writes : DeviceState → List ℕ → DeviceState → Type 0) (state : X → DeviceState) (rom : List ℕ) (text : Option (List ℕ)) (new : DeviceState) (read : CertificateView) (refused : Refused) (printed : List ℕ) (before same : X) →
+    OfBytes text (IsCertificateText read) → before ≡ same → IsRefused rom read refused.row refused.address refused.reason → printed ≡ refused_text refused → Writes (state before) printed new →
     WritesRefusalOf Writes rom text (state same) new
 refused_of {X} Writes state rom text new read refused printed before same is kept told printed_is writes =
-    of_bytes text (IsTextOf read) _
+    of_bytes text (IsCertificateText read) _
     (λ lines here. (
       printed,
       subst (λ (x : X). Writes (state x) printed new) kept writes,
       inl (record { certificate = read; in_form = here.in_form; text_is = here.text_is; refused = refused; is_refused = told; printed_is = printed_is }),
     )) is
 
--- that a text is no certificate was printed
+-- the line for a text that is no certificate was printed
 pub unread_of : (Writes : DeviceState → List ℕ → DeviceState → Type 0) (rom : List ℕ) (text : Option (List ℕ)) (old new : DeviceState) → WritesUnread Writes text old new → WritesRefusalOf Writes rom text old new
 unread_of Writes rom text old new = of_bytes text _ _ (λ lines told. (told.0, told.1, inr told.2))
 
--- the number of the first bad line was printed
+-- the line with the number of the first bad line was printed
 pub bad_line_of : (Writes : DeviceState → List ℕ → DeviceState → Type 0) (text : Option (List ℕ)) (old new : DeviceState) (line : ℕ) (printed : List ℕ) →
     OfBytes text (IsFirstBadLine line) → printed ≡ bad_line_text (codes "bad certificate") line → Writes old printed new → WritesUnread Writes text old new
 bad_line_of Writes text old new line printed bad printed_is writes =
     of_bytes text (IsFirstBadLine line) _ (λ lines here. (printed, writes, inl (record { line = line; bad = here; printed_is = printed_is }))) bad
 
--- that a count is above its limit was printed
+-- the line for a count above its limit was printed
 pub limit_of : (Writes : DeviceState → List ℕ → DeviceState → Type 0) (text : Option (List ℕ)) (old new : DeviceState) (printed : List ℕ) →
     OfBytes text HasTooMany → printed ≡ codes "bad certificate limit\n" → Writes old printed new → WritesUnread Writes text old new
 limit_of Writes text old new printed many printed_is writes =
     of_bytes text HasTooMany _ (λ lines here. (printed, writes, inr (record { many = here; printed_is = printed_is }))) many
 
--- what was read of a ROM's file, where it is lent
+-- what was read of a ROM's file, borrowed
 pub lent_first : (rom : Option (List ℕ)) (items bytes : List ℕ) → bytes ≡ items → FirstBytes ROM_READ_LEN rom items → FirstBytes ROM_READ_LEN rom bytes
 lent_first rom items bytes same first = subst (FirstBytes ROM_READ_LEN rom) (sym same) first
 
--- what holds of the ROM that was read, and of the certificate that is accepted for it, holds of the files
-pub on_accepted : (rom text : Option (List ℕ)) (bytes : List ℕ) (certificate : Contents) (Holds : List ℕ → Contents → Type 0) →
+-- what holds of the ROM and of the certificate that is accepted for it holds for the files
+pub on_accepted : (rom text : Option (List ℕ)) (bytes : List ℕ) (certificate : CertificateView) (Holds : List ℕ → CertificateView → Type 0) →
     FirstBytes ROM_READ_LEN rom bytes → OfBytes text (λ lines. IsAccepted bytes lines certificate) → Holds bytes certificate → OnAccepted rom text Holds
 on_accepted rom text bytes certificate Holds first accepted holds =
     let (lines, one) = some_bytes text (λ l. IsAccepted bytes l certificate) accepted in
-    of_whole rom bytes (λ b. OfBytes text (λ l. (c : Contents) × IsAccepted b l c × Holds b c)) first (omega (arith, one.accepts.fits_rom.fits))
+    of_whole rom bytes (λ b. OfBytes text (λ l. (c : CertificateView) × IsAccepted b l c × Holds b c)) first (omega (arith, one.accepts.fits_rom.fits))
     (of_bytes text (λ l. IsAccepted bytes l certificate) _ (λ l here. (certificate, here, holds)) accepted)
 
 pub tells_refusal : (Writes : DeviceState → List ℕ → DeviceState → Type 0) (rom text : Option (List ℕ)) (old new : DeviceState) (bytes : List ℕ) →
     FirstBytes ROM_READ_LEN rom bytes → WritesRefusalOf Writes bytes text old new → TellsRefusal Writes rom text old new
 tells_refusal Writes rom text old new bytes first writes = of_first rom bytes (λ b. WritesRefusalOf Writes b text old new) first writes
 
-pub hold_accepted : (rom text : Option (List ℕ)) (bytes : List ℕ) (certificate : Contents) → FirstBytes ROM_READ_LEN rom bytes → OfBytes text (λ lines. IsAccepted bytes lines certificate) → HoldAccepted rom text
+pub hold_accepted : (rom text : Option (List ℕ)) (bytes : List ℕ) (certificate : CertificateView) → FirstBytes ROM_READ_LEN rom bytes → OfBytes text (λ lines. IsAccepted bytes lines certificate) → HoldAccepted rom text
 hold_accepted rom text bytes certificate first accepted = on_accepted rom text bytes certificate (λ _ _. Unit {0}) first accepted tt
 
--- the same from a sink that is the same
-pub tells_accepted : {X : Type 0} (Writes : DeviceState → List ℕ → DeviceState → Type 0) (state : X → DeviceState) (rom text : Option (List ℕ)) (new : DeviceState) (bytes : List ℕ) (certificate shown : Contents) (before same : X) →
+-- the same, from an unchanged sink
+pub tells_accepted : {X : Type 0} (Writes : DeviceState → List ℕ → DeviceState → Type 0) (state : X → DeviceState) (rom text : Option (List ℕ)) (new : DeviceState) (bytes : List ℕ) (certificate shown : CertificateView) (before same : X) →
     FirstBytes ROM_READ_LEN rom bytes → OfBytes text (λ lines. IsAccepted bytes lines certificate) → shown ≡ certificate → before ≡ same → Writes (state before) (accepted_text shown) new → TellsAccepted Writes rom text (state same) new
 tells_accepted {X} Writes state rom text new bytes certificate shown before same first accepted is kept takes =
     on_accepted rom text bytes certificate (λ _ c. Writes (state same) (accepted_text c) new) first accepted
-    (subst (λ (x : X). Writes (state x) (accepted_text certificate) new) kept (subst (λ (c : Contents). Writes (state before) (accepted_text c) new) is takes))
+    (subst (λ (x : X). Writes (state x) (accepted_text certificate) new) kept (subst (λ (c : CertificateView). Writes (state before) (accepted_text c) new) is takes))
 
--- and so does what was played on that ROM
-on_played : {X : Type 0} (rom text : Option (List ℕ)) (state : X → DeviceState) (PlaysFrom : Hardware → DeviceState → Type 0) (bytes own : List ℕ) (certificate : Contents) (before same : X) →
+-- the same for what was played on that ROM
+on_played : {X : Type 0} (rom text : Option (List ℕ)) (state : X → DeviceState) (PlaysFrom : Hardware → DeviceState → Type 0) (bytes own : List ℕ) (certificate : CertificateView) (before same : X) →
     FirstBytes ROM_READ_LEN rom bytes → OfBytes text (λ lines. IsAccepted bytes lines certificate) → own ≡ bytes → before ≡ same → PlaysFrom (board_of own certificate) (state before) →
     OnAccepted rom text (λ b c. PlaysFrom (board_of b c) (state same))
 on_played {X} rom text state PlaysFrom bytes own certificate before same first accepted is kept plays =
     on_accepted rom text bytes certificate (λ b c. PlaysFrom (board_of b c) (state same)) first accepted
     (subst (λ (x : X). PlaysFrom (board_of bytes certificate) (state x)) kept (subst (λ (b : List ℕ). PlaysFrom (board_of b certificate) (state before)) is plays))
 
-pub tells_run : {X : Type 0} (Writes : DeviceState → List ℕ → DeviceState → Type 0) (state : X → DeviceState) (steps : ℕ) (rom text input : Option (List ℕ)) (new : DeviceState) (bytes own : List ℕ) (certificate : Contents) (before same : X) →
+pub tells_run : {X : Type 0} (Writes : DeviceState → List ℕ → DeviceState → Type 0) (state : X → DeviceState) (steps : ℕ) (rom text input : Option (List ℕ)) (new : DeviceState) (bytes own : List ℕ) (certificate : CertificateView) (before same : X) →
     FirstBytes ROM_READ_LEN rom bytes → OfBytes text (λ lines. IsAccepted bytes lines certificate) → own ≡ bytes → before ≡ same → PlaysTo Writes (board_of own certificate) steps input (state before) new →
     TellsRun Writes steps rom text input (state same) new
 tells_run Writes state steps rom text input new = on_played rom text state (λ hardware old. PlaysTo Writes hardware steps input old new)
 
-pub tells_bad_input : {X : Type 0} (Writes : DeviceState → List ℕ → DeviceState → Type 0) (state : X → DeviceState) (steps : ℕ) (rom text input : Option (List ℕ)) (new : DeviceState) (bytes own : List ℕ) (certificate : Contents) (before same : X) →
+pub tells_bad_input : {X : Type 0} (Writes : DeviceState → List ℕ → DeviceState → Type 0) (state : X → DeviceState) (steps : ℕ) (rom text input : Option (List ℕ)) (new : DeviceState) (bytes own : List ℕ) (certificate : CertificateView) (before same : X) →
     FirstBytes ROM_READ_LEN rom bytes → OfBytes text (λ lines. IsAccepted bytes lines certificate) → own ≡ bytes → before ≡ same → PlaysToBadLine Writes (board_of own certificate) steps input (state before) new →
     TellsBadInput Writes steps rom text input (state same) new
 tells_bad_input Writes state steps rom text input new = on_played rom text state (λ hardware old. PlaysToBadLine Writes hardware steps input old new)
 
-pub tells_part : {X : Type 0} (Writes : DeviceState → List ℕ → DeviceState → Type 0) (state : X → DeviceState) (steps : ℕ) (rom text input : Option (List ℕ)) (new : DeviceState) (bytes own : List ℕ) (certificate : Contents) (before same : X) →
-    FirstBytes ROM_READ_LEN rom bytes → OfBytes text (λ lines. IsAccepted bytes lines certificate) → own ≡ bytes → before ≡ same → PlaysPart Writes (board_of own certificate) steps input (state before) new →
-    TellsPart Writes steps rom text input (state same) new
-tells_part Writes state steps rom text input new = on_played rom text state (λ hardware old. PlaysPart Writes hardware steps input old new)
+pub tells_part : {X : Type 0} (Writes : DeviceState → List ℕ → DeviceState → Type 0) (state : X → DeviceState) (steps : ℕ) (rom text : Option (List ℕ)) (input_old input_new new : DeviceState) (bytes own : List ℕ) (certificate : CertificateView) (before same : X) →
+    FirstBytes ROM_READ_LEN rom bytes → OfBytes text (λ lines. IsAccepted bytes lines certificate) → own ≡ bytes → before ≡ same → PlaysPart Writes (board_of own certificate) steps input_old input_new (state before) new →
+    TellsPart Writes steps rom text input_old input_new (state same) new
+tells_part Writes state steps rom text input_old input_new new = on_played rom text state (λ hardware old. PlaysPart Writes hardware steps input_old input_new old new)
 
--- the text of a certificate that was read, migrated, was written, from a sink that is the same
-pub tells_migrated : {X : Type 0} (Writes : DeviceState → List ℕ → DeviceState → Type 0) (state : X → DeviceState) (text : Option (List ℕ)) (new : DeviceState) (read shown : Contents) (before same : X) →
-    OfBytes text (IsTextOf read) → shown ≡ migrated read → before ≡ same → Writes (state before) (text_of shown) new → TellsMigrated Writes text (state same) new
+-- the text of the migrated certificate was written, from an unchanged sink
+pub tells_migrated : {X : Type 0} (Writes : DeviceState → List ℕ → DeviceState → Type 0) (state : X → DeviceState) (text : Option (List ℕ)) (new : DeviceState) (read shown : CertificateView) (before same : X) →
+    OfBytes text (IsCertificateText read) → shown ≡ migrated read → before ≡ same → Writes (state before) (text_of shown) new → TellsMigrated Writes text (state same) new
 tells_migrated {X} Writes state text new read shown before same is shows kept writes =
-    of_bytes text (IsTextOf read) _
-    (λ lines here. (read, here, subst (λ (x : X). Writes (state x) (text_of (migrated read)) new) kept (subst (λ (c : Contents). Writes (state before) (text_of c) new) shows writes))) is
+    of_bytes text (IsCertificateText read) _
+    (λ lines here. (read, here, subst (λ (x : X). Writes (state x) (text_of (migrated read)) new) kept (subst (λ (c : CertificateView). Writes (state before) (text_of c) new) shows writes))) is

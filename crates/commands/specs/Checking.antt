@@ -1,62 +1,62 @@
 -- What `galcert check` writes, and when (docs/PROGRAM.md).
 use Rattle.std.specs.Prelude.{ℕ, ◌≡◌, ◌⊎◌, List, Option, codes}
-use Rattle.annotations.specs.Said.{Said}
-use Rattle.cert_order.specs.Contents.{Contents}
-use Rattle.cert_order.specs.Text.{text_of}
+use Rattle.annotations.specs.Said.{AnnotationsView}
+use Rattle.cert_form.specs.Contents.{CertificateView}
+use Rattle.cert_form.specs.Text.{text_of}
 use Rattle.certificate.specs.Pieces.{OfBytes}
 use Rattle.texts.specs.Device.{DeviceState, Takes}
 use Rattle.commands.specs.Annotating.{IsAnnotations, PrintsBadAnnotation, SaysOfWhole}
 use Rattle.commands.specs.Judging.{IsAccepted}
 use Rattle.commands.specs.Reading.{OfFiles}
-use Rattle.verdicts.specs.Verdict.{Refused, accepted_text, refused_text}
-use Rattle.verdicts.specs.WriterRefusals.{recursion_text, unbounded_text}
+use Rattle.command_verdicts.specs.Verdict.{Refused, accepted_text, refused_text}
+use Rattle.command_verdicts.specs.WriterRefusals.{recursion_text, unbounded_text}
 
--- what a certificate says of what annotations say of the whole and of the cells
-abbrev pub said_by : Contents → Said
+-- the annotations about the whole ROM that a certificate carries: the region, the budget, the board and the cells
+abbrev pub said_by : CertificateView → AnnotationsView
 said_by c = record { region = c.region; budget = c.budget; board = c.board; cells = c.cells }
 
--- a certificate that was made for a ROM: it is accepted, every run of the board on that ROM is safe, and the stack's region, the budget,
--- the board and the kept cells are those of the annotations
-pub record IsMade (rom annot : List ℕ) (certificate : Contents) : Type 0 where
+-- a certificate that was made for a ROM: it is accepted, every run of the board on that ROM is safe, and its stack
+-- region, budget, board and kept cells are those of the annotations
+pub record IsMade (rom annot : List ℕ) (certificate : CertificateView) : Type 0 where
   pub accepted : IsAccepted rom (text_of certificate) certificate
   pub said : SaysOfWhole annot (said_by certificate)
 
--- the line of a reason against a ROM
+-- the line of a refusal by the rules
 pub record PrintsReason (printed : List ℕ) : Type 0 where
   pub refused : Refused
   pub printed_is : printed ≡ refused_text refused
 
--- procedures that call one another in a circle
+-- the line of procedures that call one another in a cycle
 pub record PrintsRecursion (printed : List ℕ) : Type 0 where
   pub entries : List ℕ
   pub printed_is : printed ≡ recursion_text entries
 
--- rows that go round where nothing bounds them
+-- the line of a cycle of rows that no counter bounds
 pub record PrintsUnbounded (printed : List ℕ) : Type 0 where
   pub address : ℕ
   pub printed_is : printed ≡ unbounded_text address
 
--- why no certificate was made for a ROM
+-- what is printed if no certificate was made
 abbrev pub PrintsUnmade : List ℕ → Type 0
 PrintsUnmade printed = PrintsReason printed ⊎ (PrintsRecursion printed ⊎ (PrintsUnbounded printed ⊎ (printed ≡ codes "too large\n")))
 
--- the line that says why was written to a sink: whole (`Takes`), or it failed amid it (`FailsAmid`)
+-- that line was written: the sink took it whole (`Takes`), or it failed inside it (`FailsAmid`)
 abbrev pub WritesUnmade : (DeviceState → List ℕ → DeviceState → Type 0) → DeviceState → DeviceState → Type 0
 WritesUnmade Writes old new = (printed : List ℕ) × Writes old printed new × PrintsUnmade printed
 
--- the annotations are bad, or no certificate was made; the line that says why was written
+-- the annotations are bad, or no certificate was made, and the line that reports it was written
 abbrev pub TellsUnmade : (DeviceState → List ℕ → DeviceState → Type 0) → Option (List ℕ) → DeviceState → DeviceState → Type 0
 TellsUnmade Writes text old new = OfBytes text (λ lines. (printed : List ℕ) × Writes old printed new × (PrintsBadAnnotation lines printed ⊎ (IsAnnotations lines × PrintsUnmade printed)))
 
--- a certificate was made for the ROM and the annotations that the files hold, and this holds of it
-abbrev pub OnMade : Option (List ℕ) → Option (List ℕ) → (Contents → Type 0) → Type 0
-OnMade rom text Holds = OfFiles rom text (λ bytes lines. (certificate : Contents) × IsMade bytes lines certificate × Holds certificate)
+-- a certificate was made for the ROM and the annotations in the files, and the property holds of it
+abbrev pub OnMade : Option (List ℕ) → Option (List ℕ) → (CertificateView → Type 0) → Type 0
+OnMade rom text Holds = OfFiles rom text (λ bytes lines. (certificate : CertificateView) × IsMade bytes lines certificate × Holds certificate)
 
--- its text was written to a sink
-abbrev pub Keeps : (DeviceState → List ℕ → DeviceState → Type 0) → Option (List ℕ) → Option (List ℕ) → DeviceState → DeviceState → Type 0
-Keeps Writes rom text old new = OnMade rom text (λ certificate. Writes old (text_of certificate) new)
+-- the text of the made certificate was written to a sink
+abbrev pub KeepsText : (DeviceState → List ℕ → DeviceState → Type 0) → Option (List ℕ) → Option (List ℕ) → DeviceState → DeviceState → Type 0
+KeepsText Writes rom text old new = OnMade rom text (λ certificate. Writes old (text_of certificate) new)
 
--- its text was kept whole in a sink, and its table was written to another
+-- the text of the made certificate was kept whole in a sink, and its table was written to another one
 abbrev pub KeepsAndTells : (DeviceState → List ℕ → DeviceState → Type 0) → Option (List ℕ) → Option (List ℕ) → DeviceState → DeviceState → DeviceState → DeviceState → Type 0
 KeepsAndTells Writes rom text keep_old keep_new old new =
     OnMade rom text (λ certificate. Takes keep_old (text_of certificate) keep_new × Writes old (accepted_text certificate) new)

@@ -1,4 +1,4 @@
--- The definitions of the commands.
+-- Definitions of the commands.
 pub mod Annotating
 pub mod Checking
 pub mod Judging

@@ -1,12 +1,13 @@
 -- What `galcert migrate` writes, and when (docs/PROGRAM.md).
 use Rattle.std.specs.Prelude.{ℕ, List, Option}
-use Rattle.cert_order.specs.Contents.{Contents, migrated}
-use Rattle.cert_order.specs.Text.{text_of}
+use Rattle.cert_form.specs.Contents.{CertificateView}
+use Rattle.cert_form.specs.Migrated.{migrated}
+use Rattle.cert_form.specs.Text.{text_of}
 use Rattle.certificate.specs.Pieces.{OfBytes}
 use Rattle.texts.specs.Device.{DeviceState}
-use Rattle.commands.specs.Judging.{IsTextOf}
+use Rattle.commands.specs.Judging.{IsCertificateText}
 
--- the file holds a certificate, and the text of that certificate migrated was written to a sink: whole (`Takes`), or it failed amid it
--- (`FailsAmid`)
+-- the file holds a certificate, and the text of that certificate migrated was written: the sink took it whole
+-- (`Takes`), or it failed inside it (`FailsAmid`)
 abbrev pub TellsMigrated : (DeviceState → List ℕ → DeviceState → Type 0) → Option (List ℕ) → DeviceState → DeviceState → Type 0
-TellsMigrated Writes text old new = OfBytes text (λ lines. (certificate : Contents) × IsTextOf certificate lines × Writes old (text_of (migrated certificate)) new)
+TellsMigrated Writes text old new = OfBytes text (λ lines. (certificate : CertificateView) × IsCertificateText certificate lines × Writes old (text_of (migrated certificate)) new)

@@ -1,30 +1,39 @@
-// The annotations in a file.
+// Reads annotations from a source.
 
 ghost use Rattle.std.specs.Prelude.{◌≡◌, ◌≢◌, ◌⊎◌, IfOk, OnOk};
 ghost use Rattle.certificate.specs.Pieces.{OfBytes};
 ghost use Rattle.commands.specs.Annotating.{SaysOfWhole, WritesBadAnnotation};
-ghost use Rattle.texts.specs.Device.{FailsAmid, HasFailed, IsQuiet, Takes};
+ghost use Rattle.texts.specs.Device.{FailsAmid, HasFailed, CountsNoFailure, Takes};
 
 use crate::reading::read_all;
 use crate::stop::Stop;
 use annotations::{AnnotationFault, Annotations};
+use command_verdicts::write_bad_key;
 use std::alloc::Global;
 use texts::{Sink, Source, put};
-use verdicts::write_bad_key;
 
-/// Reads annotations. Where the text is none, the line that says why is written.
+/// Reads annotations. If they are bad, the line that reports it is written.
 pub fn read_annotations<B: Source, W: Sink>(
     alloc: Global,
     annot: &mut B,
     out: &mut W,
 ) -> Result<Annotations, Stop>
-    ensures said { IfOk result (λ said. OfBytes (B.state annot.old).bytes (λ text. SaysOfWhole text said)) }
+    ensures said { IfOk result
+        (λ said. OfBytes (B.state annot.old).bytes (λ text. SaysOfWhole text said)) }
     ensures kept { OnOk result (out.new ≡ out.old) }
-    ensures refused { result ≡ Err Stop.Refused → WritesBadAnnotation Takes (B.state annot.old).bytes (W.state out.old) (W.state out.new) }
-    ensures device { result ≡ Err Stop.Device → HasFailed (B.state annot.old) (B.state annot.new) ⊎ HasFailed (W.state out.old) (W.state out.new) }
-    ensures part { result ≡ Err Stop.Device → (out.new ≡ out.old) ⊎ WritesBadAnnotation FailsAmid (B.state annot.old).bytes (W.state out.old) (W.state out.new) }
-    ensures told { result ≢ Err Stop.Device → IsQuiet (B.state annot.old) (B.state annot.new) × IsQuiet (W.state out.old) (W.state out.new) }
-    ensures order { IsQuiet (B.state annot.old) (B.state annot.new) ⊎ (out.new ≡ out.old) }
+    ensures refused { result ≡ Err Stop.Refused
+        → WritesBadAnnotation Takes (B.state annot.old).bytes (W.state out.old) (W.state out.new) }
+    ensures device { result ≡ Err Stop.Device
+        → HasFailed (B.state annot.old) (B.state annot.new)
+        ⊎ HasFailed (W.state out.old) (W.state out.new) }
+    ensures part { result ≡ Err Stop.Device
+        → (out.new ≡ out.old)
+        ⊎ WritesBadAnnotation FailsAmid (B.state annot.old).bytes (W.state out.old)
+        (W.state out.new) }
+    ensures told { result ≢ Err Stop.Device
+        → CountsNoFailure (B.state annot.old) (B.state annot.new)
+        × CountsNoFailure (W.state out.old) (W.state out.new) }
+    ensures order { CountsNoFailure (B.state annot.old) (B.state annot.new) ⊎ (out.new ≡ out.old) }
     ensures memory { result ≡ Err Stop.OutOfMemory → out.new ≡ out.old }
 {
     let text = match read_all(alloc, annot) {
@@ -38,7 +47,7 @@ pub fn read_annotations<B: Source, W: Sink>(
             Err(Stop::Refused)
         }
         Err(AnnotationFault::Key(key)) => {
-            write_bad_key(key.as_bytes(), out)?;
+            write_bad_key(key.as_str(), out)?;
             Err(Stop::Refused)
         }
         Err(AnnotationFault::NoMemory) => Err(Stop::OutOfMemory),

@@ -1,29 +1,30 @@
 // `galcert check`.
 
 ghost use Rattle.std.specs.Prelude.{◌≡◌, ◌≢◌, ◌⊎◌, OnErr, OnOk};
-ghost use Rattle.cert_order.specs.Text.{text_of};
-ghost use Rattle.commands.specs.Checking.{Keeps, KeepsAndTells, TellsUnmade};
+ghost use Rattle.cert_form.specs.Text.{text_of};
+ghost use Rattle.commands.specs.Checking.{KeepsText, KeepsAndTells, TellsUnmade};
 ghost use Rattle.commands.specs.Reading.{GivesUpTo};
 ghost use Rattle.commands.specs.Status.{IsStatus};
-ghost use Rattle.texts.specs.Device.{FailsAmid, HasFailed, IsQuiet, Takes};
-ghost use Rattle.verdicts.specs.Verdict.{accepted_text};
+ghost use Rattle.texts.specs.Device.{FailsAmid, HasFailed, CountsNoFailure, Takes};
+ghost use Rattle.command_verdicts.specs.Verdict.{accepted_text};
 
 use crate::annotating::read_annotations;
+use crate::exit_status::ExitStatus;
 use crate::making::make;
 use crate::reading::read_rom;
-use crate::stop::{DONE, Stop};
+use crate::stop::Stop;
 use certificate::{Certificate, write};
+use command_verdicts::write_table;
 use std::alloc::Global;
 use texts::{DeviceFault, Sink, Source};
-use verdicts::write_table;
 
-/// `galcert check ROM ANNOT [--cert FILE]`: makes a certificate for a ROM by what annotations say, keeps its text and then
-/// writes the table; or writes the refusal (docs/PROGRAM.md). The ROM is read first, up to its 16,385th byte, then the annotations to
-/// their end. Bad annotations are told before anything of the ROM is judged. `keep` is asked only once a certificate is accepted, and
-/// `out` for the table only once `keep` took the whole text.
+/// `galcert check ROM ANNOT [--cert FILE]`: makes a certificate for a ROM by its annotations, writes its text to `keep`
+/// and then the table to `out`; or writes the refusal to `out` (docs/PROGRAM.md). The ROM is read first, up to its
+/// 16,385th byte, then the annotations to their end. Bad annotations are reported before anything of the ROM is judged.
+/// `keep` is used only for an accepted certificate, and the table is written only after `keep` took the whole text.
 ///
-/// Gives the exit status: 0 accepted, 1 refused or bad annotations, 3 a device failed, 4 memory ran out. What was written before
-/// a device failed stays.
+/// The result is the exit status: 0 accepted, 1 refused or bad annotations, 3 a device failed, 4 memory was refused.
+/// What was written before a device failed stays.
 pub fn check_on<A: Source, B: Source, K: Sink, W: Sink>(
     alloc: Global,
     rom: &mut A,
@@ -31,21 +32,40 @@ pub fn check_on<A: Source, B: Source, K: Sink, W: Sink>(
     keep: &mut K,
     out: &mut W,
 ) -> u8
-    // What each status says, and of which bytes.
+    // What each status means, and for which bytes.
     ensures known { IsStatus result }
-    ensures accepted { result ≡ 0 → KeepsAndTells Takes (A.state rom.old).bytes (B.state annot.old).bytes (K.state keep.old) (K.state keep.new) (W.state out.old) (W.state out.new) }
-    ensures refused { result ≡ 1 → (keep.new ≡ keep.old) × TellsUnmade Takes (B.state annot.old).bytes (W.state out.old) (W.state out.new) }
-    ensures device { result ≡ 3 → HasFailed (A.state rom.old) (A.state rom.new) ⊎ (HasFailed (B.state annot.old) (B.state annot.new) ⊎ (HasFailed (K.state keep.old) (K.state keep.new) ⊎ HasFailed (W.state out.old) (W.state out.new))) }
-    ensures part { result ≡ 3 → ((keep.new ≡ keep.old) × ((out.new ≡ out.old) ⊎ TellsUnmade FailsAmid (B.state annot.old).bytes (W.state out.old) (W.state out.new)))
-        ⊎ (((out.new ≡ out.old) × Keeps FailsAmid (A.state rom.old).bytes (B.state annot.old).bytes (K.state keep.old) (K.state keep.new))
+    ensures accepted { result ≡ 0
+        → KeepsAndTells Takes (A.state rom.old).bytes (B.state annot.old).bytes (K.state keep.old)
+        (K.state keep.new) (W.state out.old) (W.state out.new) }
+    ensures refused { result ≡ 1
+        → (keep.new ≡ keep.old)
+        × TellsUnmade Takes (B.state annot.old).bytes (W.state out.old) (W.state out.new) }
+    ensures device { result ≡ 3
+        → HasFailed (A.state rom.old) (A.state rom.new)
+        ⊎ (HasFailed (B.state annot.old) (B.state annot.new)
+        ⊎ (HasFailed (K.state keep.old) (K.state keep.new)
+        ⊎ HasFailed (W.state out.old) (W.state out.new))) }
+    ensures part { result ≡ 3
+        → ((keep.new ≡ keep.old)
+        × ((out.new ≡ out.old)
+        ⊎ TellsUnmade FailsAmid (B.state annot.old).bytes (W.state out.old) (W.state out.new)))
+        ⊎ (((out.new ≡ out.old) × KeepsText FailsAmid (A.state rom.old).bytes (B.state annot.old).bytes (K.state keep.old) (K.state keep.new))
         ⊎ KeepsAndTells FailsAmid (A.state rom.old).bytes (B.state annot.old).bytes (K.state keep.old) (K.state keep.new) (W.state out.old) (W.state out.new)) }
-    ensures told { result ≢ 3 → IsQuiet (A.state rom.old) (A.state rom.new) × IsQuiet (B.state annot.old) (B.state annot.new) × IsQuiet (K.state keep.old) (K.state keep.new) × IsQuiet (W.state out.old) (W.state out.new) }
+    ensures told { result ≢ 3
+        → CountsNoFailure (A.state rom.old) (A.state rom.new)
+        × CountsNoFailure (B.state annot.old) (B.state annot.new)
+        × CountsNoFailure (K.state keep.old) (K.state keep.new)
+        × CountsNoFailure (W.state out.old) (W.state out.new) }
     ensures memory { result ≡ 4 → (keep.new ≡ keep.old) × (out.new ≡ out.old) }
-    // The order of the devices: behind one that failed none is asked.
-    ensures rom_first { IsQuiet (A.state rom.old) (A.state rom.new) ⊎ ((annot.new ≡ annot.old) × (keep.new ≡ keep.old) × (out.new ≡ out.old)) }
-    ensures annot_next { IsQuiet (B.state annot.old) (B.state annot.new) ⊎ ((keep.new ≡ keep.old) × (out.new ≡ out.old)) }
-    ensures keep_next { IsQuiet (K.state keep.old) (K.state keep.new) ⊎ (out.new ≡ out.old) }
-    ensures rom_limit { HasFailed (A.state rom.old) (A.state rom.new) ⊎ GivesUpTo 16385 (A.state rom.old) (A.state rom.new) }
+    // The order of the devices: after one failed, no other is used.
+    ensures rom_first { CountsNoFailure (A.state rom.old) (A.state rom.new)
+        ⊎ ((annot.new ≡ annot.old) × (keep.new ≡ keep.old) × (out.new ≡ out.old)) }
+    ensures annot_next { CountsNoFailure (B.state annot.old) (B.state annot.new)
+        ⊎ ((keep.new ≡ keep.old) × (out.new ≡ out.old)) }
+    ensures keep_next { CountsNoFailure (K.state keep.old) (K.state keep.new)
+        ⊎ (out.new ≡ out.old) }
+    ensures rom_limit { HasFailed (A.state rom.old) (A.state rom.new)
+        ⊎ GivesUpTo 16385 (A.state rom.old) (A.state rom.new) }
 {
     let bytes = match read_rom(alloc, rom) {
         Ok(bytes) => bytes,
@@ -60,19 +80,22 @@ pub fn check_on<A: Source, B: Source, K: Sink, W: Sink>(
         Err(stop) => return stop.status(),
     };
     match keep_and_tell(accepted.certificate(), keep, out) {
-        Ok(()) => DONE,
-        Err(DeviceFault) => Stop::Device.status(),
+        Ok(()) => ExitStatus::Done.code(),
+        Err(DeviceFault) => ExitStatus::Device.code(),
     }
 }
 
-/// Writes a certificate's text to `keep`, and then its table to `out`.
 fn keep_and_tell<K: Sink, W: Sink>(
     certificate: &Certificate,
     keep: &mut K,
     out: &mut W,
 ) -> Result<(), DeviceFault>
-    ensures done { OnOk result (Takes (K.state keep.old) (text_of certificate.now) (K.state keep.new) × Takes (W.state out.old) (accepted_text certificate.now) (W.state out.new)) }
-    ensures part { OnErr result (((out.new ≡ out.old) × FailsAmid (K.state keep.old) (text_of certificate.now) (K.state keep.new))
+    ensures done { OnOk result
+        (Takes (K.state keep.old) (text_of certificate.now) (K.state keep.new)
+        × Takes (W.state out.old) (accepted_text certificate.now) (W.state out.new)) }
+    ensures part { OnErr result
+        (((out.new ≡ out.old)
+        × FailsAmid (K.state keep.old) (text_of certificate.now) (K.state keep.new))
         ⊎ (Takes (K.state keep.old) (text_of certificate.now) (K.state keep.new) × FailsAmid (W.state out.old) (accepted_text certificate.now) (W.state out.new))) }
 {
     write(certificate, keep)?;

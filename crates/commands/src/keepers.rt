@@ -1,71 +1,63 @@
-// What a certificate's text is kept in: a file, or nothing.
+// The devices that keep a certificate's text: a file, or nothing.
 
 ghost use Rattle.std.specs.Prelude.{◌<◌, ◌-◌, None};
-ghost use Rattle.texts.specs.Device.{HasGrown};
 
+use crate::failures::Failures;
 use std::fs;
 use std::io::Write;
 use std::rt::Files;
 use texts::{DeviceFault, Sink};
 
-/// A file that is made anew at its first write: where nothing is written, a file that is there stays as it is.
+/// A file that is created anew at its first write. If nothing is written, an existing file stays as it is.
 #[derive(Drop)]
 pub struct FileSink<'a, R: Files> {
     files: &'a R,
     path: &'a str,
     file: Option<R::File>,
-    failures: u64,
+    failures: Failures,
 }
 
 impl<'a, R: Files> FileSink<'a, R> {
-    /// The file at a path.
     pub fn new(files: &'a R, path: &'a str) -> FileSink<'a, R> {
         FileSink {
             files,
             path,
             file: None,
-            failures: 0,
+            failures: Failures::none(),
         }
-    }
-
-    fn fail(&mut self) -> DeviceFault
-        ensures { HasGrown self.old.failures self.new.failures }
-    {
-        self.failures = self.failures.saturating_add(1);
-        DeviceFault
     }
 }
 
 impl<'a, R: Files> Sink for FileSink<'a, R> {
-    ghost state = { λ s. record { bytes = None; failures = s.failures } };
+    ghost state = { λ s. record { bytes = None; failures = s.failures.count } };
 
     fn write(&mut self, bytes: &[u8]) -> Result<usize, DeviceFault> {
         if self.file.is_none() {
             match fs::create(self.files, self.path) {
                 Ok(file) => self.file = Some(file),
-                Err(_) => return Err(self.fail()),
+                Err(_) => return Err(self.failures.fail()),
             }
         }
         let written = match &mut self.file {
             Some(file) => file.write(bytes),
-            None => return Err(self.fail()),
+            None => return Err(self.failures.fail()),
         };
         match written {
             Ok(0) => {
-                self.fail();
+                self.failures.fail();
                 Ok(0)
             }
             Ok(count) => Ok(count),
-            Err(_) => Err(self.fail()),
+            Err(_) => Err(self.failures.fail()),
         }
     }
 
     fn failures(&self) -> u64 {
-        self.failures
+        self.failures.count
     }
 }
 
-/// A sink that takes everything and keeps nothing: that of `check` where no file is named.
+/// A sink that takes all bytes and keeps none, for `check` without a file.
 #[derive(Drop)]
 pub struct NullSink;
 

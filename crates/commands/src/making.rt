@@ -1,20 +1,20 @@
-// A certificate that is made for a ROM.
+// Makes a certificate for a ROM.
 
 ghost use Rattle.std.specs.Prelude.{◌≡◌, ◌≢◌, IfOk, OnErr, OnOk};
-ghost use Rattle.cert_order.specs.Text.{text_of};
+ghost use Rattle.cert_form.specs.Text.{text_of};
 ghost use Rattle.commands.specs.Checking.{WritesUnmade, said_by};
 ghost use Rattle.commands.specs.Judging.{IsAccepted};
-ghost use Rattle.texts.specs.Device.{FailsAmid, HasFailed, IsQuiet, Takes};
+ghost use Rattle.texts.specs.Device.{FailsAmid, HasFailed, CountsNoFailure, Takes};
 
 use crate::stop::Stop;
 use annotations::Annotations;
 use cert_writer::{WriterFault, analyse};
+use command_verdicts::{refused_line, unbounded_line, write_recursion};
 use runner::cert_checker::{Accepted, CheckFault, check};
 use std::alloc::Global;
 use texts::{DeviceFault, Sink, put};
-use verdicts::{refused_line, unbounded_line, write_recursion};
 
-/// Makes a certificate for a ROM by what annotations say, and checks it. Where none is made, the line that says why is
+/// Makes a certificate for a ROM by its annotations, and checks it. If none is made, the line that reports it is
 /// written.
 pub fn make<'r, W: Sink>(
     alloc: Global,
@@ -23,13 +23,16 @@ pub fn make<'r, W: Sink>(
     out: &mut W,
 ) -> Result<Accepted<'r>, Stop>
     ensures rom { IfOk result (λ accepted. accepted.rom ≡ rom.now) }
-    ensures accepted { IfOk result (λ accepted. IsAccepted rom.now (text_of accepted.certificate) accepted.certificate) }
+    ensures accepted { IfOk result
+        (λ accepted. IsAccepted rom.now (text_of accepted.certificate) accepted.certificate) }
     ensures said { IfOk result (λ accepted. said_by accepted.certificate ≡ said.now) }
     ensures kept { OnOk result (out.new ≡ out.old) }
-    ensures refused { result ≡ Err Stop.Refused → WritesUnmade Takes (W.state out.old) (W.state out.new) }
+    ensures refused { result ≡ Err Stop.Refused
+        → WritesUnmade Takes (W.state out.old) (W.state out.new) }
     ensures device { result ≡ Err Stop.Device → HasFailed (W.state out.old) (W.state out.new) }
-    ensures part { result ≡ Err Stop.Device → WritesUnmade FailsAmid (W.state out.old) (W.state out.new) }
-    ensures told { result ≢ Err Stop.Device → IsQuiet (W.state out.old) (W.state out.new) }
+    ensures part { result ≡ Err Stop.Device
+        → WritesUnmade FailsAmid (W.state out.old) (W.state out.new) }
+    ensures told { result ≢ Err Stop.Device → CountsNoFailure (W.state out.old) (W.state out.new) }
     ensures memory { result ≡ Err Stop.OutOfMemory → out.new ≡ out.old }
 {
     let certificate = match analyse(alloc, rom, said) {
@@ -48,7 +51,7 @@ pub fn make<'r, W: Sink>(
     }
 }
 
-/// Writes the line that says why no certificate is made.
+/// Writes the line that says why no certificate was made.
 fn tell<W: Sink>(fault: &WriterFault, out: &mut W) -> Result<(), DeviceFault>
     ensures told { OnOk result (WritesUnmade Takes (W.state out.old) (W.state out.new)) }
     ensures part { OnErr result (WritesUnmade FailsAmid (W.state out.old) (W.state out.new)) }

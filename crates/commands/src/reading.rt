@@ -1,26 +1,27 @@
-// Files that are read to their end.
+// Reads whole files into memory.
 
 ghost use Rattle.std.specs.Prelude.{◌≡◌, ◌≢◌, ◌≤◌, ◌<◌, ◌⊎◌, vec_len, IfOk, IfSome};
 ghost use Rattle.certificate.specs.Pieces.{OfBytes};
-ghost use Rattle.texts.specs.Device.{Gives, HasFailed, IsQuiet};
+ghost use Rattle.texts.specs.Device.{Gives, HasFailed, CountsNoFailure};
 ghost use Rattle.commands.specs.Reading.{FirstBytes, GivesUpTo};
 
 use crate::stop::Stop;
 use std::alloc::Global;
 use texts::Source;
 
-/// How many bytes are asked for at once.
+/// How many bytes one read asks for.
 const CHUNK_LEN: usize = 4096;
 
-/// One byte more than a ROM may have: more of a file is not read.
+/// One byte more than a ROM may have; of a longer file no more is read.
 const ROM_READ_LEN: usize = 16_385;
 
 /// Reads the ROM's file up to its 16,385th byte.
 pub fn read_rom<R: Source>(alloc: Global, rom: &mut R) -> Result<Vec<u8>, Stop>
     ensures first { IfOk result (λ bytes. FirstBytes 16385 (R.state rom.old).bytes bytes.items) }
     ensures device { result ≡ Err Stop.Device → HasFailed (R.state rom.old) (R.state rom.new) }
-    ensures told { result ≢ Err Stop.Device → IsQuiet (R.state rom.old) (R.state rom.new) }
-    ensures limit { HasFailed (R.state rom.old) (R.state rom.new) ⊎ GivesUpTo 16385 (R.state rom.old) (R.state rom.new) }
+    ensures told { result ≢ Err Stop.Device → CountsNoFailure (R.state rom.old) (R.state rom.new) }
+    ensures limit { HasFailed (R.state rom.old) (R.state rom.new)
+        ⊎ GivesUpTo 16385 (R.state rom.old) (R.state rom.new) }
     ensures never { result ≢ Err Stop.Refused }
 {
     let mut bytes = Vec::new(alloc);
@@ -38,11 +39,11 @@ pub fn read_rom<R: Source>(alloc: Global, rom: &mut R) -> Result<Vec<u8>, Stop>
     Ok(bytes)
 }
 
-/// Reads a file to its end.
 pub fn read_all<B: Source>(alloc: Global, file: &mut B) -> Result<Vec<u8>, Stop>
     ensures all { IfOk result (λ bytes. OfBytes (B.state file.old).bytes (λ all. all ≡ bytes.items)) }
     ensures device { result ≡ Err Stop.Device → HasFailed (B.state file.old) (B.state file.new) }
-    ensures told { result ≢ Err Stop.Device → IsQuiet (B.state file.old) (B.state file.new) }
+    ensures told { result ≢ Err Stop.Device
+        → CountsNoFailure (B.state file.old) (B.state file.new) }
     ensures never { result ≢ Err Stop.Refused }
 {
     let mut bytes = Vec::new(alloc);

@@ -1,11 +1,11 @@
-// The number of steps that a run is asked for.
+// The number of events that the caller of `run` asks for.
 
 ghost use Rattle.std.specs.Prelude.{SomeIff};
 ghost use Rattle.std.specs.Str.Parse.{digits_value};
 ghost use Rattle.commands.specs.Steps.{IsSteps};
 
-/// The number of steps that a text says, 0 to 4,294,967,295: one decimal digit or more, and leading zeros are
-/// allowed. None for any other text (docs/PROGRAM.md).
+/// The number of events that a text gives, 0 to 4,294,967,295: one decimal digit or more, leading zeros allowed. None
+/// for any other text (docs/PROGRAM.md).
 pub fn steps_of(text: &str) -> Option<u32>
     ensures { SomeIff result (IsSteps text.now) (digits_value 10 text.now) }
 {

@@ -4,24 +4,21 @@ ghost use Rattle.std.specs.Prelude.{◌≡◌, ◌≢◌};
 ghost use Rattle.commands.specs.Status.{IsFailing};
 ghost use Rattle.commands.specs.declared.stop.Stop.TheVariants.{Device, OutOfMemory};
 
+use crate::exit_status::ExitStatus;
 use std::alloc::AllocError;
 use texts::DeviceFault;
-
-/// The status of a command that ended as it was asked to: accepted, or run.
-pub(crate) const DONE: u8 = 0;
 
 /// Why a command ends early.
 #[derive(Clone, Copy)]
 pub enum Stop {
-    /// The certificate, or a line of the input, was refused, and the line that says so was written.
+    /// The certificate, the annotations or a line of the input was refused, and the line that reports it was written.
     Refused,
-    /// A device failed.
     Device,
     OutOfMemory,
 }
 
 impl Stop {
-    /// The exit status (docs/PROGRAM.md).
+    /// The exit status: 1, 3 or 4 (docs/PROGRAM.md, "Statuses").
     pub fn status(self) -> u8
         ensures refused { result ≡ 1 → self ≡ Stop.Refused }
         ensures device { result ≡ 3 → self ≡ Stop.Device }
@@ -30,9 +27,9 @@ impl Stop {
         ensures known { IsFailing result }
     {
         match self {
-            Stop::Refused => 1,
-            Stop::Device => 3,
-            Stop::OutOfMemory => 4,
+            Stop::Refused => ExitStatus::Refused.code(),
+            Stop::Device => ExitStatus::Device.code(),
+            Stop::OutOfMemory => ExitStatus::OutOfMemory.code(),
         }
     }
 }

@@ -3,7 +3,7 @@
 use clap::{Arg, ArgAction, ArgMatches, Command};
 use std::alloc::{AllocError, Global};
 
-/// The command line (docs/PROGRAM.md).
+/// The command line (docs/PROGRAM.md). The error is refused memory.
 pub fn command_line<'a>(alloc: Global) -> Result<Command<'a>, AllocError> {
     let check = Command::new(alloc, "check")
         .about("Makes a certificate for a ROM, and prints the table or the refusal")
@@ -46,10 +46,10 @@ fn cert_option<'a>(alloc: Global) -> Arg<'a> {
         .action(ArgAction::Set)
 }
 
-/// The name of that option's word.
+/// The name of that option.
 pub const CERT_FILE: &str = "cert";
 
-/// The word of an argument, which the command line requires; the empty text if there were none.
+/// The word of an argument that the command line requires; an empty text if there is none.
 pub fn word<'a>(matches: &ArgMatches<'a>, name: &str) -> &'a str {
     matches.get_str(name).unwrap_or("")
 }

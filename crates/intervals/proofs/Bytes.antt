@@ -1,9 +1,9 @@
--- Bounds on logic of bytes, and the two rotations as sums.
+-- Bounds on the logic of bytes, and the two rotations as sums.
 use Rattle.std.proofs.Common.{◌≡◌, ℕ, ◌+◌, ◌*◌, ◌/◌, ◌%◌, ◌^◌, ◌<◌, ◌≤◌, max, Bool, true, false, cond, leb, List, [], ◌∷◌, Some, refl, ◌∙◌, ap, arith, bit_or, bit_xor, find, unwrap_or}
 use Rattle.std.specs.Int.{w8, rotate_left, rotate_right}
 use Rattle.std.proofs.lemmas.Nat.{or_lt, xor_lt, or_shifted, or_comm, le_or_l, le_or_r, pow_below}
 use Rattle.std.proofs.lemmas.Bool.Decides.{nat_tests}
-use Rattle.intervals.specs.Range.{Interval, Within}
+use Rattle.intervals.specs.Range.{RangeView, Within}
 use Rattle.intervals.specs.Logic.{ones_from, rotation_left, rotation_right, with_bit_set}
 
 -- one less than a power of two
@@ -24,7 +24,7 @@ ones_from-is n =
     found_ones (λ ones. leb n ones) (0 ∷ 1 ∷ 3 ∷ 7 ∷ 15 ∷ 31 ∷ 63 ∷ 127 ∷ [])
     ((0, refl), ((1, refl), ((2, refl), ((3, refl), ((4, refl), ((5, refl), ((6, refl), ((7, refl), tt))))))))
 
--- a byte that is not above a number is not above its row of ones
+-- a byte that is at most n is at most `ones_from n`
 ones_from-above : (n a : ℕ) → a ≤ n → a ≤ 255 → a ≤ ones_from n
 ones_from-above n a h p = grind (arith, nat_tests)
 
@@ -49,14 +49,14 @@ xor_below n a b p q a_low b_low =
     let second : b < 2 ^ ones.0 = omega (arith, ones.1) in
     below_ones _ _ _ ones.1 (xor_lt ones.0 a b first second)
 
-pub or_within : (a b r : Interval) → r ≡ record { low = max a.low b.low; high = ones_from (max a.high b.high) } → (x y : ℕ) → x ≤ 255 → y ≤ 255 → Within a x → Within b y → Within r (bit_or x y)
+pub or_within : (a b r : RangeView) → r ≡ record { low = max a.low b.low; high = ones_from (max a.high b.high) } → (x y : ℕ) → x ≤ 255 → y ≤ 255 → Within a x → Within b y → Within r (bit_or x y)
 or_within a b r e x y x_low y_low in_a in_b =
     let over_x = le_or_l x y in
     let over_y = le_or_r x y in
     let below = or_below (max a.high b.high) x y (omega arith) (omega arith) x_low y_low in
     rw e (omega arith, below)
 
-pub xor_within : (a b r : Interval) → r ≡ record { low = 0; high = ones_from (max a.high b.high) } → (x y : ℕ) → x ≤ 255 → y ≤ 255 → Within a x → Within b y → Within r (bit_xor x y)
+pub xor_within : (a b r : RangeView) → r ≡ record { low = 0; high = ones_from (max a.high b.high) } → (x y : ℕ) → x ≤ 255 → y ≤ 255 → Within a x → Within b y → Within r (bit_xor x y)
 xor_within a b r e x y x_low y_low in_a in_b =
     let below = xor_below (max a.high b.high) x y (omega arith) (omega arith) x_low y_low in
     rw e (omega arith, below)

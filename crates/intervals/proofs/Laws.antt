@@ -1,9 +1,10 @@
--- Each definition of the table of results holds what the operation makes of the values of its operands. The contracts of
--- the functions say so of their results; here it is said of the definitions, for the proofs of the crates above.
+-- Each definition of the table of results contains what the operation makes of the values of its operands. The
+-- contracts of the functions say so of their results; these lemmas say so of the definitions, for the proofs of the
+-- crates above.
 use Rattle.std.proofs.Common.{◌≡◌, ◌≢◌, ℕ, ◌+◌, ◌-◌, ◌*◌, ◌/◌, ◌%◌, ◌≤◌, ◌&&◌, Bool, true, false, cond, refl, arith, rules, IsSomeAnd, bit_and, bit_or, bit_xor}
 use Rattle.std.proofs.lemmas.Bool.Decides.{nat_tests}
 use Rattle.std.proofs.lemmas.Nat.{and_le_l, and_le_r}
-use Rattle.intervals.specs.Range.{Interval, Within, single, full, intersection, without}
+use Rattle.intervals.specs.Range.{RangeView, Within, single, full, intersection, without}
 use Rattle.intervals.specs.Sums.{window, sum, sum_with_carry, difference, difference_with_carry, increment, decrement, negation, displacement_of, displacement}
 use Rattle.intervals.proofs.Bytes.{or_within, xor_within}
 use Rattle.intervals.specs.Logic.{is_single, conjunction, disjunction, exclusive_disjunction, complement, halves, doubles, of_single}
@@ -14,7 +15,7 @@ window_of_bytes low high x h k = grind (arith, nat_tests)
 pub window_of_words : (low high x : ℕ) → low ≤ x → x ≤ high → Within (window 65536 low high) (x % 65536)
 window_of_words low high x h k = grind (arith, nat_tests)
 
-module _ (a b : Interval) (x y : ℕ) (in_a : Within a x) (in_b : Within b y) where
+module _ (a b : RangeView) (x y : ℕ) (in_a : Within a x) (in_b : Within b y) where
   pub sum_of_bytes : Within (sum 256 a b) ((x + y) % 256)
   sum_of_bytes = window_of_bytes _ _ (x + y) (omega arith) (omega arith)
 
@@ -36,7 +37,7 @@ module _ (a b : Interval) (x y : ℕ) (in_a : Within a x) (in_b : Within b y) wh
   pub difference_with_carry_of_words : (carry : ℕ) → carry ≤ 1 → Within (difference_with_carry 65536 a b) ((65536 + x - y - carry) % 65536)
   difference_with_carry_of_words carry h = window_of_words _ _ (65536 + x - y - carry) (omega arith) (omega arith)
 
-module _ (a : Interval) (x : ℕ) (in_a : Within a x) where
+module _ (a : RangeView) (x : ℕ) (in_a : Within a x) where
   pub increment_of_bytes : Within (increment 256 a) ((x + 1) % 256)
   increment_of_bytes = window_of_bytes _ _ (x + 1) (omega arith) (omega arith)
 
@@ -64,17 +65,17 @@ module _ (a : Interval) (x : ℕ) (in_a : Within a x) where
   pub doubles_of_bytes : Within (doubles a) (2 * x % 256)
   doubles_of_bytes = grind (arith, nat_tests)
 
-  pub intersection_keeps : (b : Interval) → Within b x → IsSomeAnd (intersection a b) (λ r. Within r x)
+  pub intersection_keeps : (b : RangeView) → Within b x → IsSomeAnd (intersection a b) (λ r. Within r x)
   intersection_keeps b in_b = grind (arith, nat_tests)
 
   pub without_keeps : (v : ℕ) → x ≢ v → IsSomeAnd (without a v) (λ r. Within r x)
   without_keeps v other = grind (arith, nat_tests)
 
 -- ---- one value, and logic
-is_value : (a : Interval) (x : ℕ) → Within a x → is_single a ≡ true → x ≡ a.low
+is_value : (a : RangeView) (x : ℕ) → Within a x → is_single a ≡ true → x ≡ a.low
 is_value a x h e = grind (arith, nat_tests)
 
-pub of_single_holds : (f : ℕ → ℕ) (a : Interval) (x : ℕ) → Within a x → f x ≤ 255 → Within (of_single f a) (f x)
+pub of_single_holds : (f : ℕ → ℕ) (a : RangeView) (x : ℕ) → Within a x → f x ≤ 255 → Within (of_single f a) (f x)
 of_single_holds f a x h low =
     let at : (t : Bool) → is_single a ≡ t → Within (cond t (single (f a.low)) (full 256)) (f x) =
     elim [
@@ -83,8 +84,8 @@ of_single_holds f a x h low =
     ] in
     at (is_single a) refl
 
-module _ (a b : Interval) (x y : ℕ) (in_a : Within a x) (in_b : Within b y) where
-  both_values : (f : ℕ → ℕ → ℕ) (other : Interval) → Within other (f x y) → Within (cond (is_single a && is_single b) (single (f a.low b.low)) other) (f x y)
+module _ (a b : RangeView) (x y : ℕ) (in_a : Within a x) (in_b : Within b y) where
+  both_values : (f : ℕ → ℕ → ℕ) (other : RangeView) → Within other (f x y) → Within (cond (is_single a && is_single b) (single (f a.low b.low)) other) (f x y)
   both_values f other h =
       let at : (s t : Bool) → is_single a ≡ s → is_single b ≡ t → Within (cond (s && t) (single (f a.low b.low)) other) (f x y) =
       elim [

@@ -1,4 +1,4 @@
--- The definitions: ranges, pairs of registers, and what operations make of ranges.
+-- The definitions: ranges, register pairs, and the abstract operations on ranges.
 pub mod Domain
 pub mod Range
 pub mod RegPair

@@ -1,11 +1,11 @@
--- The laws of `Domain` at a pair, proved.
+-- The laws of `Domain` for pairs, proved.
 use Rattle.std.specs.Prelude.{◌≡◌, ℕ, ◌==◌, cond, Bool, true, false, refl, Option, Some, None, IfSome}
 use Rattle.std.proofs.Common.{arith, rules, sym, ◌∙◌, ap, eqb}
 use Rattle.intervals.specs.declared.pair.Pair.{Pair}
 use Rattle.intervals.specs.declared.reg_pair.RegPair.{RegPair}
 use Rattle.intervals.specs.declared.reg_pair.RegPair.TheVariants.{Af, Bc, De, Hl, Ix, Iy, AlternateAf, AlternateBc, AlternateDe, AlternateHl}
 use Rattle.intervals.specs.Domain.{Entry}
-use Rattle.intervals.specs.RegPair.{place_of}
+use Rattle.intervals.specs.RegPair.{place_of_pair}
 use Rattle.intervals.specs.Pair.{HoldsPair, CoversPair, hull_of_pairs, shared_origin}
 
 -- the pair at a place
@@ -13,7 +13,7 @@ pair_at : ℕ → RegPair
 pair_at n = cond (n == 0) Af (cond (n == 1) Bc (cond (n == 2) De (cond (n == 3) Hl (cond (n == 4) Ix
     (cond (n == 5) Iy (cond (n == 6) AlternateAf (cond (n == 7) AlternateBc (cond (n == 8) AlternateDe AlternateHl))))))))
 
-pair_at-place : (r : RegPair) → pair_at (place_of r) ≡ r
+pair_at-place : (r : RegPair) → pair_at (place_of_pair r) ≡ r
 unfolding pair_at
 pair_at-place Af = refl
 pair_at-place Bc = refl
@@ -26,8 +26,8 @@ pair_at-place AlternateBc = refl
 pair_at-place AlternateDe = refl
 pair_at-place AlternateHl = refl
 
--- two pairs at one place are one
-pub same_from_place : (r s : RegPair) → place_of r ≡ place_of s → r ≡ s
+-- two pairs at the same place are equal
+pub same_from_place : (r s : RegPair) → place_of_pair r ≡ place_of_pair s → r ≡ s
 same_from_place r s e = sym (pair_at-place r) ∙ ap pair_at e ∙ pair_at-place s
 
 abbrev CoversOrigin : Option RegPair → Option RegPair → Type 0
@@ -51,15 +51,15 @@ shared_first : (a b : Option RegPair) → CoversOrigin (shared_origin a b) a
 shared_first None b = tt
 shared_first (Some r) None = tt
 shared_first (Some r) (Some s) =
-    elim (place_of r == place_of s) as (λ t. CoversOrigin (cond t (Some r) None) (Some r)) [ true ↦ refl | false ↦ tt ]
+    elim (place_of_pair r == place_of_pair s) as (λ t. CoversOrigin (cond t (Some r) None) (Some r)) [ true ↦ refl | false ↦ tt ]
 
 shared_second : (a b : Option RegPair) → CoversOrigin (shared_origin a b) b
 shared_second None b = tt
 shared_second (Some r) None = tt
 shared_second (Some r) (Some s) =
-    let at : (t : Bool) → eqb (place_of r) (place_of s) ≡ t → CoversOrigin (cond t (Some r) None) (Some s) =
+    let at : (t : Bool) → eqb (place_of_pair r) (place_of_pair s) ≡ t → CoversOrigin (cond t (Some r) None) (Some s) =
     elim [ true ↦ λ e. ap Some (sym (same_from_place r s (search rules))) | false ↦ λ e. tt ] in
-    at (eqb (place_of r) (place_of s)) refl
+    at (eqb (place_of_pair r) (place_of_pair s)) refl
 
 pub covers_itself : (a : Pair) → CoversPair a a
 covers_itself a =

@@ -1,4 +1,4 @@
-// Ranges of bytes: how they are made, what they hold, cuts and joins.
+// Ranges of bytes: constructors, membership, cuts and joins.
 ghost use Rattle.std.specs.Prelude.{◌≡◌, ℕ, ◌≤◌, ◌≢◌, ◌↔◌, IsTrue, SomeIff, IsSomeAnd};
 ghost use Rattle.std.proofs.Common.{rules};
 ghost use Rattle.intervals.specs.Range.{Within, Covers, Meets, single, full, between, hull, intersection, without};
@@ -38,7 +38,7 @@ impl ByteRange {
         }
     }
 
-    /// The bytes up to a bound, which is included.
+    /// The bytes from 0 to `bound`, both included.
     pub fn at_most(bound: u8) -> ByteRange
         ensures { result ≡ record { low = 0; high = bound } }
     {
@@ -48,7 +48,7 @@ impl ByteRange {
         }
     }
 
-    /// The bytes from a bound on, which is included.
+    /// The bytes from `bound` to 255, both included.
     pub fn at_least(bound: u8) -> ByteRange
         ensures { result ≡ record { low = bound; high = 255 } }
     {
@@ -58,7 +58,7 @@ impl ByteRange {
         }
     }
 
-    /// The lowest byte.
+    /// The lower bound.
     pub fn low(self) -> u8
         ensures value { result ≡ self.low }
         ensures order { self.low ≤ self.high }
@@ -67,7 +67,7 @@ impl ByteRange {
         self.low
     }
 
-    /// The highest byte.
+    /// The upper bound.
     pub fn high(self) -> u8
         ensures value { result ≡ self.high }
         ensures order { self.low ≤ self.high }
@@ -76,7 +76,7 @@ impl ByteRange {
         self.high
     }
 
-    /// The byte, where the range is one byte.
+    /// The byte if the range has only one, else None.
     pub fn value(self) -> Option<u8>
         ensures { SomeIff result (self.low ≡ self.high) self.low }
     {
@@ -104,15 +104,16 @@ impl ByteRange {
         self.low <= other.high && other.low <= self.high
     }
 
-    /// The bytes that lie in both ranges, or None where there are none.
+    /// The bytes that lie in both ranges, or None if there are none.
     pub fn intersection(self, other: ByteRange) -> Option<ByteRange>
         ensures exact { result ≡ intersection self other }
-        ensures keeps { (x : ℕ) → Within self x → Within other x → IsSomeAnd result (λ r. Within r x) }
+        ensures keeps { (x : ℕ) → Within self x → Within other x
+            → IsSomeAnd result (λ r. Within r x) }
     {
         ByteRange::new(self.low.max(other.low), self.high.min(other.high))
     }
 
-    /// The range with one byte cut from its ends, or None where nothing is left. A byte between the ends stays.
+    /// The range without `value` if that is a bound; None if nothing is left. A value between the bounds stays.
     pub fn without(self, value: u8) -> Option<ByteRange>
         ensures exact { result ≡ without self value }
         ensures keeps { (x : ℕ) → Within self x → x ≢ value → IsSomeAnd result (λ r. Within r x) }
@@ -143,12 +144,11 @@ impl Domain for ByteRange {
 
     ghost joins_second = { Prim.search rules };
 
-    /// Whether each byte of the other range lies in this one.
     fn covers(&self, other: &Self) -> bool {
         self.low <= other.low && other.high <= self.high
     }
 
-    /// The least range that covers both.
+    /// The hull: the smallest range that contains both.
     fn join(&self, other: &Self) -> Self {
         ByteRange {
             low: self.low.min(other.low),

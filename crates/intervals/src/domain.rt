@@ -1,9 +1,9 @@
-// What ranges and pairs have in common: covering and joining.
+// What ranges and pairs have in common: covering and joins.
 ghost use Rattle.std.specs.Prelude.{◌≡◌, ℕ, ◌↔◌, IsTrue};
 ghost use Rattle.intervals.specs.Domain.{Entry};
 
-/// What is known of a value of a running program. Its meaning is the set of values for which it holds, given what
-/// each pair was when the activation was entered; ranges alone don't depend on the entry.
+/// What is known of a value of the running program. It holds of a set of values, given what each register pair was at
+/// the activation's entry. For ranges the entry does not matter.
 pub trait Domain: Sized {
     ghost holds: { Self → Entry → ℕ → Type 0 };
 
@@ -11,11 +11,11 @@ pub trait Domain: Sized {
 
     ghost joined: { Self → Self → Self };
 
-    /// Whether this knowledge is implied by the other: it then holds wherever the other does.
+    /// Whether this value holds wherever the other does.
     fn covers(&self, other: &Self) -> bool
         ensures { IsTrue result ↔ Covers self.now other.now };
 
-    /// Knowledge that covers both.
+    /// A value that covers both.
     fn join(&self, other: &Self) -> Self
         ensures { result ≡ joined self.now other.now };
 

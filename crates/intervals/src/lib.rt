@@ -1,4 +1,5 @@
-// Ranges of bytes, words and register pairs, and what the operations of the Z80 make of them (docs/CHECKER.md).
+// Ranges of bytes, words and register pairs, with the abstract operations of the Z80 on them (docs/CHECKER.md, "Ranges
+// and their normal form").
 #![tactic(auto)]
 
 mod byte_range;

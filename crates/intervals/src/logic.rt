@@ -1,11 +1,11 @@
-// Logic, shifts and rotates of ranges of bytes.
+// Logic, shifts and rotates of byte ranges.
 ghost use Rattle.std.specs.Prelude.{◌≡◌, ◌≤◌, ◌-◌, ◌*◌, ◌/◌, ◌%◌, bit_and, bit_or, bit_xor};
 ghost use Rattle.intervals.specs.Range.{single, TakesInto, TakesBothInto};
 ghost use Rattle.intervals.specs.Logic.{ones_from, conjunction, disjunction, exclusive_disjunction, complement, halves, doubles, of_single, rotation_left, rotation_right, with_bit_set, with_bit_reset};
 
 use crate::range::ByteRange;
 
-/// The least of 0, 1, 3, 7 .. 255 that is not below the byte.
+/// The least of 0, 1, 3, 7 .. 255 that is not below `byte`.
 fn ones_from(byte: u8) -> u8
     ensures value { result ≡ ones_from byte }
     ensures above { byte ≤ result }
@@ -24,7 +24,7 @@ fn ones_from(byte: u8) -> u8
 }
 
 /// Logic, shifts and rotates of bytes (UM0080, "8-Bit Arithmetic Group", "General-Purpose Arithmetic" and "Rotate and
-/// Shift Group"). The instructions that are not here give full.
+/// Shift Group"). An instruction that is not here gives the full range.
 impl ByteRange {
     /// AND s.
     pub fn and(self, other: ByteRange) -> ByteRange
@@ -123,7 +123,7 @@ impl ByteRange {
         }
     }
 
-    /// SET b,r, where bit 0 is the lowest and 7 the highest. A greater number counts modulo 8.
+    /// SET b,r. Bit 0 is the lowest, bit 7 the highest; `bit` counts modulo 8.
     #[tactic(auto, using(crate::proofs::Bytes::with_bit_set_below))]
     pub fn with_bit_set(self, bit: u8) -> ByteRange
         ensures exact { result ≡ of_single (with_bit_set bit) self }
@@ -135,7 +135,7 @@ impl ByteRange {
         }
     }
 
-    /// RES b,r, where bit 0 is the lowest and 7 the highest. A greater number counts modulo 8.
+    /// RES b,r. Bit 0 is the lowest, bit 7 the highest; `bit` counts modulo 8.
     pub fn with_bit_reset(self, bit: u8) -> ByteRange
         ensures exact { result ≡ of_single (with_bit_reset bit) self }
         ensures contains { TakesInto (with_bit_reset bit) self result }

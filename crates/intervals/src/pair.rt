@@ -1,4 +1,4 @@
-// Pairs of registers: the ranges of their word and bytes, and their origin.
+// Register pairs: the ranges of the word and of its bytes, and the origin.
 ghost use Rattle.std.specs.Prelude.{◌≡◌, ℕ, ◌+◌, ◌*◌, ◌/◌, ◌%◌, ◌≤◌, ◌≢◌, ◌↔◌, IsTrue, Some, IsSomeAnd};
 ghost use Rattle.intervals.specs.Domain.{Entry};
 ghost use Rattle.intervals.specs.Range.{Within, intersection, without};
@@ -7,9 +7,10 @@ use crate::domain::Domain;
 use crate::range::{ByteRange, WordRange};
 use crate::reg_pair::RegPair;
 
-/// What is known of a pair of registers or of a word on the stack: the range of the word, those of its high and its
-/// low byte, and whether it is what some pair was when the activation was entered. A pair that a certificate gives
-/// needs no normal form: its ranges may contradict one another, and it then holds of no value.
+/// What is known of a register pair or of a word on the stack: the range of the word, those of its high and low byte,
+/// and perhaps the origin. The origin is the register pair whose value at the activation's entry this word still is. A
+/// pair that a certificate gives need not be in normal form. Its ranges may contradict one another; then it holds of no
+/// word.
 #[derive(Clone, Copy, PartialEq, Eq, Hash)]
 pub struct Pair {
     pub word: WordRange,
@@ -21,7 +22,7 @@ pub struct Pair {
 impl WordRange {
     ghost use Rattle.intervals.specs.Pair.{words_of, high_bytes, low_bytes};
 
-    /// The words that the ends of two ranges of bytes make.
+    /// The words made of the lower bounds and of the upper bounds.
     pub fn of_bytes(high: ByteRange, low: ByteRange) -> WordRange
         ensures { result ≡ words_of high low }
     {
@@ -31,7 +32,7 @@ impl WordRange {
         }
     }
 
-    /// The range of the high bytes of its words.
+    /// The range of the high bytes of the words.
     pub fn high_bytes(self) -> ByteRange
         ensures { result ≡ high_bytes self }
     {
@@ -41,7 +42,7 @@ impl WordRange {
         }
     }
 
-    /// The range of the low bytes of its words, where they all have one high byte.
+    /// The range of the low bytes of the words, if all have the same high byte; else None.
     pub fn low_bytes(self) -> Option<ByteRange>
         ensures { result ≡ low_bytes self }
     {
@@ -59,7 +60,7 @@ impl WordRange {
 impl Pair {
     ghost use Rattle.intervals.specs.Pair.{HoldsPair, MeetsPair, full_pair, normal_form, written_word, written_bytes, with_word_cut, with_high_cut, with_low_cut};
 
-    /// A pair of which nothing is known.
+    /// A pair about which nothing is known.
     pub fn full() -> Pair
         ensures { result ≡ full_pair }
     {
@@ -71,7 +72,7 @@ impl Pair {
         }
     }
 
-    /// A pair of which only its origin is known.
+    /// A pair with an origin and full ranges.
     pub fn of_origin(origin: RegPair) -> Pair
         ensures { result ≡ record full_pair { origin = Some origin } }
     {
@@ -81,22 +82,22 @@ impl Pair {
         }
     }
 
-    /// Whether the three ranges are full; the origin doesn't matter.
+    /// Whether all three ranges are full, whatever the origin.
     pub fn is_full(self) -> bool
         ensures { IsTrue result ↔ (record self { origin = full_pair.origin } ≡ full_pair) }
     {
         self.word.is_full() && self.high.is_full() && self.low.is_full()
     }
 
-    /// Whether, range by range, the pairs share a value. Origins don't matter.
+    /// Whether the words share a value, the high bytes do, and the low bytes do. Origins are not compared.
     pub fn meets(self, other: Pair) -> bool
         ensures { IsTrue result ↔ MeetsPair self other }
     {
         self.word.meets(other.word) && self.high.meets(other.high) && self.low.meets(other.low)
     }
 
-    /// The normal form, made of three cuts, or None where one of them leaves nothing. It may not be its own normal
-    /// form.
+    /// The pair after the three cuts of the normal form, or None if one of them leaves nothing. The cuts are not
+    /// repeated, so the result need not be its own normal form (docs/CHECKER.md, "Ranges and their normal form").
     pub fn normal_form(self) -> Option<Pair>
         ensures exact { result ≡ normal_form self }
         ensures keeps { (entry : Entry) (v : ℕ) → HoldsPair self entry v
@@ -116,7 +117,7 @@ impl Pair {
         })
     }
 
-    /// A pair that a word was written into, which makes its bytes full first. It has no origin, and is in normal form.
+    /// The pair after a word was written: the bytes get what the word leaves of them. No origin; in normal form.
     pub fn of_word(word: WordRange) -> Pair
         ensures exact { result ≡ written_word word }
         ensures normal { normal_form (record full_pair { word = word }) ≡ Some result }
@@ -130,7 +131,7 @@ impl Pair {
         }
     }
 
-    /// A pair that two bytes were written into, which make its word. It has no origin, and is in normal form.
+    /// The pair after both bytes were written: the word is made of them. No origin; in normal form.
     pub fn of_bytes(high: ByteRange, low: ByteRange) -> Pair
         ensures exact { result ≡ written_bytes high low }
         ensures normal { normal_form result ≡ Some result }
@@ -145,7 +146,7 @@ impl Pair {
         }
     }
 
-    /// The pair after its high byte was written. It has no origin.
+    /// The pair after its high byte was written. No origin.
     pub fn with_high(self, high: ByteRange) -> Pair
         ensures exact { result ≡ written_bytes high self.low }
         ensures contains { (entry : Entry) (v x : ℕ) → HoldsPair self entry v → Within high x
@@ -154,7 +155,7 @@ impl Pair {
         Pair::of_bytes(high, self.low)
     }
 
-    /// The pair after its low byte was written. It has no origin.
+    /// The pair after its low byte was written. No origin.
     pub fn with_low(self, low: ByteRange) -> Pair
         ensures exact { result ≡ written_bytes self.high low }
         ensures contains { (entry : Entry) (v y : ℕ) → HoldsPair self entry v → Within low y
@@ -163,7 +164,7 @@ impl Pair {
         Pair::of_bytes(self.high, low)
     }
 
-    /// The pair with its word cut to a range, in normal form, or None where nothing is left.
+    /// The normal form of the pair with its word cut to a range, or None if nothing is left. The origin stays.
     pub fn cut_word(self, to: WordRange) -> Option<Pair>
         ensures exact { result ≡ with_word_cut self (intersection self.word to) }
         ensures keeps { (entry : Entry) (v : ℕ) → HoldsPair self entry v → Within to v
@@ -173,7 +174,7 @@ impl Pair {
         Pair { word, ..self }.normal_form()
     }
 
-    /// The pair with its high byte cut to a range, in normal form, or None where nothing is left.
+    /// The normal form of the pair with its high byte cut to a range, or None if nothing is left. The origin stays.
     pub fn cut_high(self, to: ByteRange) -> Option<Pair>
         ensures exact { result ≡ with_high_cut self (intersection self.high to) }
         ensures keeps { (entry : Entry) (v : ℕ) → HoldsPair self entry v → Within to (v / 256)
@@ -183,7 +184,7 @@ impl Pair {
         Pair { high, ..self }.normal_form()
     }
 
-    /// The pair with its low byte cut to a range, in normal form, or None where nothing is left.
+    /// The normal form of the pair with its low byte cut to a range, or None if nothing is left. The origin stays.
     pub fn cut_low(self, to: ByteRange) -> Option<Pair>
         ensures exact { result ≡ with_low_cut self (intersection self.low to) }
         ensures keeps { (entry : Entry) (v : ℕ) → HoldsPair self entry v → Within to (v % 256)
@@ -193,7 +194,8 @@ impl Pair {
         Pair { low, ..self }.normal_form()
     }
 
-    /// The pair with one value cut from the ends of its word, in normal form, or None where nothing is left.
+    /// The normal form of the pair with one value cut from the ends of its word, or None if nothing is left. The origin
+    /// stays.
     pub fn without_word(self, value: u16) -> Option<Pair>
         ensures exact { result ≡ with_word_cut self (without self.word value) }
         ensures keeps { (entry : Entry) (v : ℕ) → HoldsPair self entry v → v ≢ value
@@ -203,7 +205,8 @@ impl Pair {
         Pair { word, ..self }.normal_form()
     }
 
-    /// The pair with one value cut from the ends of its high byte, in normal form, or None where nothing is left.
+    /// The normal form of the pair with one value cut from the ends of its high byte, or None if nothing is left. The
+    /// origin stays.
     pub fn without_high(self, value: u8) -> Option<Pair>
         ensures exact { result ≡ with_high_cut self (without self.high value) }
         ensures keeps { (entry : Entry) (v : ℕ) → HoldsPair self entry v → v / 256 ≢ value
@@ -213,7 +216,8 @@ impl Pair {
         Pair { high, ..self }.normal_form()
     }
 
-    /// The pair with one value cut from the ends of its low byte, in normal form, or None where nothing is left.
+    /// The normal form of the pair with one value cut from the ends of its low byte, or None if nothing is left. The
+    /// origin stays.
     pub fn without_low(self, value: u8) -> Option<Pair>
         ensures exact { result ≡ with_low_cut self (without self.low value) }
         ensures keeps { (entry : Entry) (v : ℕ) → HoldsPair self entry v → v % 256 ≢ value
@@ -244,7 +248,7 @@ impl Domain for Pair {
 
     ghost joins_second = { hull_covers_second };
 
-    /// Range by range, and an origin of this pair has to be that of the other.
+    /// Each range covers the other's, and an origin of this pair is also the other's.
     fn covers(&self, other: &Self) -> bool {
         self.word.covers(&other.word)
             && self.high.covers(&other.high)
@@ -252,7 +256,7 @@ impl Domain for Pair {
             && (self.origin.is_none() || self.origin == other.origin)
     }
 
-    /// The hull of each range, which is not put in normal form again, and the origin that both have.
+    /// The hull of each range, not put in normal form again, with the origin if both have the same.
     fn join(&self, other: &Self) -> Self {
         Pair {
             word: self.word.join(&other.word),

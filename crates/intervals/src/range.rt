@@ -1,8 +1,8 @@
-// The types of ranges of bytes and of words.
+// Ranges of bytes and of words.
 
 use std::marker::Model;
 
-/// The bytes from one to another, both included, 0 to 255. The first is not above the second, so it holds a byte.
+/// The bytes from a lower to an upper bound, both included. The lower bound is never above the upper.
 #[derive(Clone, Copy, PartialEq, Eq, Hash)]
 pub struct ByteRange {
     pub(crate) low: u8,
@@ -11,9 +11,9 @@ pub struct ByteRange {
 
 impl Model for ByteRange {
     ghost use Rattle.std.specs.Prelude.{◌≤◌};
-    ghost use Rattle.intervals.specs.Range.{Interval};
+    ghost use Rattle.intervals.specs.Range.{RangeView};
 
-    ghost Value = { Interval };
+    ghost Value = { RangeView };
 
     ghost view = { λ r. record { low = r.low; high = r.high } };
 
@@ -22,7 +22,7 @@ impl Model for ByteRange {
     ghost inverse = { λ r. record { low = r.low; high = r.high } };
 }
 
-/// The words from one to another, both included, 0 to 65,535. The first is not above the second, so it holds a word.
+/// The words from a lower to an upper bound, both included. The lower bound is never above the upper.
 #[derive(Clone, Copy, PartialEq, Eq, Hash)]
 pub struct WordRange {
     pub(crate) low: u16,
@@ -31,9 +31,9 @@ pub struct WordRange {
 
 impl Model for WordRange {
     ghost use Rattle.std.specs.Prelude.{◌≤◌};
-    ghost use Rattle.intervals.specs.Range.{Interval};
+    ghost use Rattle.intervals.specs.Range.{RangeView};
 
-    ghost Value = { Interval };
+    ghost Value = { RangeView };
 
     ghost view = { λ r. record { low = r.low; high = r.high } };
 

@@ -1,7 +1,7 @@
-// The pairs of registers, by their names.
+// The ten register pairs.
 ghost use Rattle.std.specs.Prelude.{◌≡◌, ◌<◌};
 
-/// A pair of registers, of the main or the alternate set (UM0080, "CPU Registers").
+/// A register pair of the main or the alternate set (UM0080, "CPU Registers").
 #[derive(Clone, Copy, Debug, PartialEq, Eq, Hash)]
 pub enum RegPair {
     Af,
@@ -17,17 +17,17 @@ pub enum RegPair {
 }
 
 impl RegPair {
-    ghost use Rattle.intervals.specs.RegPair.{name_of, place_of};
+    ghost use Rattle.intervals.specs.RegPair.{name_of, place_of_pair};
 
     /// The place of the pair in the order AF BC DE HL IX IY AF' BC' DE' HL', 0 to 9.
     pub fn place(self) -> usize
-        ensures value { result ≡ place_of self }
+        ensures value { result ≡ place_of_pair self }
         ensures within { result < 10 }
     {
         self as usize
     }
 
-    /// The name of the pair, as the manual writes it: `AF`, or `AF'` for that of the alternate set.
+    /// The name of the pair in the manual's spelling: `AF`, or `AF'` for the alternate set.
     pub fn name(self) -> &'static [u8]
         ensures { result.now ≡ name_of self }
     {

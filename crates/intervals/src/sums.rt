@@ -5,7 +5,7 @@ ghost use Rattle.intervals.specs.Sums.{window, sum, sum_with_carry, difference, 
 
 use crate::range::{ByteRange, WordRange};
 
-/// The residues modulo 256 of the results from low to high, if they lie in one window.
+/// The residues modulo 256 of the results from `low` to `high` if these lie in one window, else full.
 fn bytes_in_window(low: u16, high: u16) -> ByteRange
     requires { low ≤ high }
     ensures { result ≡ window 256 low high }
@@ -20,7 +20,7 @@ fn bytes_in_window(low: u16, high: u16) -> ByteRange
     }
 }
 
-/// The residues modulo 65,536 of the results from low to high, if they lie in one window.
+/// The residues modulo 65,536 of the results from `low` to `high` if these lie in one window, else full.
 fn words_in_window(low: u32, high: u32) -> WordRange
     requires { low ≤ high }
     ensures { result ≡ window 65536 low high }
@@ -35,8 +35,8 @@ fn words_in_window(low: u32, high: u32) -> WordRange
     }
 }
 
-/// Sums and differences of bytes by the window rule (UM0080, "8-Bit Arithmetic Group"). A difference is raised by 256
-/// on the way, which changes no residue.
+/// Sums and differences of bytes by the window rule (UM0080, "8-Bit Arithmetic Group"). Differences are computed 256
+/// higher, which keeps them from going below 0 and changes no residue.
 impl ByteRange {
     /// ADD A,s.
     pub fn sum(self, other: ByteRange) -> ByteRange
@@ -48,7 +48,7 @@ impl ByteRange {
         bytes_in_window(low + other_low, high + other_high)
     }
 
-    /// ADC A,s with any carry.
+    /// ADC A,s, with either carry.
     pub fn sum_with_carry(self, other: ByteRange) -> ByteRange
         ensures exact { result ≡ sum_with_carry 256 self other }
         ensures contains { (carry : ℕ) → carry ≤ 1
@@ -59,7 +59,7 @@ impl ByteRange {
         bytes_in_window(low + other_low, high + other_high + 1)
     }
 
-    /// SUB s, and the comparison of CP s.
+    /// SUB s and CP s.
     pub fn difference(self, other: ByteRange) -> ByteRange
         ensures exact { result ≡ difference 256 self other }
         ensures contains { TakesBothInto (λ x y. (256 + x - y) % 256) self other result }
@@ -69,7 +69,7 @@ impl ByteRange {
         bytes_in_window(256 + low - other_high, 256 + high - other_low)
     }
 
-    /// SBC A,s with any carry.
+    /// SBC A,s, with either carry.
     pub fn difference_with_carry(self, other: ByteRange) -> ByteRange
         ensures exact { result ≡ difference_with_carry 256 self other }
         ensures contains { (carry : ℕ) → carry ≤ 1
@@ -108,8 +108,8 @@ impl ByteRange {
     }
 }
 
-/// Sums and differences of words by the window rule (UM0080, "16-Bit Arithmetic Group"). A difference is raised by
-/// 65,536 on the way, which changes no residue.
+/// Sums and differences of words by the window rule (UM0080, "16-Bit Arithmetic Group"). Differences are computed
+/// 65,536 higher, which keeps them from going below 0 and changes no residue.
 impl WordRange {
     /// ADD HL,ss, ADD IX,pp and ADD IY,rr.
     pub fn sum(self, other: WordRange) -> WordRange
@@ -121,7 +121,7 @@ impl WordRange {
         words_in_window(low + other_low, high + other_high)
     }
 
-    /// ADC HL,ss with any carry.
+    /// ADC HL,ss, with either carry.
     pub fn sum_with_carry(self, other: WordRange) -> WordRange
         ensures exact { result ≡ sum_with_carry 65536 self other }
         ensures contains { (carry : ℕ) → carry ≤ 1
@@ -132,7 +132,7 @@ impl WordRange {
         words_in_window(low + other_low, high + other_high + 1)
     }
 
-    /// SBC HL,ss with any carry.
+    /// SBC HL,ss, with either carry.
     pub fn difference_with_carry(self, other: WordRange) -> WordRange
         ensures exact { result ≡ difference_with_carry 65536 self other }
         ensures contains { (carry : ℕ) → carry ≤ 1
@@ -143,7 +143,7 @@ impl WordRange {
         words_in_window(65_536 + low - other_high - 1, 65_536 + high - other_low)
     }
 
-    /// INC ss, INC IX and INC IY, and HL and DE where a block instruction counts up.
+    /// INC ss, INC IX and INC IY; also HL and DE in a block instruction that counts up.
     pub fn increment(self) -> WordRange
         ensures exact { result ≡ increment 65536 self }
         ensures contains { TakesInto (λ x. (x + 1) % 65536) self result }
@@ -152,7 +152,7 @@ impl WordRange {
         words_in_window(low + 1, high + 1)
     }
 
-    /// DEC ss, DEC IX and DEC IY, BC of a block instruction, and HL and DE where it counts down.
+    /// DEC ss, DEC IX and DEC IY; also BC in a block instruction, and HL and DE in one that counts down.
     pub fn decrement(self) -> WordRange
         ensures exact { result ≡ decrement 65536 self }
         ensures contains { TakesInto (λ x. (65536 + x - 1) % 65536) self result }
@@ -161,7 +161,7 @@ impl WordRange {
         words_in_window(65_536 + low - 1, 65_536 + high - 1)
     }
 
-    /// The address of (IX+d) or (IY+d). The displacement is the byte of the code, which stands for -128 to 127.
+    /// The addresses of (IX+d) or (IY+d). `pattern` is the byte d, which stands for -128 to 127.
     pub fn displacement(self, pattern: u8) -> WordRange
         ensures exact { result ≡ displacement self pattern }
         ensures contains { TakesInto (λ x. (x + displacement_of pattern) % 65536) self result }

@@ -1,4 +1,4 @@
-// Ranges of words: how they are made, what they hold, cuts and joins.
+// Ranges of words: constructors, membership, cuts and joins.
 ghost use Rattle.std.specs.Prelude.{◌≡◌, ℕ, ◌≤◌, ◌≢◌, ◌↔◌, IsTrue, SomeIff, IsSomeAnd};
 ghost use Rattle.std.proofs.Common.{rules};
 ghost use Rattle.intervals.specs.Range.{Within, Covers, Meets, single, full, between, hull, intersection, without};
@@ -38,7 +38,7 @@ impl WordRange {
         }
     }
 
-    /// The words up to a bound, which is included.
+    /// The words from 0 to `bound`, both included.
     pub fn at_most(bound: u16) -> WordRange
         ensures { result ≡ record { low = 0; high = bound } }
     {
@@ -48,7 +48,7 @@ impl WordRange {
         }
     }
 
-    /// The words from a bound on, which is included.
+    /// The words from `bound` to 65,535, both included.
     pub fn at_least(bound: u16) -> WordRange
         ensures { result ≡ record { low = bound; high = 65535 } }
     {
@@ -58,7 +58,7 @@ impl WordRange {
         }
     }
 
-    /// The lowest word.
+    /// The lower bound.
     pub fn low(self) -> u16
         ensures value { result ≡ self.low }
         ensures order { self.low ≤ self.high }
@@ -67,7 +67,7 @@ impl WordRange {
         self.low
     }
 
-    /// The highest word.
+    /// The upper bound.
     pub fn high(self) -> u16
         ensures value { result ≡ self.high }
         ensures order { self.low ≤ self.high }
@@ -76,7 +76,7 @@ impl WordRange {
         self.high
     }
 
-    /// The word, where the range is one word.
+    /// The word if the range has only one, else None.
     pub fn value(self) -> Option<u16>
         ensures { SomeIff result (self.low ≡ self.high) self.low }
     {
@@ -104,15 +104,16 @@ impl WordRange {
         self.low <= other.high && other.low <= self.high
     }
 
-    /// The words that lie in both ranges, or None where there are none.
+    /// The words that lie in both ranges, or None if there are none.
     pub fn intersection(self, other: WordRange) -> Option<WordRange>
         ensures exact { result ≡ intersection self other }
-        ensures keeps { (x : ℕ) → Within self x → Within other x → IsSomeAnd result (λ r. Within r x) }
+        ensures keeps { (x : ℕ) → Within self x → Within other x
+            → IsSomeAnd result (λ r. Within r x) }
     {
         WordRange::new(self.low.max(other.low), self.high.min(other.high))
     }
 
-    /// The range with one word cut from its ends, or None where nothing is left. A word between the ends stays.
+    /// The range without `value` if that is a bound; None if nothing is left. A value between the bounds stays.
     pub fn without(self, value: u16) -> Option<WordRange>
         ensures exact { result ≡ without self value }
         ensures keeps { (x : ℕ) → Within self x → x ≢ value → IsSomeAnd result (λ r. Within r x) }
@@ -143,12 +144,11 @@ impl Domain for WordRange {
 
     ghost joins_second = { Prim.search rules };
 
-    /// Whether each word of the other range lies in this one.
     fn covers(&self, other: &Self) -> bool {
         self.low <= other.low && other.high <= self.high
     }
 
-    /// The least range that covers both.
+    /// The hull: the smallest range that contains both.
     fn join(&self, other: &Self) -> Self {
         WordRange {
             low: self.low.min(other.low),

@@ -1,4 +1,4 @@
--- What is left of one linear after another was taken from it.
+-- One linear subtracted from another.
 use Rattle.std.proofs.Common.{◌≡◌, ◌≢◌, ℕ, ◌≤◌, Bool, true, false, not, List, [], get_or, ℤ, pos, ◌+ℤ◌, ◌-ℤ◌, ◌≤ℤ◌, sym, subst, ap, ◌∙◌, arith, All, IsTrue, unsigned_abs, refl}
 use Rattle.std.proofs.lemmas.Int.{ints}
 use Rattle.loop_bounds.specs.declared.effect.Effect.{Effect}
@@ -7,7 +7,7 @@ use Rattle.loop_bounds.specs.declared.effect.Change.TheVariants.{Old, Raised, Lo
 use Rattle.loop_bounds.specs.declared.linear.Term.{Term}
 use Rattle.loop_bounds.specs.declared.rewritten.Rewritten.{Rewritten}
 use Rattle.loop_bounds.specs.declared.variable.Variable.{Variable}
-use Rattle.loop_bounds.specs.Linear.{Sum, IsLinear, total, value}
+use Rattle.loop_bounds.specs.Linear.{LinearView, IsLinear, total, value}
 use Rattle.loop_bounds.specs.Effect.{Valuation, whole, changed, constant_before, after, after_from, change_of}
 use Rattle.loop_bounds.specs.Ranges.{Box, full_box, LiesIn}
 use Rattle.loop_bounds.specs.Bounds.{Decreases}
@@ -18,7 +18,7 @@ use Rattle.loop_bounds.proofs.Boxes.{total_agree}
 abbrev pub IsUnchanged : Effect → Type 0
 IsUnchanged u = (v : Variable) → change_of u v ≡ Old v
 
--- where nothing is known before a step, no variable is a constant
+-- over full ranges no variable is a constant
 none_constant : (c : Change) → constant_before full_box c ≡ c
 none_constant (Old v) = refl
 none_constant (Raised v) = refl
@@ -44,7 +44,7 @@ total_unchanged u h before free ts =
 pub none_unknown : (u : Effect) → IsUnchanged u → (ts : List Term) → All (λ t. change_of u t.variable ≢ Unknown) ts
 none_unknown u h ts k d p e = let same = h (get_or ts k d).variable in cc
 
-pub small_terms : (s : Sum) → IsLinear s → All (λ t. unsigned_abs t.coefficient ≤ 1000000) s.terms
+pub small_terms : (s : LinearView) → IsLinear s → All (λ t. unsigned_abs t.coefficient ≤ 1000000) s.terms
 small_terms s h k d p = let both = h.coefficients k d p in both.1
 
 start_value : (start : Rewritten) (c : ℤ) → start.known ≡ record { constant = c; terms = [] } → start.unknown ≡ record { constant = pos 0; terms = [] } → (before free : Valuation) → value_of_both before free start ≡ c
@@ -54,7 +54,7 @@ start_value start c k u before free =
     omega (arith, ints, first, second)
 
 module _ (u effect : Effect) (same : IsUnchanged u) (start mid last : Rewritten) (c : ℤ) (known : start.known ≡ record { constant = c; terms = [] }) (unknown : start.unknown ≡ record { constant = pos 0; terms = [] }) where
-  pub decrease_value : (from to : Sum) (cost : ℕ) → c ≡ from.constant -ℤ pos cost -ℤ to.constant → WasAdded start mid full_box u false from → WasAdded mid last full_box effect true to → (before free : Valuation) → value_of_both before free last ≡ value (whole before) from -ℤ pos cost -ℤ value (after effect before free) to
+  pub decrease_value : (from to : LinearView) (cost : ℕ) → c ≡ from.constant -ℤ pos cost -ℤ to.constant → WasAdded start mid full_box u false from → WasAdded mid last full_box effect true to → (before free : Valuation) → value_of_both before free last ≡ value (whole before) from -ℤ pos cost -ℤ value (after effect before free) to
   decrease_value from to cost is first second before free =
       let none = start_value start c known unknown before free in
       let one = first before free in
@@ -63,7 +63,7 @@ module _ (u effect : Effect) (same : IsUnchanged u) (start mid last : Rewritten)
       let rewritten = total_full effect before free to.terms in
       omega (arith, ints, none, one, two, plain, rewritten, is)
 
-  pub difference_value : (source : Box) (fact given : Sum) (n : Bool) → c ≡ fact.constant +ℤ signed (not n) given.constant → WasAdded start mid source effect false fact → WasAdded mid last full_box u (not n) given → last.unknown ≡ mid.unknown → mid.unknown ≡ start.unknown → (before free : Valuation) → value (whole before) last.known ≡ value (after_from source effect before free) fact -ℤ signed n (value (whole before) given)
+  pub difference_value : (source : Box) (fact given : LinearView) (n : Bool) → c ≡ fact.constant +ℤ signed (not n) given.constant → WasAdded start mid source effect false fact → WasAdded mid last full_box u (not n) given → last.unknown ≡ mid.unknown → mid.unknown ≡ start.unknown → (before free : Valuation) → value (whole before) last.known ≡ value (after_from source effect before free) fact -ℤ signed n (value (whole before) given)
   difference_value source fact given true is first second kept kept' before free =
       let none = start_value start c known unknown before free in
       let one = first before free in
@@ -79,22 +79,22 @@ module _ (u effect : Effect) (same : IsUnchanged u) (start mid last : Rewritten)
       let rest = ap (value (whole free)) (kept ∙ kept' ∙ unknown) in
       omega (arith, ints, none, one, two, plain, is, rest)
 
-pub fact_value : (source : Box) (effect : Effect) (start last : Rewritten) (fact : Sum) → start.known ≡ record { constant = fact.constant; terms = [] } → start.unknown ≡ record { constant = pos 0; terms = [] } → WasAdded start last source effect false fact → last.unknown ≡ start.unknown → (before free : Valuation) → value (whole before) last.known ≡ value (after_from source effect before free) fact
+pub fact_value : (source : Box) (effect : Effect) (start last : Rewritten) (fact : LinearView) → start.known ≡ record { constant = fact.constant; terms = [] } → start.unknown ≡ record { constant = pos 0; terms = [] } → WasAdded start last source effect false fact → last.unknown ≡ start.unknown → (before free : Valuation) → value (whole before) last.known ≡ value (after_from source effect before free) fact
 fact_value source effect start last fact known unknown first kept before free =
     let none = start_value start fact.constant known unknown before free in
     let one = first before free in
     let rest = ap (value (whole free)) (kept ∙ unknown) in
     omega (arith, ints, none, one, rest)
 
--- what decides a comparison of two values decides the values themselves
-pub decided_by_value : (P : Bool) (source target : Box) (from to : Sum) (cost : ℕ) (effect : Effect) (last : Rewritten) → ((before free : Valuation) → value_of_both before free last ≡ value (whole before) from -ℤ pos cost -ℤ value (after effect before free) to) → (IsTrue P → (before free : Valuation) → LiesIn source before → LiesIn target free → pos 0 ≤ℤ value_of_both before free last) × (((before free : Valuation) → LiesIn source before → LiesIn target free → pos 0 ≤ℤ value_of_both before free last) → IsTrue P) → (IsTrue P → Decreases from to cost effect source target) × (Decreases from to cost effect source target → IsTrue P)
+-- a test that decides the sign of the rewritten sum decides `Decreases`
+pub decided_by_value : (P : Bool) (source target : Box) (from to : LinearView) (cost : ℕ) (effect : Effect) (last : Rewritten) → ((before free : Valuation) → value_of_both before free last ≡ value (whole before) from -ℤ pos cost -ℤ value (after effect before free) to) → (IsTrue P → (before free : Valuation) → LiesIn source before → LiesIn target free → pos 0 ≤ℤ value_of_both before free last) × (((before free : Valuation) → LiesIn source before → LiesIn target free → pos 0 ≤ℤ value_of_both before free last) → IsTrue P) → (IsTrue P → Decreases from to cost effect source target) × (Decreases from to cost effect source target → IsTrue P)
 decided_by_value P source target from to cost effect last e h = (
   λ t before free p q. subst (λ z. pos 0 ≤ℤ z) (e before free) (h.0 t before free p q),
   λ d. h.1 (λ before free p q. subst (λ z. pos 0 ≤ℤ z) (sym (e before free)) (d before free p q)),
 )
 
-pub of_constant : {c d : ℤ} → c ≡ d → (let s : Sum = record { constant = c; terms = [] } in s) ≡ record { constant = d; terms = [] }
-of_constant e = ap (λ (z : ℤ). let s : Sum = record { constant = z; terms = [] } in s) e
+pub of_constant : {c d : ℤ} → c ≡ d → (let s : LinearView = record { constant = c; terms = [] } in s) ≡ record { constant = d; terms = [] }
+of_constant e = ap (λ (z : ℤ). let s : LinearView = record { constant = z; terms = [] } in s) e
 
 pub same_from_difference : (d a b : ℤ) → d ≡ a -ℤ b → d ≡ pos 0 → a ≡ b
 same_from_difference d a b e z = omega (arith, ints)

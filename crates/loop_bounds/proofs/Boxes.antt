@@ -1,4 +1,4 @@
--- The least value of a sum over a box: it is a bound, and it is reached.
+-- The least value of a sum over a box is a bound, and it is reached.
 use Rattle.std.proofs.Common.{◌≡◌, ◌≢◌, ℕ, suc, ◌+◌, ◌*◌, ◌<◌, ◌≤◌, ◌^◌, Bool, true, false, cond, eqb, List, [], ◌∷◌, ◌++◌, length, get_or, take, ℤ, pos, negsuc, ◌+ℤ◌, ◌*ℤ◌, ◌≤ℤ◌, refl, sym, subst, ap, ◌∙◌, arith, rules, All, unsigned_abs, take_all}
 use Rattle.std.proofs.Math.IntN.{pos-*ℤ-pos, negsuc-*ℤ-pos, +ℤ_idr}
 use Rattle.std.proofs.lemmas.Int.{ints, unsigned_abs-mul}
@@ -8,18 +8,18 @@ use Rattle.std.proofs.lemmas.List.Sums.{sum_by-append, sum_by-take-le}
 use Rattle.loop_bounds.proofs.SoFar.{AreOrdered, IsLeastSoFar}
 use Rattle.loop_bounds.proofs.FormLemmas.{abs_sum}
 use Rattle.std.proofs.lemmas.List.Elements.{All-head, All-tail}
-use Rattle.intervals.specs.Range.{Interval, Within}
+use Rattle.intervals.specs.Range.{RangeView, Within}
 use Rattle.loop_bounds.specs.declared.variable.Variable.{Variable}
 use Rattle.loop_bounds.specs.declared.linear.Term.{Term}
 use Rattle.loop_bounds.specs.Variable.{rank_of}
-use Rattle.loop_bounds.specs.Linear.{Sum, total, value}
+use Rattle.loop_bounds.specs.Linear.{LinearView, total, value}
 use Rattle.loop_bounds.specs.Effect.{Valuation, whole}
 use Rattle.loop_bounds.specs.Ranges.{Box, LiesIn}
 use Rattle.loop_bounds.proofs.VariableLemmas.{same_from_rank, choice_same, choice_other}
 use Rattle.loop_bounds.specs.Form.{AreDistinct, weight, end_of, least_total}
 
--- a multiple is least at its end
-pub multiple_bound : (c : ℤ) (r : Interval) (x : ℕ) → Within r x → (c *ℤ pos (end_of r c)) ≤ℤ (c *ℤ pos x)
+-- a product is least at its end
+pub multiple_bound : (c : ℤ) (r : RangeView) (x : ℕ) → Within r x → (c *ℤ pos (end_of r c)) ≤ℤ (c *ℤ pos x)
 multiple_bound (pos n) r x h =
     rw (pos-*ℤ-pos n r.low, pos-*ℤ-pos n x) (omega (arith, ints, mul-le n r.low n x (omega arith) h.0))
 multiple_bound (negsuc n) r x h =
@@ -37,7 +37,7 @@ worst : Box → List Term → Valuation
 worst box [] v = (box v).low
 worst box (t ∷ ts) v = cond (eqb (rank_of v) (rank_of t.variable)) (end_of (box t.variable) t.coefficient) (worst box ts v)
 
-end_inside : (c : ℤ) (r : Interval) → r.low ≤ r.high → Within r (end_of r c)
+end_inside : (c : ℤ) (r : RangeView) → r.low ≤ r.high → Within r (end_of r c)
 end_inside (pos n) r h = omega arith
 end_inside (negsuc n) r h = omega arith
 
@@ -94,29 +94,29 @@ ordered_push : (box : Box) (ts : List Term) (t : Term) → AreOrdered box ts →
 ordered_push box [] t h k = (k, tt)
 ordered_push box (u ∷ ts) t h k = (h.0, ordered_push box ts t h.1 k)
 
-pub least_push : (box : Box) (c : ℤ) (ts : List Term) (t : Term) (r : Interval) (least m : ℤ) → IsLeastSoFar box c ts least → r ≡ box t.variable → m ≡ t.coefficient *ℤ pos (end_of r t.coefficient) → unsigned_abs m ≤ 65535 * unsigned_abs t.coefficient → r.low ≤ r.high → IsLeastSoFar box c (ts ++ t ∷ []) (least +ℤ m)
+pub least_push : (box : Box) (c : ℤ) (ts : List Term) (t : Term) (r : RangeView) (least m : ℤ) → IsLeastSoFar box c ts least → r ≡ box t.variable → m ≡ t.coefficient *ℤ pos (end_of r t.coefficient) → unsigned_abs m ≤ 65535 * unsigned_abs t.coefficient → r.low ≤ r.high → IsLeastSoFar box c (ts ++ t ∷ []) (least +ℤ m)
 least_push box c ts t r least m h e is small order =
-    let here : m ≡ t.coefficient *ℤ pos (end_of (box t.variable) t.coefficient) = is ∙ ap (λ (q : Interval). t.coefficient *ℤ pos (end_of q t.coefficient)) e in
+    let here : m ≡ t.coefficient *ℤ pos (end_of (box t.variable) t.coefficient) = is ∙ ap (λ (q : RangeView). t.coefficient *ℤ pos (end_of q t.coefficient)) e in
     let heavier = sum_by-append (λ (u : Term). unsigned_abs u.coefficient) ts (t ∷ []) in
     let sum : unsigned_abs (least +ℤ m) ≤ unsigned_abs least + unsigned_abs m = abs_sum least m in
     record {
       exact = omega (arith, ints, h.exact, here, least_total_push box ts t);
       size = omega (arith, h.size, heavier);
-      ordered = ordered_push box ts t h.ordered (subst (λ (q : Interval). q.low ≤ q.high) e order);
+      ordered = ordered_push box ts t h.ordered (subst (λ (q : RangeView). q.low ≤ q.high) e order);
     }
 
-pub least_more : (box : Box) (c : ℤ) (ts : List Term) (k : ℕ) (t : Term) (r : Interval) (least m : ℤ) → IsLeastSoFar box c (take k ts) least → k < length ts → t ≡ get_or ts k t → r ≡ box t.variable → m ≡ t.coefficient *ℤ pos (end_of r t.coefficient) → unsigned_abs m ≤ 65535 * unsigned_abs t.coefficient → r.low ≤ r.high → IsLeastSoFar box c (take (k + 1) ts) (least +ℤ m)
+pub least_more : (box : Box) (c : ℤ) (ts : List Term) (k : ℕ) (t : Term) (r : RangeView) (least m : ℤ) → IsLeastSoFar box c (take k ts) least → k < length ts → t ≡ get_or ts k t → r ≡ box t.variable → m ≡ t.coefficient *ℤ pos (end_of r t.coefficient) → unsigned_abs m ≤ 65535 * unsigned_abs t.coefficient → r.low ≤ r.high → IsLeastSoFar box c (take (k + 1) ts) (least +ℤ m)
 least_more box c ts k t r least m h inside at e is small order =
     let more : take (k + 1) ts ≡ take k ts ++ t ∷ [] = take_more ts k t inside ∙ ap (λ (u : Term). take k ts ++ u ∷ []) (sym at) in
     rw more (least_push box c (take k ts) t r least m h e is small order)
 
--- the size of the least value of a sum that has not too great coefficients
+-- the size of the least value, where the coefficients are not too great
 pub least_fits : (box : Box) (c : ℤ) (ts : List Term) (k : ℕ) (least : ℤ) → IsLeastSoFar box c (take k ts) least → unsigned_abs c < 2 ^ 60 → weight ts < 2 ^ 31 → unsigned_abs least < 2 ^ 61
 least_fits box c ts k least h small light =
     let part = sum_by-take-le (λ (u : Term). unsigned_abs u.coefficient) ts k in
     omega (arith, h.size, part)
 
-module _ (box : Box) (s : Sum) (ts : List Term) (k : ℕ) (least : ℤ) (h : IsLeastSoFar box s.constant (take k ts) least) (all : length ts ≤ k) (e : ts ≡ s.terms) where
+module _ (box : Box) (s : LinearView) (ts : List Term) (k : ℕ) (least : ℤ) (h : IsLeastSoFar box s.constant (take k ts) least) (all : length ts ≤ k) (e : ts ≡ s.terms) where
   seen : take k ts ≡ s.terms
   seen = take_all k ts all ∙ e
 

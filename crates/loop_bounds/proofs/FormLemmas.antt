@@ -1,4 +1,4 @@
--- A form after one more multiple of a variable.
+-- A form after one more term.
 use Rattle.std.proofs.Common.{◌≡◌, ◌≢◌, ℕ, zero, suc, ◌+◌, ◌<◌, ◌≤◌, List, [], ◌∷◌, ◌++◌, length, get_or, set, take, ℤ, pos, negsuc, ◌+ℤ◌, ◌-ℤ◌, ◌*ℤ◌, refl, sym, subst, ap, ◌∙◌, arith, All, HoldsAt, unsigned_abs}
 use Rattle.std.proofs.Math.IntN.{one, *ℤ-one, *ℤ_comm, suc_ℤ-+ℤ, pred_ℤ-+ℤ, suc_ℤ-*ℤ, pred_ℤ-*ℤ, zero-*ℤ, +ℤ_idl}
 use Rattle.std.proofs.Math.Seq.{take-set-lt}

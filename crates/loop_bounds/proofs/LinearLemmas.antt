@@ -6,7 +6,7 @@ use Rattle.std.proofs.lemmas.List.Elements.{All-push}
 use Rattle.std.proofs.lemmas.List.Quantifiers.{all_pairs_push}
 use Rattle.loop_bounds.specs.declared.linear.Term.{Term}
 use Rattle.loop_bounds.specs.Variable.{rank_of}
-use Rattle.loop_bounds.specs.Linear.{Sum, IsLinear, IsStored, extended, padding, padded}
+use Rattle.loop_bounds.specs.Linear.{LinearView, IsLinear, IsStored, extended, padding, padded}
 use Rattle.loop_bounds.specs.LinearLaws.{length-stored, length-front}
 
 set_padded : (xs : List Term) (t : Term) (k : ℕ) → set (xs ++ replicate (suc k) padding) (length xs) t ≡ (xs ++ t ∷ []) ++ replicate k padding
@@ -40,7 +40,7 @@ IsBefore t u = rank_of t.variable < rank_of u.variable
 abbrev IsSmall : Term → Type 0
 IsSmall t = (0 < unsigned_abs t.coefficient) × (unsigned_abs t.coefficient ≤ 1000000)
 
-pub extended_from : (s : Sum) (t : Term) → IsLinear s → length s.terms < 3 → IsSmall t → All (λ u. IsBefore u t) s.terms → IsLinear (extended s t)
+pub extended_from : (s : LinearView) (t : Term) → IsLinear s → length s.terms < 3 → IsSmall t → All (λ u. IsBefore u t) s.terms → IsLinear (extended s t)
 extended_from s t h room small before = record {
   constant = h.constant;
   count = omega (arith, length-append s.terms (t ∷ []));
@@ -55,7 +55,7 @@ at_end (x ∷ ts) t d = at_end ts t d
 at_front : (ts : List Term) (t d : Term) (k : ℕ) → k < length ts → get_or (ts ++ t ∷ []) k d ≡ get_or ts k d
 at_front ts t d k h = get_or_append_left ts (t ∷ []) d k h
 
-pub extended_gives : (s : Sum) (t : Term) → IsLinear (extended s t) → (length s.terms < 3) × IsSmall t × All (λ u. IsBefore u t) s.terms
+pub extended_gives : (s : LinearView) (t : Term) → IsLinear (extended s t) → (length s.terms < 3) × IsSmall t × All (λ u. IsBefore u t) s.terms
 extended_gives s t h =
     let longer = length-append s.terms (t ∷ []) in
     let small = h.coefficients (length s.terms) t (omega arith) in (
@@ -65,8 +65,8 @@ extended_gives s t h =
           (subst (λ u. IsBefore (get_or (s.terms ++ t ∷ []) k d) u) (at_end s.terms t d) (h.rising k (length s.terms) d p (omega arith))),
     )
 
-pub room_below : (s : Sum) (c : ℤ) (terms : List Term) (count : ℕ) → IsStored c terms count → ◌≡◌ {A = Sum} (record { constant = c; terms = take count terms }) s → count ≢ 3 → length s.terms < 3
+pub room_below : (s : LinearView) (c : ℤ) (terms : List Term) (count : ℕ) → IsStored c terms count → ◌≡◌ {A = LinearView} (record { constant = c; terms = take count terms }) s → count ≢ 3 → length s.terms < 3
 room_below s c terms count h e other =
     let front = length-front c terms count h in
-    let same : length (take count terms) ≡ length s.terms = ap (λ (t : Sum). length t.terms) e in
+    let same : length (take count terms) ≡ length s.terms = ap (λ (t : LinearView). length t.terms) e in
     omega (arith, h.within)

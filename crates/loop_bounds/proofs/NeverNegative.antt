@@ -1,10 +1,10 @@
--- A sum over two boxes is never negative exactly where its two least values are not together.
+-- A sum over two boxes is never negative exactly if its two least values together are not.
 use Rattle.std.proofs.Common.{◌≡◌, ℤ, pos, ◌+ℤ◌, ◌≤ℤ◌, true, arith, IsTrue}
 use Rattle.std.specs.Prelude.{int_le}
 use Rattle.std.proofs.lemmas.Int.{ints}
 use Rattle.loop_bounds.specs.declared.rewritten.Rewritten.{Rewritten}
 use Rattle.loop_bounds.specs.Effect.{Valuation, whole}
-use Rattle.loop_bounds.specs.Linear.{Sum, value}
+use Rattle.loop_bounds.specs.Linear.{LinearView, value}
 use Rattle.loop_bounds.specs.Ranges.{Box, LiesIn}
 use Rattle.loop_bounds.specs.Rewritten.{value_of_both}
 
@@ -14,10 +14,10 @@ le_true z h = grind (arith, ints)
 le_from_true : (z : ℤ) → int_le (pos 0) z ≡ true → pos 0 ≤ℤ z
 le_from_true z h = grind (arith, ints)
 
-abbrev IsBound : Box → Sum → ℤ → Type 0
+abbrev IsBound : Box → LinearView → ℤ → Type 0
 IsBound box s least = (x : Valuation) → LiesIn box x → least ≤ℤ value (whole x) s
 
-abbrev IsReached : Box → Sum → ℤ → Type 0
+abbrev IsReached : Box → LinearView → ℤ → Type 0
 IsReached box s least = (x : Valuation) × LiesIn box x × (value (whole x) s ≡ least)
 
 abbrev IsNeverNegative : Box → Box → Rewritten → Type 0

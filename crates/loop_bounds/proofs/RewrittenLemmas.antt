@@ -1,4 +1,4 @@
--- A rewritten sum after one more multiple of what a step leaves in a variable.
+-- A rewritten sum after one more rewritten term.
 use Rattle.std.proofs.Common.{Bool, true, false, List, [], ◌∷◌, ◌++◌, take, get_or, subst, All, neg_ℤ, length-append, ◌≢◌, ◌≡◌, if◌then◌else◌, ℕ, ◌+◌, ◌^◌, ◌≤◌, ◌<◌, length, ℤ, pos, ◌+ℤ◌, ◌-ℤ◌, ◌*ℤ◌, sym, ap, ◌∙◌, arith, unsigned_abs}
 use Rattle.std.proofs.lemmas.Int.{ints}
 use Rattle.std.proofs.Math.IntN.{+ℤ_invl, +ℤ_assoc, zero-*ℤ}
@@ -13,18 +13,18 @@ use Rattle.loop_bounds.specs.declared.effect.Change.TheVariants.{Constant, Unkno
 use Rattle.loop_bounds.specs.Signed.{signed}
 use Rattle.loop_bounds.proofs.LinearLemmas.{at_end}
 use Rattle.loop_bounds.specs.declared.rewritten.Rewritten.{Rewritten}
-use Rattle.loop_bounds.specs.Linear.{Sum, total, value}
+use Rattle.loop_bounds.specs.Linear.{LinearView, total, value}
 use Rattle.loop_bounds.specs.Effect.{Valuation, whole, after_from, changed, old_range, constant_before, change_of}
 use Rattle.loop_bounds.specs.Ranges.{Box}
 use Rattle.loop_bounds.specs.Form.{weight}
-use Rattle.loop_bounds.specs.Rewritten.{HasRoom, value_of_both}
+use Rattle.loop_bounds.specs.Rewritten.{IsWithinRoom, value_of_both}
 use Rattle.loop_bounds.proofs.FormLemmas.{raised_product, lowered_product, abs_sum, total_push, product_of_sum}
 use Rattle.loop_bounds.proofs.Boxes.{multiple_size}
 
-known_value : (x y : Variable → ℤ) (old new unknown : Sum) (more by : ℤ) → total x new.terms ≡ total x old.terms +ℤ more → new.constant ≡ old.constant +ℤ by → value x new +ℤ value y unknown ≡ (value x old +ℤ value y unknown) +ℤ (more +ℤ by)
+known_value : (x y : Variable → ℤ) (old new unknown : LinearView) (more by : ℤ) → total x new.terms ≡ total x old.terms +ℤ more → new.constant ≡ old.constant +ℤ by → value x new +ℤ value y unknown ≡ (value x old +ℤ value y unknown) +ℤ (more +ℤ by)
 known_value x y old new unknown more by t c = omega (arith, ints, t, c)
 
-module _ (before free : Valuation) (old new unknown : Sum) (c : ℤ) where
+module _ (before free : Valuation) (old new unknown : LinearView) (c : ℤ) where
   pub old_value : (v : Variable) → total (whole before) new.terms ≡ total (whole before) old.terms +ℤ c *ℤ whole before v → new.constant ≡ old.constant → value (whole before) new +ℤ value (whole free) unknown ≡ (value (whole before) old +ℤ value (whole free) unknown) +ℤ c *ℤ pos (before v)
   old_value v t k =
       let all = known_value (whole before) (whole free) old new unknown (c *ℤ pos (before v)) (pos 0) t (omega (arith, ints, k)) in
@@ -35,34 +35,34 @@ module _ (before free : Valuation) (old new unknown : Sum) (c : ℤ) where
       let all = known_value (whole free) (whole before) old new unknown (c *ℤ pos (free v)) (pos 0) t (omega (arith, ints, k)) in
       omega (arith, ints, all)
 
-  pub raised_value : (v : Variable) (added : Sum) (m : ℤ) → total (whole before) added.terms ≡ total (whole before) old.terms +ℤ c *ℤ whole before v → added.constant ≡ old.constant → new ≡ record { constant = added.constant +ℤ m; terms = added.terms } → m ≡ c → value (whole before) new +ℤ value (whole free) unknown ≡ (value (whole before) old +ℤ value (whole free) unknown) +ℤ c *ℤ (pos (before v) +ℤ pos 1)
+  pub raised_value : (v : Variable) (added : LinearView) (m : ℤ) → total (whole before) added.terms ≡ total (whole before) old.terms +ℤ c *ℤ whole before v → added.constant ≡ old.constant → new ≡ record { constant = added.constant +ℤ m; terms = added.terms } → m ≡ c → value (whole before) new +ℤ value (whole free) unknown ≡ (value (whole before) old +ℤ value (whole free) unknown) +ℤ c *ℤ (pos (before v) +ℤ pos 1)
   raised_value v added m t k e is =
-      let terms = ap (λ (s : Sum). total (whole before) s.terms) e in
-      let constant = ap (λ (s : Sum). s.constant) e in
+      let terms = ap (λ (s : LinearView). total (whole before) s.terms) e in
+      let constant = ap (λ (s : LinearView). s.constant) e in
       let product = raised_product c (before v) in
       let all = known_value (whole before) (whole free) old new unknown (c *ℤ pos (before v)) c (terms ∙ t) (omega (arith, ints, constant, k, is)) in
       omega (arith, ints, all, product)
 
-  pub lowered_value : (v : Variable) (added : Sum) (m : ℤ) → total (whole before) added.terms ≡ total (whole before) old.terms +ℤ c *ℤ whole before v → added.constant ≡ old.constant → new ≡ record { constant = added.constant +ℤ m; terms = added.terms } → m ≡ pos 0 -ℤ c → value (whole before) new +ℤ value (whole free) unknown ≡ (value (whole before) old +ℤ value (whole free) unknown) +ℤ c *ℤ (pos (before v) -ℤ pos 1)
+  pub lowered_value : (v : Variable) (added : LinearView) (m : ℤ) → total (whole before) added.terms ≡ total (whole before) old.terms +ℤ c *ℤ whole before v → added.constant ≡ old.constant → new ≡ record { constant = added.constant +ℤ m; terms = added.terms } → m ≡ pos 0 -ℤ c → value (whole before) new +ℤ value (whole free) unknown ≡ (value (whole before) old +ℤ value (whole free) unknown) +ℤ c *ℤ (pos (before v) -ℤ pos 1)
   lowered_value v added m t k e is =
-      let terms = ap (λ (s : Sum). total (whole before) s.terms) e in
-      let constant = ap (λ (s : Sum). s.constant) e in
+      let terms = ap (λ (s : LinearView). total (whole before) s.terms) e in
+      let constant = ap (λ (s : LinearView). s.constant) e in
       let product = lowered_product c (before v) in
       let all = known_value (whole before) (whole free) old new unknown (c *ℤ pos (before v)) (pos 0 -ℤ c) (terms ∙ t) (omega (arith, ints, constant, k, is)) in
       omega (arith, ints, all, product)
 
   pub constant_value : (n : ℕ) (m : ℤ) → new ≡ record { constant = old.constant +ℤ m; terms = old.terms } → m ≡ c *ℤ pos n → value (whole before) new +ℤ value (whole free) unknown ≡ (value (whole before) old +ℤ value (whole free) unknown) +ℤ c *ℤ pos n
   constant_value n m e is =
-      let terms = ap (λ (s : Sum). total (whole before) s.terms) e in
-      let constant = ap (λ (s : Sum). s.constant) e in
+      let terms = ap (λ (s : LinearView). total (whole before) s.terms) e in
+      let constant = ap (λ (s : LinearView). s.constant) e in
       let all = known_value (whole before) (whole free) old new unknown (pos 0) (c *ℤ pos n) (omega (arith, ints, terms)) (omega (arith, ints, constant, is)) in
       omega (arith, ints, all)
 
-pub constant_room : (old : Rewritten) (new : Sum) (c m : ℤ) (n : ℕ) → unsigned_abs c ≤ 1000000 → n ≤ 65535 → new ≡ record { constant = old.known.constant +ℤ m; terms = old.known.terms } → m ≡ c *ℤ pos n → (used : ℕ) → HasRoom used old → HasRoom (used + 1) (record old { known = new })
+pub constant_room : (old : Rewritten) (new : LinearView) (c m : ℤ) (n : ℕ) → unsigned_abs c ≤ 1000000 → n ≤ 65535 → new ≡ record { constant = old.known.constant +ℤ m; terms = old.known.terms } → m ≡ c *ℤ pos n → (used : ℕ) → IsWithinRoom used old → IsWithinRoom (used + 1) (record old { known = new })
 constant_room old new c m n small low e is used h =
-    let terms = ap (λ (s : Sum). length s.terms) e in
-    let heavy = ap (λ (s : Sum). weight s.terms) e in
-    let constant = ap (λ (s : Sum). unsigned_abs s.constant) e in
+    let terms = ap (λ (s : LinearView). length s.terms) e in
+    let heavy = ap (λ (s : LinearView). weight s.terms) e in
+    let constant = ap (λ (s : LinearView). unsigned_abs s.constant) e in
     let size = multiple_size c n low in
     let same = ap unsigned_abs is in
     let sum = abs_sum old.known.constant m in
@@ -75,7 +75,7 @@ constant_room old new c m n small low e is used h =
       unknown_constant = h.unknown_constant;
     }
 
-pub room_wider : (r : Rewritten) (used more : ℕ) → used ≤ more → HasRoom used r → HasRoom more r
+pub room_wider : (r : Rewritten) (used more : ℕ) → used ≤ more → IsWithinRoom used r → IsWithinRoom more r
 room_wider r used more h room = record {
   known_terms = omega (arith, room.known_terms);
   unknown_terms = omega (arith, room.unknown_terms);
@@ -102,7 +102,7 @@ choice_known : (b : Bool) (n : ℕ) (c : Change) → c ≢ Unknown → (if b the
 choice_known true n c h e = cc
 choice_known false n c h e = h e
 
--- a constant in the place of a variable is not unknown
+-- a constant in the place of a known variable is known
 constant_known : (source : Box) (c : Change) → c ≢ Unknown → constant_before source c ≢ Unknown
 constant_known source c h = choice_known (is_single (old_range source c)) (old_range source c).low c h
 
@@ -110,7 +110,7 @@ module _ (old mid new : Rewritten) (source : Box) (effect : Effect) (n : Bool) (
   front_more : take (k + 1) ts ≡ take k ts ++ t ∷ []
   front_more = take_more ts k t inside ∙ ap (λ (u : Term). take k ts ++ u ∷ []) (sym at)
 
-  pub added_more : ((before free : Valuation) → value_of_both before free new ≡ value_of_both before free mid +ℤ c *ℤ changed change before (pos (free t.variable))) → ((used : ℕ) → HasRoom used mid → HasRoom (used + 1) new) → (change ≢ Unknown → new.unknown ≡ mid.unknown) → HasAdded old new source effect n (take (k + 1) ts) (k + 1)
+  pub added_more : ((before free : Valuation) → value_of_both before free new ≡ value_of_both before free mid +ℤ c *ℤ changed change before (pos (free t.variable))) → ((used : ℕ) → IsWithinRoom used mid → IsWithinRoom (used + 1) new) → (change ≢ Unknown → new.unknown ≡ mid.unknown) → HasAdded old new source effect n (take (k + 1) ts) (k + 1)
   added_more value room no_unknown = record {
     value = λ before free.
         let step = value before free in
@@ -124,7 +124,7 @@ module _ (old mid new : Rewritten) (source : Box) (effect : Effect) (n : Bool) (
         ∙ ap (λ z. value_of_both before free old +ℤ z) (sym push ∙ sym same);
     room = λ used h.
         let next = room (used + k) (so_far.room used h) in
-        subst (λ m. HasRoom m new) (let e : used + k + 1 ≡ used + (k + 1) = omega arith in e) next;
+        subst (λ m. IsWithinRoom m new) (let e : used + k + 1 ≡ used + (k + 1) = omega arith in e) next;
     no_unknown = λ all.
         let here : All (λ u. change_of effect u.variable ≢ Unknown) (take k ts ++ t ∷ []) = rw front_more at all in
         let front : All (λ u. change_of effect u.variable ≢ Unknown) (take k ts) = λ i d p. subst (λ (u : Term). change_of effect u.variable ≢ Unknown) (get_or_append_left (take k ts) (t ∷ []) d i p) (here i d (omega (arith, length-append (take k ts) (t ∷ [])))) in
@@ -132,8 +132,8 @@ module _ (old mid new : Rewritten) (source : Box) (effect : Effect) (n : Bool) (
         no_unknown (λ e. constant_known source (change_of effect t.variable) last (sym change_is ∙ e)) ∙ so_far.no_unknown front;
   }
 
--- a room for six terms is a sum whose least value can be computed
-pub room_small : (r : Rewritten) → HasRoom 6 r → (unsigned_abs r.known.constant < 2 ^ 60) × (weight r.known.terms < 2 ^ 31) × (unsigned_abs r.unknown.constant < 2 ^ 60) × (weight r.unknown.terms < 2 ^ 31)
+-- with room for six terms the least value can be computed
+pub room_small : (r : Rewritten) → IsWithinRoom 6 r → (unsigned_abs r.known.constant < 2 ^ 60) × (weight r.known.terms < 2 ^ 31) × (unsigned_abs r.unknown.constant < 2 ^ 60) × (weight r.unknown.terms < 2 ^ 31)
 room_small r room =
     let zero = ap unsigned_abs room.unknown_constant in
     (omega (arith, room.constant), omega (arith, room.known_weight), omega (arith, zero), omega (arith, room.unknown_weight))

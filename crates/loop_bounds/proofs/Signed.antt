@@ -1,4 +1,4 @@
--- What the bits of a signed sum stand for, where it fits.
+-- The bits of a signed sum that does not overflow.
 use Rattle.std.proofs.Common.{◌≡◌, ℕ, ◌<◌, ◌^◌, ℤ, ◌+ℤ◌, ap, ◌∙◌, arith, unsigned_abs, FitsSigned, to_z, of_z}
 use Rattle.std.specs.Int.{w128}
 use Rattle.std.proofs.lemmas.Int.{to_z-of_z, fits_signed_from_abs}

@@ -1,4 +1,4 @@
--- Two variables of one rank are one.
+-- Two variables of the same rank are equal.
 use Rattle.std.proofs.Common.{◌≡◌, ◌≢◌, ℕ, ◌+◌, ◌-◌, ◌*◌, ◌/◌, ◌%◌, ◌==◌, cond, eqb, refl, sym, ap, ◌∙◌, arith}
 use Rattle.std.proofs.lemmas.Bool.Decides.{nat_tests}
 use Rattle.loop_bounds.specs.declared.variable.Variable.{Variable}
@@ -55,11 +55,10 @@ variable_at-rank (Slot n p) =
     let e : 12 + 3 * n + part_rank p ≡ 12 + (3 * n + part_rank p) = omega arith in
     ap variable_at e ∙ beyond (3 * n + part_rank p) ∙ slot_again n p
 
--- two variables of one rank are one
 pub same_from_rank : (v w : Variable) → rank_of v ≡ rank_of w → v ≡ w
 same_from_rank v w e = sym (variable_at-rank v) ∙ ap variable_at e ∙ variable_at-rank w
 
--- a choice by whether two variables are one
+-- a choice by whether two variables are equal
 pub choice_same : {X : Type 0} (v w : Variable) (a b : X) → v ≡ w → cond (eqb (rank_of v) (rank_of w)) a b ≡ a
 choice_same v w a b e =
     let same : rank_of v ≡ rank_of w = ap rank_of e in

@@ -1,4 +1,4 @@
--- A sum whose value is 0 everywhere has the constant 0 and no coefficient but 0.
+-- A sum whose value is 0 everywhere has the constant 0, and each coefficient is 0.
 use Rattle.std.proofs.Common.{◌≡◌, cond, eqb, List, [], ◌∷◌, ℤ, pos, ◌*ℤ◌, refl, sym, ap, ◌∙◌, arith, All}
 use Rattle.std.proofs.Math.IntN.{one, *ℤ-zero, *ℤ-one, zero-*ℤ}
 use Rattle.std.proofs.lemmas.Int.{ints}
@@ -6,7 +6,7 @@ use Rattle.std.proofs.lemmas.List.Elements.{All-head, All-tail, All-cons, All-ni
 use Rattle.loop_bounds.specs.declared.variable.Variable.{Variable}
 use Rattle.loop_bounds.specs.declared.linear.Term.{Term}
 use Rattle.loop_bounds.specs.Variable.{rank_of}
-use Rattle.loop_bounds.specs.Linear.{Sum, total, value}
+use Rattle.loop_bounds.specs.Linear.{LinearView, total, value}
 use Rattle.loop_bounds.specs.Effect.{Valuation, whole}
 use Rattle.loop_bounds.specs.Form.{AreDistinct}
 use Rattle.loop_bounds.proofs.VariableLemmas.{choice_same, choice_other}
@@ -15,7 +15,7 @@ use Rattle.loop_bounds.proofs.Boxes.{total_agree, distinct_head, distinct_tail}
 abbrev IsZeroTerm : Term → Type 0
 IsZeroTerm t = t.coefficient ≡ pos 0
 
--- the value 0 everywhere
+-- 0 everywhere
 nothing : Valuation
 nothing v = 0
 
@@ -30,7 +30,7 @@ total_zero x (t ∷ ts) h =
     let first = ap (λ z. z *ℤ x t.variable) (All-head IsZeroTerm t ts h) in
     omega (arith, ints, first, zero-*ℤ (x t.variable), total_zero x ts (All-tail IsZeroTerm t ts h))
 
--- 1 at one variable and 0 elsewhere
+-- 1 at one variable, 0 elsewhere
 only : Variable → Valuation
 only v w = cond (eqb (rank_of w) (rank_of v)) 1 0
 
@@ -54,15 +54,15 @@ terms_zero (t ∷ ts) h zero =
     omega (arith, ints, gone, zero-*ℤ (pos (x t.variable)), zero x) in
     All-cons IsZeroTerm t ts first (terms_zero ts (distinct_tail t ts h) rest)
 
-pub constant_zero : (s : Sum) → ((x : Valuation) → value (whole x) s ≡ pos 0) → s.constant ≡ pos 0
+pub constant_zero : (s : LinearView) → ((x : Valuation) → value (whole x) s ≡ pos 0) → s.constant ≡ pos 0
 constant_zero s zero = omega (arith, ints, zero nothing, total_nothing s.terms)
 
-pub coefficients_zero : (s : Sum) (ts : List Term) → ts ≡ s.terms → AreDistinct ts → ((x : Valuation) → value (whole x) s ≡ pos 0) → All (λ t. t.coefficient ≡ pos 0) ts
+pub coefficients_zero : (s : LinearView) (ts : List Term) → ts ≡ s.terms → AreDistinct ts → ((x : Valuation) → value (whole x) s ≡ pos 0) → All (λ t. t.coefficient ≡ pos 0) ts
 coefficients_zero s ts e h zero =
     let c = constant_zero s zero in
     terms_zero ts h (λ x. let same = ap (total (whole x)) e in omega (arith, ints, zero x))
 
-pub value_zero : (s : Sum) (ts : List Term) → ts ≡ s.terms → s.constant ≡ pos 0 → All (λ t. t.coefficient ≡ pos 0) ts → (x : Valuation) → value (whole x) s ≡ pos 0
+pub value_zero : (s : LinearView) (ts : List Term) → ts ≡ s.terms → s.constant ≡ pos 0 → All (λ t. t.coefficient ≡ pos 0) ts → (x : Valuation) → value (whole x) s ≡ pos 0
 value_zero s ts e c h x =
     let same = ap (total (whole x)) e in
     omega (arith, ints, total_zero (whole x) ts h)

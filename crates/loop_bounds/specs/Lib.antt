@@ -1,4 +1,4 @@
--- The definitions: linears and their values, effects of steps, the decisions, and tightening.
+-- The definitions: linears and their values, effects, exact tests, and tightening.
 pub mod Variable
 pub mod Linear
 pub mod LinearLaws

@@ -1,4 +1,4 @@
--- The three places of a linear are given back by its terms.
+-- The terms of a linear determine its three places.
 use Rattle.std.specs.Prelude.{◌≡◌, ℕ, ◌-◌, ◌≤◌, List, length, take, replicate, ℤ}
 use Rattle.std.proofs.Common.{arith, sym, ◌∙◌, ap, length-append}
 use Rattle.std.proofs.Math.ListN.{length-replicate, length-take}

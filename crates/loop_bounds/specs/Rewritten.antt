@@ -1,19 +1,20 @@
--- A sum over the variables before a step and those that are unknown after it.
+-- A linear rewritten by an effect: variables before the step, and variables unknown after it.
 use Rattle.std.specs.Prelude.{◌≡◌, ℕ, ◌+◌, ◌*◌, ◌^◌, ◌≤◌, Bool, length, ℤ, pos, ◌+ℤ◌, unsigned_abs}
 use Rattle.loop_bounds.specs.declared.rewritten.Rewritten.{Rewritten}
 use Rattle.loop_bounds.specs.declared.effect.Effect.{Effect}
-use Rattle.loop_bounds.specs.Linear.{Sum, total, value}
+use Rattle.loop_bounds.specs.Linear.{LinearView, total, value}
 use Rattle.loop_bounds.specs.Effect.{Valuation, whole, after_from}
 use Rattle.loop_bounds.specs.Form.{weight}
 use Rattle.loop_bounds.specs.Ranges.{Box}
 use Rattle.loop_bounds.specs.Signed.{signed}
 
--- what it comes to at the values before the step and those of the unknown variables
+-- its value, from the values before the step and those of the unknown variables
 abbrev pub value_of_both : Valuation → Valuation → Rewritten → ℤ
 value_of_both before free r = value (whole before) r.known +ℤ value (whole free) r.unknown
 
--- it holds at most so many terms, with coefficients up to 1,000,000 in size, and what the constants of as many came to
-pub record HasRoom (used : ℕ) (r : Rewritten) : Type 0 where
+-- the sum has at most `used` terms with coefficients up to 1,000,000 in size, and constants for as many, so nothing
+-- overflows
+pub record IsWithinRoom (used : ℕ) (r : Rewritten) : Type 0 where
   pub known_terms : length r.known.terms ≤ used
   pub unknown_terms : length r.unknown.terms ≤ used
   pub known_weight : weight r.known.terms ≤ 1000000 * used
@@ -21,7 +22,7 @@ pub record HasRoom (used : ℕ) (r : Rewritten) : Type 0 where
   pub constant : unsigned_abs r.known.constant ≤ 2 ^ 40 * (used + 1)
   pub unknown_constant : r.unknown.constant ≡ pos 0
 
--- the terms of a sum were added, or their negations, each rewritten by the effect of a step from the source box
-abbrev pub WasAdded : Rewritten → Rewritten → Box → Effect → Bool → Sum → Type 0
+-- the terms of a linear, or their negations, were added, each rewritten by the effect of a step from the source box
+abbrev pub WasAdded : Rewritten → Rewritten → Box → Effect → Bool → LinearView → Type 0
 WasAdded old new source effect negated s =
     (before free : Valuation) → value_of_both before free new ≡ value_of_both before free old +ℤ signed negated (total (after_from source effect before free) s.terms)

@@ -1,17 +1,17 @@
--- The variables of linears, and their order (docs/CHECKER.md, "Linear bounds, effects and tightening").
+-- The variables of linears and their order (docs/CHECKER.md, "Linear bounds, effects and tightening").
 use Rattle.std.specs.Prelude.{ℕ, ◌+◌, ◌*◌}
 use Rattle.loop_bounds.specs.declared.variable.Variable.{Variable}
 use Rattle.loop_bounds.specs.declared.variable.Variable.TheVariants.{A, B, C, D, E, H, L, Bc, De, Hl, Ix, Iy, Slot}
 use Rattle.loop_bounds.specs.declared.variable.Part.{Part}
 use Rattle.loop_bounds.specs.declared.variable.Part.TheVariants.{Word, High, Low}
 
--- the rank of a part of a slot among the three, from 0
+-- the rank of a part within its slot, from 0
 abbrev pub part_rank : Part → ℕ
 part_rank Word = 0
 part_rank High = 1
 part_rank Low = 2
 
--- the rank of a variable in the order A B C D E H L BC DE HL IX IY s0 s0h s0l s1 s1h .. s63l, from 0
+-- The rank in the order A B C D E H L BC DE HL IX IY s0 s0h s0l s1 s1h .. s63l, from 0.
 abbrev pub rank_of : Variable → ℕ
 rank_of A = 0
 rank_of B = 1

@@ -1,4 +1,4 @@
-// The decisions on linears: whether one decreases, vanishes or becomes another.
+// The exact tests on linears: whether one decreases, vanishes, or becomes another.
 ghost use Rattle.std.specs.Prelude.{◌≡◌, ◌↔◌, ◌⊎◌, ◌≢◌, ◌<◌, ◌≤◌, ◌^◌, All, IsTrue, not, pos, ◌+ℤ◌, ◌-ℤ◌, unsigned_abs};
 ghost use Rattle.loop_bounds.specs.declared.effect.Change.TheVariants.{Unknown};
 ghost use Rattle.loop_bounds.specs.Linear.{value};
@@ -11,9 +11,9 @@ use crate::linear::{Linear, Term};
 use crate::ranges::{Ranges, Unbounded};
 use crate::rewritten::Rewritten;
 
-/// Whether `from` less the cost, in T-states, less `to` after the step is at least 0, whatever the variables are in the
-/// source ranges, and whatever those that are unknown after the step are in the target ranges. Each variable ranges by
-/// itself, also BC and B, and the arithmetic never wraps.
+/// Whether `from` - `cost` - `to` is at least 0, with `to` rewritten by the effect. The variables take all values of
+/// the source ranges. Those that are unknown after the step take all values of the target ranges, independent of the
+/// source. Each variable ranges by itself, also BC and B. `cost` is in T-states. No number wraps.
 pub fn decreases<S: Ranges, T: Ranges>(
     from: &Linear,
     to: &Linear,
@@ -22,7 +22,8 @@ pub fn decreases<S: Ranges, T: Ranges>(
     source: &S,
     target: &T,
 ) -> bool
-    ensures { IsTrue result ↔ Decreases from.now to.now cost effect.now (S.range_of source.now) (T.range_of target.now) }
+    ensures { IsTrue result
+        ↔ Decreases from.now to.now cost effect.now (S.range_of source.now) (T.range_of target.now) }
 {
     let mut left = Rewritten::new(constant_left(from, cost, to));
     left.add_linear(from, &Unbounded, &Effect::unchanged(), false);
@@ -30,7 +31,7 @@ pub fn decreases<S: Ranges, T: Ranges>(
     left.is_never_negative(source, target)
 }
 
-/// The constant of `from` less the cost less the constant of `to`.
+/// The constant of `from` minus the cost minus the constant of `to`.
 fn constant_left(from: &Linear, cost: u32, to: &Linear) -> i128
     ensures value { result ≡ from.now.constant -ℤ pos cost -ℤ to.now.constant }
     ensures size { unsigned_abs result < 2 ^ 40 }
@@ -38,7 +39,7 @@ fn constant_left(from: &Linear, cost: u32, to: &Linear) -> i128
     wide_constant(from) - i128::from(cost) - wide_constant(to)
 }
 
-/// The constant of the fact less that of the given one, or their sum where it is negated.
+/// The constant of the fact minus that of the given linear, or their sum if the given linear is negated.
 fn constant_between(fact: &Linear, given: &Linear, negated: bool) -> i128
     ensures value { result ≡ fact.now.constant +ℤ signed (not negated) given.now.constant }
     ensures size { unsigned_abs result < 2 ^ 40 }
@@ -51,7 +52,7 @@ fn constant_between(fact: &Linear, given: &Linear, negated: bool) -> i128
     }
 }
 
-/// The constant of a linear, in 128 bits.
+/// The constant of a linear, as 128 bits.
 fn wide_constant(linear: &Linear) -> i128
     ensures value { result ≡ linear.now.constant }
     ensures size { unsigned_abs result ≤ 1000000000 }
@@ -75,8 +76,8 @@ fn has_no_unknown(linear: &Linear, effect: &Effect) -> bool
     have_no_unknown(linear.terms(), effect)
 }
 
-/// Whether the fact, rewritten by the effect of a step from the source ranges, has no unknown and is the constant 0. What a
-/// step leaves as it was is a constant where its source range is one value.
+/// Whether the fact, rewritten by the effect, has no unknown variable and is the constant 0. An unchanged variable
+/// counts as a constant if its source range has one value.
 pub fn vanishes<S: Ranges>(fact: &Linear, effect: &Effect, source: &S) -> bool
     ensures { IsTrue result ↔ Vanishes fact.now effect.now (S.range_of source.now) }
 {
@@ -88,8 +89,8 @@ pub fn vanishes<S: Ranges>(fact: &Linear, effect: &Effect, source: &S) -> bool
     left.known.is_zero()
 }
 
-/// Whether the fact, rewritten by the effect of a step from the source ranges, has no unknown and is the given one, or its
-/// negation where that is asked.
+/// Whether the fact, rewritten by the effect, has no unknown variable and is the given linear (its negation if
+/// `negated`).
 fn is_rewritten_to<S: Ranges>(
     fact: &Linear,
     effect: &Effect,
@@ -109,9 +110,8 @@ fn is_rewritten_to<S: Ranges>(
     left.known.is_zero()
 }
 
-/// Whether the fact, rewritten by the effect of a step from the source ranges, has no unknown and is the given one or its
-/// negation. What a step leaves as it was is a constant where its source range is one value; the given fact is taken as it
-/// stands.
+/// Whether the fact, rewritten by the effect, has no unknown variable and is the given linear or its negation. An
+/// unchanged variable counts as a constant if its source range has one value. The given linear is taken as it is.
 pub fn becomes<S: Ranges>(fact: &Linear, effect: &Effect, source: &S, given: &Linear) -> bool
     ensures { IsTrue result ↔ (Becomes fact.now effect.now (S.range_of source.now) given.now
         ⊎ BecomesNegation fact.now effect.now (S.range_of source.now) given.now) }

@@ -1,23 +1,23 @@
-// What a step leaves in each variable.
+// Effects of steps.
 ghost use Rattle.std.specs.Prelude.{◌≡◌};
 
 use crate::variable::{Part, SlotNumber, Variable};
 
-/// What a step leaves in a variable.
+/// What a step leaves in one variable.
 #[derive(Clone, Copy, PartialEq, Eq)]
 pub enum Change {
-    /// What a variable, this one or another, held before the step.
+    /// The value of a variable, this one or another, before the step.
     Old(Variable),
-    /// One more than a variable held, which can't wrap.
+    /// One more than that value; the sum does not wrap.
     Raised(Variable),
-    /// One less than a variable held, which can't wrap.
+    /// One less than that value; the difference does not wrap.
     Lowered(Variable),
-    /// This number.
+    /// A constant.
     Constant(u16),
     Unknown,
 }
 
-/// What a step leaves in a slot that it writes.
+/// What a step leaves in the slot that it writes.
 #[derive(Clone, Copy, PartialEq, Eq)]
 pub struct SlotChange {
     pub number: SlotNumber,
@@ -26,7 +26,7 @@ pub struct SlotChange {
     pub low: Change,
 }
 
-/// What a step leaves in each variable. It writes at most one slot.
+/// What a step leaves in each variable, in terms of the variables before it. A step writes at most one slot.
 #[derive(Clone, Copy, PartialEq, Eq)]
 pub struct Effect {
     pub a: Change,
@@ -49,7 +49,7 @@ impl Effect {
     ghost use Rattle.loop_bounds.specs.declared.variable.Variable.{Variable};
     ghost use Rattle.loop_bounds.specs.Effect.{unchanged, change_of};
 
-    /// Each variable keeps what it holds.
+    /// The effect that changes no variable.
     pub fn unchanged() -> Effect
         ensures exact { result ≡ unchanged }
         ensures old { (v : Variable) → change_of result v ≡ Old v }
@@ -71,7 +71,7 @@ impl Effect {
         }
     }
 
-    /// What the step leaves in one variable.
+    /// What the step leaves in `variable`.
     pub fn change(&self, variable: Variable) -> Change
         ensures { result ≡ change_of self.now variable }
     {

@@ -13,7 +13,7 @@ use crate::variable::Variable;
 use intervals::WordRange;
 use std::marker::Model;
 
-/// A sum of at most six terms with distinct variables, in any order, whose coefficients may be 0.
+/// A sum of a constant and at most six terms. Their variables are distinct and in any order; coefficients may be 0.
 #[derive(Drop)]
 pub struct Form {
     constant: i128,
@@ -23,17 +23,17 @@ pub struct Form {
 
 impl Model for Form {
     ghost use Rattle.std.specs.Prelude.{take};
-    ghost use Rattle.loop_bounds.specs.Linear.{Sum};
+    ghost use Rattle.loop_bounds.specs.Linear.{LinearView};
     ghost use Rattle.loop_bounds.specs.Form.{IsForm};
 
-    ghost Value = { Sum };
+    ghost Value = { LinearView };
 
     ghost view = { λ f. record { constant = f.constant; terms = take f.count f.terms } };
 
     ghost invariant = { λ f. IsForm f.terms f.count };
 }
 
-/// The term with something added to its coefficient.
+/// The term with `by` added to its coefficient.
 fn raised(term: &Term, by: i32) -> Term
     requires { FitsSigned w32 (term.now.coefficient +ℤ by) }
     ensures { result ≡ record term.now { coefficient = term.now.coefficient +ℤ by } }
@@ -44,7 +44,7 @@ fn raised(term: &Term, by: i32) -> Term
     }
 }
 
-/// A multiple of a value of a variable.
+/// `coefficient` times `value`.
 pub fn multiple(coefficient: i32, value: u16) -> i128
     ensures value { result ≡ coefficient *ℤ pos value }
     ensures size { unsigned_abs result ≤ 65535 * unsigned_abs coefficient }
@@ -52,7 +52,7 @@ pub fn multiple(coefficient: i32, value: u16) -> i128
     i128::from(coefficient) * i128::from(value)
 }
 
-/// The least multiple of a value in the range.
+/// The least product of `coefficient` and a value of the range.
 pub fn least_multiple(coefficient: i32, range: WordRange) -> i128
     ensures value { result ≡ coefficient *ℤ pos (end_of range coefficient) }
     ensures order { range.low ≤ range.high }
@@ -69,7 +69,7 @@ fn all_zero(terms: &[Term]) -> bool
     terms.iter().all(|term| term.coefficient == 0)
 }
 
-/// The place of the first term with a variable.
+/// The index of the first term with `variable`.
 fn position(terms: &[Term], variable: &Variable) -> Option<usize>
     ensures { MatchOption result (All (λ t. t.variable ≢ variable.now) terms.now)
         (λ k. (k < length terms.now) × HoldsAt (λ t. t.variable ≡ variable.now) terms.now k) }
@@ -78,7 +78,7 @@ fn position(terms: &[Term], variable: &Variable) -> Option<usize>
 }
 
 impl Form {
-    /// A constant.
+    /// The sum with this constant and no terms.
     pub fn new(constant: i128) -> Form
         ensures { result ≡ record { constant = constant; terms = [] } }
     {
@@ -93,7 +93,7 @@ impl Form {
         }
     }
 
-    /// Adds to the constant.
+    /// Adds `by` to the constant.
     pub fn raise(&mut self, by: i128)
         requires { unsigned_abs self.old.constant + unsigned_abs by < 2 ^ 100 }
         ensures { self.new ≡ record self.old { constant = self.old.constant +ℤ by } }
@@ -101,7 +101,7 @@ impl Form {
         self.constant += by;
     }
 
-    /// Adds a multiple of a variable.
+    /// Adds a term; one with the same variable absorbs it.
     pub fn add(&mut self, term: Term)
         requires room { length self.old.terms < 6 }
         requires fits { weight self.old.terms + unsigned_abs term.coefficient < 2 ^ 31 }
@@ -109,7 +109,8 @@ impl Form {
             ≡ total x self.old.terms +ℤ term.coefficient *ℤ x term.variable }
         ensures constant { self.new.constant ≡ self.old.constant }
         ensures count { length self.new.terms ≤ length self.old.terms + 1 }
-        ensures weight { weight self.new.terms ≤ weight self.old.terms + unsigned_abs term.coefficient }
+        ensures weight { weight self.new.terms ≤ weight self.old.terms + unsigned_abs
+            term.coefficient }
     {
         match position(&self.terms[..self.count], &term.variable) {
             Some(place) => {
@@ -127,8 +128,10 @@ impl Form {
     pub fn least<R: Ranges>(&self, ranges: &R) -> i128
         requires small { unsigned_abs self.now.constant < 2 ^ 60 }
         requires light { weight self.now.terms < 2 ^ 31 }
-        ensures bound { (x : Valuation) → LiesIn (R.range_of ranges.now) x → result ≤ℤ value (whole x) self.now }
-        ensures reached { (x : Valuation) × LiesIn (R.range_of ranges.now) x × (value (whole x) self.now ≡ result) }
+        ensures bound { (x : Valuation) → LiesIn (R.range_of ranges.now) x
+            → result ≤ℤ value (whole x) self.now }
+        ensures reached { (x : Valuation) × LiesIn (R.range_of ranges.now) x
+            × (value (whole x) self.now ≡ result) }
         ensures size { unsigned_abs result < 2 ^ 61 }
     {
         let mut least = self.constant;
@@ -138,7 +141,7 @@ impl Form {
         least
     }
 
-    /// Whether the value is 0 wherever its variables are.
+    /// Whether the value is 0 at all values of the variables.
     pub fn is_zero(&self) -> bool
         ensures { IsTrue result ↔ ((x : Valuation) → value (whole x) self.now ≡ pos 0) }
     {

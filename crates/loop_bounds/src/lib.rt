@@ -1,4 +1,5 @@
-// Linear bounds over the registers and the stack slots of a row (docs/CHECKER.md, "Linear bounds, effects and tightening").
+// Linear bounds over the registers and the stack slots of a row (docs/CHECKER.md, "Linear bounds, effects and
+// tightening").
 #![tactic(auto)]
 
 mod bounds;
@@ -12,7 +13,7 @@ mod variable;
 
 pub use bounds::{becomes, decreases, vanishes};
 pub use effect::{Change, Effect, SlotChange};
-pub use linear::{Linear, Term};
+pub use linear::{GREATEST_COEFFICIENT, GREATEST_CONSTANT, Linear, Term};
 pub use ranges::{Ranges, Tightenable};
 pub use tightening::tighten;
 pub use variable::{Part, SlotNumber, Variable};

@@ -5,27 +5,27 @@ ghost use Rattle.loop_bounds.specs.Variable.{rank_of};
 use crate::variable::Variable;
 use std::marker::Model;
 
-/// The greatest size of a constant.
-const GREATEST_CONSTANT: u32 = 1_000_000_000;
+/// The greatest absolute value of a constant.
+pub const GREATEST_CONSTANT: u32 = 1_000_000_000;
 
-/// The greatest size of a coefficient.
-const GREATEST_COEFFICIENT: u32 = 1_000_000;
+/// The greatest absolute value of a coefficient.
+pub const GREATEST_COEFFICIENT: u32 = 1_000_000;
 
-/// A multiple of a variable.
+/// A coefficient times a variable.
 #[derive(Clone, Copy, PartialEq, Eq)]
 pub struct Term {
     pub coefficient: i32,
     pub variable: Variable,
 }
 
-/// What stands in the places for terms that a linear does not use.
+/// Fills the places of a linear that have no term.
 const PADDING: Term = Term {
     coefficient: 0,
     variable: Variable::A,
 };
 
-/// A constant and at most three terms, whose variables rise strictly. The constant is up to 1,000,000,000 in size, each
-/// coefficient 1 to 1,000,000.
+/// A constant and at most three terms, whose variables rise strictly in their order. The constant is at most
+/// 1,000,000,000 in size, each coefficient 1 to 1,000,000.
 #[derive(Clone, Copy, PartialEq, Eq)]
 pub struct Linear {
     constant: i32,
@@ -35,9 +35,9 @@ pub struct Linear {
 
 impl Model for Linear {
     ghost use Rattle.std.specs.Prelude.{length, take};
-    ghost use Rattle.loop_bounds.specs.Linear.{Sum, IsStored, padded};
+    ghost use Rattle.loop_bounds.specs.Linear.{LinearView, IsStored, padded};
 
-    ghost Value = { Sum };
+    ghost Value = { LinearView };
 
     ghost use Rattle.loop_bounds.specs.LinearLaws.{padded_again};
 
@@ -50,14 +50,14 @@ impl Model for Linear {
     ghost inverse_ok = { λ l h. padded_again l.constant l.terms l.count h };
 }
 
-/// Whether a number is 1 to 1,000,000 in size.
 fn is_coefficient(coefficient: i32) -> bool
-    ensures { IsTrue result ↔ ((0 < unsigned_abs coefficient) × (unsigned_abs coefficient ≤ 1000000)) }
+    ensures { IsTrue result
+        ↔ ((0 < unsigned_abs coefficient) × (unsigned_abs coefficient ≤ 1000000)) }
 {
     (1..=GREATEST_COEFFICIENT).contains(&coefficient.unsigned_abs())
 }
 
-/// Whether each of the terms has a variable that comes before this one.
+/// Whether the variable of each term comes before `variable`.
 fn all_before(terms: &[Term], variable: Variable) -> bool
     ensures { IsTrue result ↔ All (λ t. rank_of t.variable < rank_of variable) terms.now }
 {
@@ -66,9 +66,9 @@ fn all_before(terms: &[Term], variable: Variable) -> bool
 }
 
 impl Linear {
-    ghost use Rattle.loop_bounds.specs.Linear.{Sum, IsLinear, extended, padded};
+    ghost use Rattle.loop_bounds.specs.Linear.{LinearView, IsLinear, extended, padded};
 
-    /// 0.
+    /// The linear 0.
     pub fn zero() -> Linear
         ensures { result ≡ record { constant = pos 0; terms = [] } }
     {
@@ -79,9 +79,10 @@ impl Linear {
         }
     }
 
-    /// A linear without terms, or None where the constant is above 1,000,000,000 in size.
+    /// The constant as a linear, or None if it is above 1,000,000,000 in size.
     pub fn of_constant(constant: i32) -> Option<Linear>
-        ensures { SomeIff result (unsigned_abs constant ≤ 1000000000) (record { constant = constant; terms = [] }) }
+        ensures { SomeIff result (unsigned_abs constant ≤ 1000000000)
+            (record { constant = constant; terms = [] }) }
     {
         if constant.unsigned_abs() > GREATEST_CONSTANT {
             return None;
@@ -92,8 +93,8 @@ impl Linear {
         })
     }
 
-    /// Whether a term can be added at the end: there is room, its coefficient is 1 to 1,000,000 in size, and its variable
-    /// comes after those that are there.
+    /// Whether the term may be added at the end: there is room, its coefficient is 1 to 1,000,000 in size, and its
+    /// variable comes after the others.
     fn takes(&self, term: &Term) -> bool
         ensures { IsTrue result ↔ IsLinear (extended self.now term.now) }
     {
@@ -106,8 +107,8 @@ impl Linear {
         all_before(self.terms(), term.variable)
     }
 
-    /// The linear with one more term at its end, or None where there are three terms already, the coefficient is 0 or
-    /// above 1,000,000 in size, or the variable does not come after those that are there.
+    /// The linear with one more term at its end. None if there are three terms already, the coefficient is 0 or above
+    /// 1,000,000 in size, or the variable does not come after the others.
     pub fn with_term(self, term: Term) -> Option<Linear>
         ensures { SomeIff result (IsLinear (extended self term)) (extended self term) }
     {
@@ -123,7 +124,7 @@ impl Linear {
         })
     }
 
-    /// The constant, up to 1,000,000,000 in size.
+    /// The constant, at most 1,000,000,000 in size.
     pub fn constant(&self) -> i32
         ensures value { result ≡ self.now.constant }
         ensures linear { IsLinear self.now }
@@ -131,7 +132,7 @@ impl Linear {
         self.constant
     }
 
-    /// The terms, at most three, in the rising order of their variables.
+    /// The terms, at most three, in the strictly rising order of their variables.
     pub fn terms(&self) -> &[Term]
         ensures value { result.now ≡ self.now.terms }
         ensures linear { IsLinear self.now }

@@ -1,4 +1,4 @@
-// A sum as a step rewrites it: the part that is known before the step, and the part that is unknown after it.
+// A linear rewritten by an effect, in two parts: the variables before the step, and the variables unknown after it.
 ghost use Rattle.std.specs.Prelude.{◌≡◌, ◌≢◌, ◌↔◌, IsTrue, ◌≤ℤ◌, ℕ, ◌+◌, ◌<◌, ◌≤◌, ◌^◌, [], length, All, ℤ, pos, ◌+ℤ◌, ◌*ℤ◌, unsigned_abs};
 ghost use Rattle.loop_bounds.specs.declared.effect.Change.TheVariants.{Unknown};
 ghost use Rattle.loop_bounds.specs.Linear.{total};
@@ -12,15 +12,13 @@ use crate::linear::{Linear, Term};
 use crate::ranges::Ranges;
 use intervals::WordRange;
 
-/// A sum that was rewritten by an effect: what it has of variables before the step, and what it has of variables that are
-/// unknown after it.
+/// A sum rewritten by an effect. `known` has its variables before the step, `unknown` those that are unknown after it.
 #[derive(Drop)]
 pub struct Rewritten {
     pub known: Form,
     pub unknown: Form,
 }
 
-/// The coefficient, or its negation.
 fn negated_if(negated: bool, coefficient: i32) -> i32
     requires { unsigned_abs coefficient ≤ 1000000 }
     ensures value { result ≡ signed negated coefficient }
@@ -29,7 +27,7 @@ fn negated_if(negated: bool, coefficient: i32) -> i32
     if negated { -coefficient } else { coefficient }
 }
 
-/// The range before a step of what a step leaves as a variable was; of all else nothing is known.
+/// The source range of an unchanged variable; full for any other change.
 fn old_range<S: Ranges>(source: &S, change: &Change) -> WordRange
     ensures { result ≡ old_range (S.range_of source.now) change.now }
 {
@@ -39,7 +37,7 @@ fn old_range<S: Ranges>(source: &S, change: &Change) -> WordRange
     }
 }
 
-/// What a step leaves in a variable, where an old variable whose range before the step is one value is that value.
+/// The change, with an unchanged variable turned into a constant if its source range has one value.
 fn constant_before<S: Ranges>(source: &S, change: Change) -> Change
     ensures { result ≡ constant_before (S.range_of source.now) change }
 {
@@ -50,14 +48,14 @@ fn constant_before<S: Ranges>(source: &S, change: Change) -> Change
 }
 
 impl Rewritten {
-    ghost use Rattle.loop_bounds.specs.Rewritten.{value_of_both, HasRoom, WasAdded};
+    ghost use Rattle.loop_bounds.specs.Rewritten.{value_of_both, IsWithinRoom, WasAdded};
 
-    /// A constant.
+    /// The sum with this constant and no terms.
     pub fn new(constant: i128) -> Rewritten
         requires { unsigned_abs constant < 2 ^ 40 }
         ensures known { result.known ≡ record { constant = constant; terms = [] } }
         ensures unknown { result.unknown ≡ record { constant = pos 0; terms = [] } }
-        ensures room { HasRoom 0 result }
+        ensures room { IsWithinRoom 0 result }
     {
         Rewritten {
             known: Form::new(constant),
@@ -65,13 +63,13 @@ impl Rewritten {
         }
     }
 
-    /// Adds a multiple of what the step leaves in a variable.
+    /// Adds a coefficient times what the step leaves in a variable.
     fn add(&mut self, term: Term, change: Change)
-        requires room { HasRoom 5 self.old }
+        requires room { IsWithinRoom 5 self.old }
         requires small { unsigned_abs term.coefficient ≤ 1000000 }
         ensures value { (before free : Valuation) → value_of_both before free self.new
             ≡ value_of_both before free self.old +ℤ term.coefficient *ℤ changed change before (pos (free term.variable)) }
-        ensures room { (used : ℕ) → HasRoom used self.old → HasRoom (used + 1) self.new }
+        ensures room { (used : ℕ) → IsWithinRoom used self.old → IsWithinRoom (used + 1) self.new }
         ensures no_unknown { change ≢ Unknown → self.new.unknown ≡ self.old.unknown }
     {
         let coefficient = term.coefficient;
@@ -99,14 +97,14 @@ impl Rewritten {
         }
     }
 
-    /// Adds some terms, or their negations, each rewritten by the effect of a step from the source ranges.
+    /// Adds terms, or their negations, each rewritten by the effect of a step from the source ranges.
     fn add_terms<S: Ranges>(&mut self, terms: &[Term], source: &S, effect: &Effect, negated: bool)
         requires few { length terms.now ≤ 3 }
         requires small { All (λ t. unsigned_abs t.coefficient ≤ 1000000) terms.now }
-        requires room { HasRoom 3 self.old }
+        requires room { IsWithinRoom 3 self.old }
         ensures value { (before free : Valuation) → value_of_both before free self.new
             ≡ value_of_both before free self.old +ℤ signed negated (total (after_from (S.range_of source.now) effect.now before free) terms.now) }
-        ensures room { (used : ℕ) → HasRoom used self.old → HasRoom (used + 3) self.new }
+        ensures room { (used : ℕ) → IsWithinRoom used self.old → IsWithinRoom (used + 3) self.new }
         ensures no_unknown { All (λ t. change_of effect.now t.variable ≢ Unknown) terms.now
             → self.new.unknown ≡ self.old.unknown }
     {
@@ -128,18 +126,20 @@ impl Rewritten {
         effect: &Effect,
         negated: bool,
     )
-        requires { HasRoom 3 self.old }
-        ensures value { WasAdded self.old self.new (S.range_of source.now) effect.now negated linear.now }
-        ensures room { (used : ℕ) → HasRoom used self.old → HasRoom (used + 3) self.new }
-        ensures no_unknown { HasNoUnknown effect.now linear.now → self.new.unknown ≡ self.old.unknown }
+        requires { IsWithinRoom 3 self.old }
+        ensures value { WasAdded self.old self.new (S.range_of source.now)
+            effect.now negated linear.now }
+        ensures room { (used : ℕ) → IsWithinRoom used self.old → IsWithinRoom (used + 3) self.new }
+        ensures no_unknown { HasNoUnknown effect.now linear.now
+            → self.new.unknown ≡ self.old.unknown }
     {
         self.add_terms(linear.terms(), source, effect, negated);
     }
 
-    /// Whether the value is at least 0 wherever the variables before the step are in the source ranges, and the unknown ones
-    /// in the target ranges.
+    /// Whether the value is at least 0 for all variables before the step in the source ranges, and all unknown
+    /// variables in the target ranges.
     pub fn is_never_negative<S: Ranges, T: Ranges>(&self, source: &S, target: &T) -> bool
-        requires { HasRoom 6 self.now }
+        requires { IsWithinRoom 6 self.now }
         ensures { IsTrue result ↔ ((before free : Valuation) → LiesIn (S.range_of source.now) before
             → LiesIn (T.range_of target.now) free → pos 0 ≤ℤ value_of_both before free self.now) }
     {

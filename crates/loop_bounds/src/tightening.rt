@@ -1,4 +1,4 @@
-// The cuts that a linear which is 0 makes.
+// Tightening: the cuts that a fact makes.
 ghost use Rattle.std.specs.Prelude.{◌≡◌, ◌+◌, ◌*◌, ◌<◌, ◌≤◌, ◌^◌, length, All, ℤ, pos, ◌+ℤ◌, ◌-ℤ◌, ◌*ℤ◌, unsigned_abs, Some, None, IsTrue, MatchBool, slice_index_or, if◌then◌else◌};
 ghost use Rattle.std.specs.Bool.{OnFalse};
 ghost use Rattle.loop_bounds.specs.Linear.{value};
@@ -11,7 +11,7 @@ use crate::linear::{Linear, Term};
 use crate::ranges::{Ranges, Tightenable};
 use intervals::WordRange;
 
-/// The least natural number whose multiple is not below a value.
+/// The least natural number whose product with `factor` is not below `value`.
 fn quotient_up(value: i128, factor: u32) -> u128
     requires factor { 0 < factor }
     requires small { unsigned_abs value < 2 ^ 64 }
@@ -24,7 +24,7 @@ fn quotient_up(value: i128, factor: u32) -> u128
     }
 }
 
-/// The values of a range whose multiple lies from `from` to `to`.
+/// The values of a range whose product with `factor` lies from `from` to `to`.
 fn multiples_between(from: i128, to: i128, factor: u32, range: WordRange) -> Option<WordRange>
     requires factor { 0 < factor }
     requires from { unsigned_abs from < 2 ^ 64 }
@@ -41,7 +41,7 @@ fn multiples_between(from: i128, to: i128, factor: u32, range: WordRange) -> Opt
     WordRange::new(low as u16, high as u16)
 }
 
-/// The values of a range whose multiple can be made 0 by adding something from `low` to `high`.
+/// The values of a range whose product with `coefficient` becomes 0 when some number from `low` to `high` is added.
 fn balancing(coefficient: i32, low: i128, high: i128, range: WordRange) -> Option<WordRange>
     requires coefficient { 0 < unsigned_abs coefficient }
     requires low { unsigned_abs low < 2 ^ 64 }
@@ -56,7 +56,7 @@ fn balancing(coefficient: i32, low: i128, high: i128, range: WordRange) -> Optio
     }
 }
 
-/// What some terms come to at least and at most, each variable by itself.
+/// The least and the greatest sum of the terms, each variable ranging by itself.
 fn span<R: Ranges>(terms: &[Term], ranges: &R) -> (i128, i128)
     requires few { length terms.now ≤ 3 }
     requires small { All (λ t. unsigned_abs t.coefficient ≤ 1000000) terms.now }
@@ -74,7 +74,7 @@ fn span<R: Ranges>(terms: &[Term], ranges: &R) -> (i128, i128)
     (least, greatest)
 }
 
-/// The greatest multiple of a value in the range.
+/// The greatest product of `coefficient` and a value of the range.
 fn greatest_multiple(coefficient: i32, range: WordRange) -> i128
     ensures value { result ≡ coefficient *ℤ pos (top_of range coefficient) }
     ensures size { unsigned_abs result ≤ 65535 * unsigned_abs coefficient }
@@ -83,7 +83,7 @@ fn greatest_multiple(coefficient: i32, range: WordRange) -> i128
     multiple(coefficient, if coefficient >= 0 { high } else { low })
 }
 
-/// What the constant and the other terms leave of the range of the term at a place.
+/// What the constant and the other terms leave of the range of the term at `place`.
 fn share_left<R: Ranges>(fact: &Linear, place: usize, term: &Term, ranges: &R) -> Option<WordRange>
     requires place { place < length fact.now.terms }
     requires term { term.now ≡ slice_index_or fact.now.terms place term.now }
@@ -104,7 +104,7 @@ fn share_left<R: Ranges>(fact: &Linear, place: usize, term: &Term, ranges: &R) -
     )
 }
 
-/// The constant and a total, less one of its parts.
+/// The constant plus a total minus one of its parts.
 fn without(constant: i128, total: i128, part: i128) -> i128
     requires constant { unsigned_abs constant < 2 ^ 40 }
     requires total { unsigned_abs total < 2 ^ 40 }
@@ -115,14 +115,15 @@ fn without(constant: i128, total: i128, part: i128) -> i128
     constant + total - part
 }
 
-/// Cuts each variable of a fact, which is 0, to what the ranges of the others leave, in the order of the terms, each cut
-/// seen by the next, and rounded inwards. Tells whether anything is left; where nothing is, the state keeps the cuts
-/// before the one that left nothing.
+/// Tightens a state by a fact: cuts each variable, in the order of the terms, to what the ranges of the others leave,
+/// rounded inwards. Each cut sees the ones before it. Answers whether anything is left. If nothing is, the state has
+/// the cuts made before the one that failed.
 pub fn tighten<S: Tightenable>(fact: &Linear, state: &mut S) -> bool
     ensures exact { MatchBool result
         (tightened S.range_of S.cut_to fact.now state.old ≡ Some state.new)
         (tightened S.range_of S.cut_to fact.now state.old ≡ None) }
-    ensures stopped { OnFalse result (state.new ≡ after_last_cut S.range_of S.cut_to fact.now state.old) }
+    ensures stopped { OnFalse result (state.new
+        ≡ after_last_cut S.range_of S.cut_to fact.now state.old) }
     ensures keeps { (x : Valuation) → S.holds state.old x → value (whole x) fact.now ≡ pos 0
         → IsTrue result × S.holds state.new x }
 {

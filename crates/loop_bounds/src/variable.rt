@@ -1,9 +1,10 @@
-// The variables of linears: registers, pairs, slots and their bytes.
+// The variables of linears: registers, register pairs, slots and their bytes.
 ghost use Rattle.std.specs.Prelude.{◌≡◌, ◌<◌, ◌≤◌, SomeIff};
 
+use stack_shape::SLOTS;
 use std::marker::Model;
 
-/// A slot's word, or one of its bytes.
+/// The word of a slot, or one of its bytes.
 #[derive(Clone, Copy, PartialEq, Eq)]
 pub enum Part {
     Word,
@@ -11,10 +12,7 @@ pub enum Part {
     Low,
 }
 
-/// How many slots a shape has at most.
-const SLOTS: u8 = 64;
-
-/// The number of a slot, 0 to 63, where slot 0 was pushed first. No shape has more slots.
+/// The number of a slot, 0 to 63. Slot 0 was pushed first.
 #[derive(Clone, Copy, PartialEq, Eq)]
 pub struct SlotNumber {
     number: u8,
@@ -32,7 +30,7 @@ impl Model for SlotNumber {
     ghost inverse = { λ n. record { number = n } };
 }
 
-/// What a linear may speak of: a register, a pair, a slot of the stack shape, or a byte of a slot.
+/// A variable of a linear: a register, a register pair, a slot of the stack shape, or a byte of a slot.
 #[derive(Clone, Copy, PartialEq, Eq)]
 pub enum Variable {
     A,
@@ -51,11 +49,11 @@ pub enum Variable {
 }
 
 impl SlotNumber {
-    /// The slot of this number, or None from 64 on.
+    /// The slot with this number, or None from 64 on.
     pub fn new(number: u8) -> Option<SlotNumber>
         ensures { SomeIff result (number < 64) number }
     {
-        if number < SLOTS {
+        if usize::from(number) < SLOTS {
             Some(SlotNumber { number })
         } else {
             None

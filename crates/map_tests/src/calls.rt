@@ -1,21 +1,21 @@
-// The order of procedures and their depths: worked by hand.
+// Tests of the order of procedures and of depths, worked by hand.
 ghost use Rattle.std.specs.Prelude.{◌<◌, Contains};
 
 use call_graph::{Edge, GraphFault, Held, ProcId, depths, order};
 use std::alloc::Global;
 use std::test::Fail;
 
-/// Calls, each of a caller and a callee.
+/// Calls, each written as caller and callee.
 macro_rules! calls {
     ($($caller:literal $callee:literal),*) => {
         &[$(Edge { caller: $caller, callee: $callee }),*]
     };
 }
 
-/// What a call came to.
+/// The outcome of a test call.
 #[derive(Clone, Copy, PartialEq, Eq)]
 enum Came {
-    /// It answered what was wanted.
+    /// The answer is the expected one.
     Right,
     Refused,
     Wrong,
@@ -25,7 +25,7 @@ fn right_if(is_wanted: bool) -> Came {
     if is_wanted { Came::Right } else { Came::Wrong }
 }
 
-/// What `order` came to, where these procedures are wanted, callees first or as a circle.
+/// The outcome of `order`, with the expected procedures: an order, or a cycle.
 fn ordered(alloc: Global, calls: &[Edge], wanted: &[ProcId], is_circle: bool) -> Came {
     match order(alloc, calls) {
         Ok(list) => right_if(!is_circle && list.as_slice() == wanted),
@@ -38,7 +38,7 @@ fn ordered(alloc: Global, calls: &[Edge], wanted: &[ProcId], is_circle: bool) ->
 const ORDERS: &[(&[Edge], &[ProcId])] = &[
     (calls!(), &[]),
     (calls!(0 2, 2 1, 0 1, 0 2), &[1, 2, 0]),
-    // The highest number
+    // The highest number.
     (calls!(65_535 0), &[0, 65_535]),
 ];
 
@@ -52,38 +52,38 @@ fn callees_first(rt: HostRuntime) {
     }
 }
 
-/// Calls, and the circle that is told of them.
+/// Calls, and the cycle reported for them.
 const CIRCLES: &[(&[Edge], &[ProcId])] = &[
-    // A call of itself
+    // A procedure that calls itself.
     (calls!(7 7), &[7]),
-    // The highest number
+    // The highest number.
     (calls!(65_535 0, 0 65_535), &[0, 65_535]),
-    // Of the circles 9 4 8 and 3 5 6 1 the second has the lowest procedure, 1; from 1 a way of two calls goes back to it,
-    // by 6, and one of four. Procedure 0 only leads there.
+    // Of the cycles 9 4 8 and 3 5 6 1 the second has the lowest procedure, 1. From 1 a way of two calls leads back,
+    // through 6, and one of four. Procedure 0 only leads there.
     (
         calls!(9 4, 4 8, 8 9, 0 9, 0 1, 1 3, 3 5, 5 6, 6 1, 1 6),
         &[1, 6],
     ),
-    // The walk meets the circle 8 9 first, then 4 5 6 of which 4 is the lowest, and 4 6 is a shorter way round; 1, 2 and 3
-    // lie between.
+    // The walk first meets the cycle 8 9, then 4 5 6 with 4 as its lowest; 4 6 is shorter. 1, 2 and 3 are on the way.
     (
         calls!(1 8, 8 9, 9 8, 1 2, 2 3, 3 6, 6 4, 4 5, 5 6, 4 6),
         &[4, 6],
     ),
-    // Of the two shortest circles through 0, by 1 and by 2, the one by 1 is the lower, in any order of the calls. The longer
-    // way by 1 and 2 is none of them.
+    // Of the two shortest cycles through 0, those through 1 and through 2, the one through 1 is lower, whatever the
+    // order of the calls. The longer way through 1 and 2 is not a shortest one.
     (calls!(0 2, 0 1, 2 0, 1 0), &[0, 1]),
     (calls!(0 1, 0 2, 1 0, 2 0), &[0, 1]),
     (calls!(2 0, 1 0, 0 2, 0 1), &[0, 1]),
     (calls!(1 0, 2 0, 0 2, 0 1), &[0, 1]),
-    // From 3 the ways 4 8 5, 4 9 5 and 6 7 5 lead back in four calls: the lowest is 3 4 8 5, though 9 5 is called first.
+    // From 3 the ways 4 8 5, 4 9 5 and 6 7 5 lead back in four calls. The lowest is 3 4 8 5, though the call 9 5 comes
+    // first.
     (
         calls!(3 6, 6 7, 7 5, 9 5, 4 9, 3 4, 8 5, 4 8, 5 3),
         &[3, 4, 8, 5],
     ),
 ];
 
-/// The lowest circle, by the lowest of its shortest ways.
+/// The lowest of the shortest cycles.
 #[test]
 fn circles_are_told(rt: HostRuntime) {
     for (place, &(calls, circle)) in CIRCLES.iter().enumerate() {
@@ -94,7 +94,7 @@ fn circles_are_told(rt: HostRuntime) {
     }
 }
 
-/// Makes these calls 0 1, 1 2 and so on; 1023 calls 0.
+/// Makes the calls 0 1, 1 2 and so on; 1023 calls 0.
 fn link(calls: &mut [Edge]) {
     let mut number = 0u16;
     for call in calls.iter_mut() {
@@ -104,7 +104,7 @@ fn link(calls: &mut [Edge]) {
     }
 }
 
-/// The numbers from this one on, by steps, modulo 65,536.
+/// The numbers from `first` in steps of `step`, modulo 65,536.
 fn numbers(first: u16, step: u16) -> [ProcId; 1024] {
     let mut numbers = [0; 1024];
     let mut number = first;
@@ -129,7 +129,7 @@ fn a_chain_of_all_and_a_circle(rt: HostRuntime) {
     assert!(rt; ordered(rt.alloc(), &circle, &numbers(0, 1), true) == Came::Right);
 }
 
-/// Procedure 0 calls 1 with 4 bytes held, and 2 with 2 held; 1 calls 2 with 6 held.
+/// Procedure 0 calls 1 with 4 bytes held, and 2 with 2; 1 calls 2 with 6.
 fn held_calls() -> [Held; 3]
     ensures { (call : Held) → Contains result call → (call.caller < 4) × (call.callee < 4) }
 {
@@ -152,7 +152,7 @@ fn held_calls() -> [Held; 3]
     ]
 }
 
-/// What `depths` of those calls came to, by the bytes of the procedures themselves.
+/// The outcome of `depths` for those calls, with the own bytes of the procedures and the expected depths.
 fn deepened(alloc: Global, own: [u32; 4], wanted: [u64; 4]) -> Came {
     match depths(alloc, &own, &held_calls()) {
         Ok(list) => right_if(list.as_slice() == wanted.as_slice()),
@@ -161,7 +161,7 @@ fn deepened(alloc: Global, own: [u32; 4], wanted: [u64; 4]) -> Came {
     }
 }
 
-/// 2 needs its own 5, 1 the greater of its own 3 and 6 + 5, and 0 the greatest of its own, 4 + 11 and 2 + 5.
+/// 2 needs its own 5; 1 the greater of its own 3 and 6 + 5; 0 the greatest of its own, 4 + 11 and 2 + 5.
 #[test]
 fn least_depths(rt: HostRuntime) {
     assert!(rt; deepened(rt.alloc(), [20, 3, 5, 9], [20, 11, 5, 9]) == Came::Right);
@@ -191,8 +191,8 @@ fn no_depths_on_a_circle(rt: HostRuntime) {
     assert!(rt; is_circle_of_one(rt.alloc()));
 }
 
-/// With one growth refused (`tools/memory.sh map_tests`) one call answers `NoMemory`, and the next one as if nothing had been. A refusal is
-/// told by a line.
+/// With one growth refused (`tools/memory.sh map_tests`), one call answers `NoMemory`, and the next one is not
+/// affected. The test prints a line for a refusal.
 #[test]
 fn refused_memory(rt: HostRuntime) -> Result<(), Fail> {
     let alloc = rt.alloc();

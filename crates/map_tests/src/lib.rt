@@ -1,4 +1,4 @@
-// The tests of address maps (the boards' tables, the faults of lists of zones, ranges of addresses), and of the order of calls.
+// The tests of address maps (the boards' tables, faults of lists of zones, ranges of addresses) and of call_graph.
 #![tactic(auto)]
 
 #[cfg(test)]

@@ -1,10 +1,10 @@
-// Rows of the address maps: the boards' tables at the edges of their zones, the faults of lists of zones, and ranges.
+// Tests of address maps: the boards' tables at the edges of their zones, faults of lists of zones, and ranges.
 
 use address_map::{Input, Map, MapFault, RamKind, ReadClass, Region, WriteClass, WriteUse, Zone};
 use arrayvec::ArrayVec;
 use intervals::WordRange;
 
-/// What stands at an address: for RAM the number of its byte, and for an input what a write does there.
+/// What is at an address: for RAM the number of its cell, for an input also the class for writing.
 #[derive(Clone, Copy)]
 enum At {
     Rom,
@@ -26,7 +26,7 @@ fn has_cell(map: &Map, address: u16, kind: RamKind, index: u16) -> bool {
     }
 }
 
-/// Whether this stands at an address of a map.
+/// Whether the address of a map is this.
 fn stands(map: &Map, address: u16, at: At) -> bool {
     let (read, write) = match at {
         At::Rom => (ReadClass::Rom, WriteClass::Rom),
@@ -42,7 +42,7 @@ fn stands(map: &Map, address: u16, at: At) -> bool {
     cell && has_class(map, address, read, write)
 }
 
-/// The Galaxian board's zones behind the ROM and what is open there.
+/// The Galaxian board's addresses from 4000 on.
 const GALAXIAN_FROM_4000: &[(u16, At)] = &[
     (0x4000, At::Ram(RamKind::Work, 0)),
     (0x4780, At::Ram(RamKind::Work, 0x380)),
@@ -70,7 +70,7 @@ const GALAXIAN_FROM_4000: &[(u16, At)] = &[
     (0xFFFF, At::Open),
 ];
 
-/// The raised board's zones behind the ROM and what is open there.
+/// The raised board's addresses from 4000 on.
 const RAISED_FROM_4000: &[(u16, At)] = &[
     (0x4000, At::Open),
     (0x7009, At::Open),
@@ -97,7 +97,7 @@ const RAISED_FROM_4000: &[(u16, At)] = &[
     (0xFFFF, At::Open),
 ];
 
-/// Whether a map has a ROM of this length, with nothing behind it up to 4000, and its work RAM here.
+/// Whether a map has a ROM of this length, open addresses from there to 3FFF, and work RAM at `work_start`.
 fn begins(map: &Map, length: u16, work_start: u16) -> bool {
     let behind = length == 0x4000
         || (stands(map, length, At::Open) && stands(map, 0x3FFF, At::Open));
@@ -183,9 +183,9 @@ fn fault(zones: &[Zone], rom_len: u16) -> Option<MapFault> {
     Map::of(list, rom_len).err()
 }
 
-/// Zones with a ROM of 1000h bytes that are a map.
+/// Zones that make a map, with a ROM of 1000h bytes.
 const MAPS: &[&[Zone]] = &[
-    // In any order, and with zones that hold no address.
+    // In any order, and with empty zones.
     &[ROM, LOW, WORK, HIGH],
     &[HIGH, WORK, LOW, ROM],
     &[ROM, free!(9, 8), LOW, WORK, HIGH],
@@ -197,7 +197,7 @@ const MAPS: &[&[Zone]] = &[
 
 const VIDEO: Zone = zone!(0x4800, 0xFFFF, READS_VIDEO, WriteUse::Ram(RamKind::Video));
 
-/// Zones, and the lowest address that is in none, or in two.
+/// Zones, and their lowest gap or overlap.
 const FAULTS: &[(&[Zone], MapFault)] = &[
     (&[], MapFault::Gap(0)),
     (&[ROM, WORK, HIGH], MapFault::Gap(0x1000)),
@@ -229,7 +229,7 @@ const MIXED: Zone = zone!(0x4800, 0xFFFF, READS_VIDEO, WriteUse::Ram(RamKind::Ob
 
 const HALF: Zone = zone!(0x4800, 0xFFFF, READS_VIDEO, WriteUse::Pitch);
 
-/// Zones whose work RAM, or another, is none.
+/// Zones without valid work RAM, or with another invalid RAM.
 const WORK_FAULTS: &[&[Zone]] = &[
     &[ROM, LOW, free!(0x4000, 0x47FF), HIGH],
     &[ROM, LOW, WORK, work!(0x4800, 0xFFFF)],
@@ -237,10 +237,10 @@ const WORK_FAULTS: &[&[Zone]] = &[
     &[ROM, LOW, WORK, HIGH, work!(0x400, 0)],
     &[ROM, LOW, READ_ONLY, HIGH],
     &[ROM, LOW, WRITE_ONLY, HIGH],
-    // No multiple of 400h, and 3FFh addresses.
+    // Not at a multiple of 400h; and 3FFh addresses.
     &[ROM, free!(0x1000, 0x40FF), work!(0x4100, 0x47FF), HIGH],
     &[ROM, LOW, work!(0x4000, 0x43FE), free!(0x43FF, 0xFFFF)],
-    // Another zone's RAM is the same for both.
+    // Another zone's RAM must be the same for reading and writing.
     &[ROM, LOW, WORK, MIXED],
     &[ROM, LOW, WORK, HALF],
 ];
@@ -249,7 +249,7 @@ const UNREAD: Zone = zone!(0, 0x0FFF, ReadClass::Open, WriteUse::Rom);
 
 const WRITTEN: Zone = zone!(0, 0x0FFF, ReadClass::Rom, WriteUse::Open);
 
-/// Zones whose ROM is none.
+/// Zones without a valid ROM.
 const ROM_FAULTS: &[&[Zone]] = &[
     &[free!(0, 0x3FFF), WORK, HIGH],
     &[ROM, LOW, WORK, program!(0x4800, 0xFFFF)],
@@ -267,7 +267,7 @@ fn faults_of_zones(rt: HostRuntime) {
     for (place, &(zones, wanted)) in FAULTS.iter().enumerate() {
         assert!(rt; fault(zones, 0x1000) == Some(wanted), "list {place}");
     }
-    // Either comes before what is wrong with RAM and ROM.
+    // A gap or an overlap is reported before the faults of RAM and ROM.
     assert!(rt; fault(&[free!(0, 0xFFFE)], 0) == Some(MapFault::Gap(0xFFFF)));
 }
 
@@ -279,7 +279,7 @@ fn faults_of_work_ram(rt: HostRuntime) {
             "list {place}"
         );
     }
-    // It comes before what is wrong with the ROM.
+    // Work is reported before Rom.
     assert!(rt; fault(&[free!(0, 0xFFFF)], 0) == Some(MapFault::Work));
 }
 
@@ -295,17 +295,17 @@ fn faults_of_rom(rt: HostRuntime) {
 
 #[derive(Clone, Copy)]
 enum Question {
-    /// Whether data may be written to each address.
+    /// Whether each address takes data.
     AllData,
     SomeInRegion,
     SomeRom,
     SomeUnmapped,
     SomeEnable,
-    /// Whether one is a copy of this cell of work RAM.
+    /// Whether some address folds to this cell of work RAM.
     SomeAtCell(u16),
 }
 
-/// The answer for the addresses from the first to the last, with the stack in this region.
+/// The answer for the addresses from `first` to `last`, with this stack region.
 fn answer(map: &Map, region: Region, question: Question, first: u16, last: u16) -> bool {
     let words = WordRange::new(first, last).unwrap_or(WordRange::full());
     match question {
@@ -319,7 +319,7 @@ fn answer(map: &Map, region: Region, question: Question, first: u16, last: u16) 
 }
 
 const OF_GALAXIAN: &[(Question, u16, u16, bool)] = &[
-    // Work RAM outside the region, and its copy; 4380 to 43FF and 4780 to 47FF are the region's cells.
+    // Work RAM outside the region, and its mirror; 4380 to 43FF and 4780 to 47FF fold to the region's cells.
     (Question::AllData, 0x4000, 0x437F, true),
     (Question::AllData, 0x4400, 0x477F, true),
     (Question::AllData, 0x4000, 0x4380, false),
@@ -330,7 +330,7 @@ const OF_GALAXIAN: &[(Question, u16, u16, bool)] = &[
     (Question::SomeInRegion, 0x477F, 0x477F, false),
     (Question::SomeInRegion, 0, 0xFFFF, true),
     (Question::SomeInRegion, 0x4800, 0xFFFF, false),
-    // Video RAM to the pitch takes data; what is open on either side does not.
+    // From video RAM to the pitch all addresses take data; the open ones on either side do not.
     (Question::AllData, 0x5000, 0x7FFF, true),
     (Question::AllData, 0x4FFF, 0x7FFF, false),
     (Question::AllData, 0x5000, 0x8000, false),

@@ -4,7 +4,8 @@ ghost use Rattle.std.specs.Prelude.{Some};
 
 use texts::{DeviceFault, Sink, Source};
 
-/// A source over bytes. It gives `piece` bytes a call, and fails at the call that `calls` counts down to.
+/// A source over bytes in memory. It gives at most `piece` bytes per call, and fails once `calls` has counted down to
+/// 0.
 #[derive(Drop)]
 pub struct Bytes<'a> {
     rest: &'a [u8],
@@ -15,12 +16,13 @@ pub struct Bytes<'a> {
 }
 
 impl<'a> Bytes<'a> {
-    /// A source over bytes that gives 4,096 a call and never fails.
+    /// A source that gives at most 4,096 bytes per call and never fails.
     pub fn whole(bytes: &'a [u8]) -> Bytes<'a> {
         Bytes::failing(bytes, 4096, u64::MAX)
     }
 
-    /// A source over bytes that gives `piece` of them a call, one at least, and fails at each call behind the first `calls`.
+    /// A source that gives at most `piece` bytes per call, but at least one, and fails at each call after the first
+    /// `calls`.
     pub fn failing(bytes: &'a [u8], piece: usize, calls: u64) -> Bytes<'a> {
         Bytes {
             rest: bytes,
@@ -31,12 +33,12 @@ impl<'a> Bytes<'a> {
         }
     }
 
-    /// How often it was asked for bytes.
+    /// The number of calls so far.
     pub fn asked(&self) -> u64 {
         self.asked
     }
 
-    /// How many bytes it has not given yet.
+    /// The number of bytes not given yet.
     pub fn left(&self) -> usize {
         self.rest.len()
     }
@@ -64,7 +66,7 @@ impl<'a> Source for Bytes<'a> {
     }
 }
 
-/// A sink into memory. It takes `piece` bytes a call, and fails at the call that `calls` counts down to.
+/// A sink into memory. It takes at most `piece` bytes per call, and fails once `calls` has counted down to 0.
 #[derive(Drop)]
 pub struct Taken {
     pub bytes: Vec<u8>,
@@ -75,12 +77,13 @@ pub struct Taken {
 }
 
 impl Taken {
-    /// A sink that takes 4,096 bytes a call, and fails only where memory is refused.
+    /// A sink that takes at most 4,096 bytes per call and fails only if memory is refused.
     pub fn new(alloc: std::alloc::Global) -> Taken {
         Taken::failing(alloc, 4096, u64::MAX)
     }
 
-    /// A sink that takes `piece` bytes a call, one at least, and fails at each call behind the first `calls`, and where memory is refused.
+    /// A sink that takes at most `piece` bytes per call, but at least one. It fails at each call after the first
+    /// `calls`, and if memory is refused.
     pub fn failing(alloc: std::alloc::Global, piece: usize, calls: u64) -> Taken {
         Taken {
             bytes: Vec::new(alloc),
@@ -91,7 +94,7 @@ impl Taken {
         }
     }
 
-    /// How often it was asked to take bytes.
+    /// The number of calls so far.
     pub fn asked(&self) -> u64 {
         self.asked
     }

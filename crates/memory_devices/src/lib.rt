@@ -1,4 +1,4 @@
-// Devices in memory that can fail at a chosen call, for the tests.
+// Devices in memory that can fail at a chosen call, for tests.
 #![tactic(auto)]
 
 mod devices;

@@ -1,2 +1,2 @@
--- The definition of what an NMI routine gives back.
+-- The definition of what an NMI routine restores.
 pub mod Lost

@@ -1,4 +1,4 @@
-// What an NMI routine gives back: each register pair, as it was when the NMI came (docs/CHECKER.md).
+// Whether an NMI routine restores each register pair (docs/CHECKER.md, "The table of reasons", SavedRegister).
 #![tactic(auto)]
 
 ghost use Rattle.std.specs.Prelude.{◌≡◌, ◌↔◌, IfErr, IsOk, IsTrue};
@@ -22,11 +22,11 @@ const PAIRS: [RegPair; 10] = [
     RegPair::AlternateHl,
 ];
 
-/// Whether every register pair is known to be what it was at the activation's entry; it takes no memory.
+/// Whether every register pair is known to be what it was at the activation's entry. The call takes no memory.
 ///
 /// # Errors
 ///
-/// The first pair, in the order AF BC DE HL IX IY AF' BC' DE' HL', that is not known to be that.
+/// The first pair, in the order AF BC DE HL IX IY AF' BC' DE' HL', that is not known to be what it was.
 pub fn restores(state: &AbsState) -> Result<(), RegPair>
     ensures all { IsOk result ↔ ((pair : Name) → IsRestored state.now pair) }
     ensures first { IfErr result (λ pair. IsFirstLost state.now pair) }

@@ -1,4 +1,4 @@
-// Potentials: those of certificates that were worked elsewhere.
+// Potentials, compared with those worked out by hand.
 
 use crate::cases::{Bytes, rom_of};
 use crate::worked::{CALLED, CALLED_TEXT, LOOP, LOOP_TEXT, ROUTINE, ROUTINE_TEXT};
@@ -10,7 +10,7 @@ use path_time::{PotentialFault, potentials};
 use std::alloc::{AllocError, Global};
 use std::test::Fail;
 
-/// LD B,0, DJNZ to itself and RET at 0008, where B of 0 is told apart.
+/// LD B,0, DJNZ to itself and RET at 0008, with a split that separates B = 0.
 const SPLIT: [u8; 13] = [
     0x31, 0x00, 0x44, 0xCD, 0x08, 0x00, 0x18, 0xFE, 0x06, 0x00, 0x10, 0xFE, 0xC9,
 ];
@@ -53,7 +53,32 @@ const NOPS_TEXT: &str = "galcert 1\n\
     row 1 006E n *@AF *@BC *@DE *@HL *@IX *@IY *@AF' *@BC' *@DE' *@HL' - - - -\n\
     end\n";
 
-/// PUSH AF, PUSH BC, LD C,7, DEC C, JR NZ to that, POP BC, POP AF and RET.
+/// PUSH AF; PUSH BC; B = (6000h) AND 7, plus 1; JR C to a NOP, ADD A,B and DJNZ back to the NOP; otherwise DJNZ to
+/// itself and JR on; then POP BC, POP AF, RET.
+const BRANCHES: [u8; 22] = [
+    0xF5, 0xC5, 0x3A, 0x00, 0x60, 0xE6, 0x07, 0x3C, 0x47, 0x38, 0x04, 0x10, 0xFE, 0x18, 0x04, 0x00,
+    0x80, 0x10, 0xFD, 0xC1, 0xF1, 0xC9,
+];
+
+/// The rows from the JR C on.
+const BRANCHES_TEXT: &str = "galcert 1\n\
+    rom 124\n\
+    stack 4380 4400\n\
+    budget 50665\n\
+    proc main 0000 0 0 -\n\
+    proc nmi 0066 0 6 238\n\
+    row 1 006F n 0100-08FF:01-08:00-FF 0100-08FF:01-08:00-FF *@DE *@HL *@IX *@IY *@AF' *@BC' *@DE' *@HL' zA - *@AF,*@BC -\n\
+    row 1 0071 n 0100-08FF:01-08:00-FF 0100-08FF:01-08:00-FF *@DE *@HL *@IX *@IY *@AF' *@BC' *@DE' *@HL' zA - *@AF,*@BC -\n\
+    row 1 0073 n 0100-08FF:01-08:00-FF 0000-00FF:00-00:00-FF *@DE *@HL *@IX *@IY *@AF' *@BC' *@DE' *@HL' zA - *@AF,*@BC -\n\
+    row 1 0075 n 0100-08FF:01-08:00-FF 0100-08FF:01-08:00-FF *@DE *@HL *@IX *@IY *@AF' *@BC' *@DE' *@HL' zA - *@AF,*@BC -\n\
+    row 1 0076 n * 0100-08FF:01-08:00-FF *@DE *@HL *@IX *@IY *@AF' *@BC' *@DE' *@HL' zA - *@AF,*@BC -\n\
+    row 1 0077 n * 0100-08FF:01-08:00-FF *@DE *@HL *@IX *@IY *@AF' *@BC' *@DE' *@HL' zA - *@AF,*@BC -\n\
+    row 1 0079 n * 0000-00FF:00-00:00-FF *@DE *@HL *@IX *@IY *@AF' *@BC' *@DE' *@HL' zA - *@AF,*@BC -\n\
+    row 1 007A n * *@BC *@DE *@HL *@IX *@IY *@AF' *@BC' *@DE' *@HL' zA - *@AF -\n\
+    row 1 007B n *@AF *@BC *@DE *@HL *@IX *@IY *@AF' *@BC' *@DE' *@HL' - - - -\n\
+    end\n";
+
+/// PUSH AF, PUSH BC, LD C,7, DEC C, JR NZ back to it, POP BC, POP AF and RET.
 const COUNTED: [u8; 10] = [0xF5, 0xC5, 0x0E, 0x07, 0x0D, 0x20, 0xFD, 0xC1, 0xF1, 0xC9];
 
 const COUNTED_TEXT: &str = "galcert 1\n\
@@ -76,7 +101,7 @@ const COUNTED_TEXT: &str = "galcert 1\n\
     row 1 006F n *@AF *@BC *@DE *@HL *@IX *@IY *@AF' *@BC' *@DE' *@HL' - - - -\n\
     end\n";
 
-/// What counts the turns of loops.
+/// The counter of a loop.
 #[derive(Clone, Copy)]
 enum Counter {
     B,
@@ -92,10 +117,11 @@ impl Counter {
     }
 }
 
-/// What is to be answered: for each row a constant, and how often the counter stands in it.
+/// The expected answer: for each row the constant, and the coefficient of the counter.
 type Wanted = Result<&'static [(i32, i32)], PotentialFault>;
 
-/// A ROM, its certificate's text, where loops are counted, by what, and the potentials of procedure 1, or why there are none.
+/// A ROM, its certificate's text, the addresses of loops, their counter, and the potentials of procedure 1 or the
+/// fault.
 const POTENTIALS: &[(Bytes, &str, &[u16], Counter, Wanted)] = &[
     // Without loops
     (
@@ -174,7 +200,26 @@ const POTENTIALS: &[(Bytes, &str, &[u16], Counter, Wanted)] = &[
             (10, 0),
         ]),
     ),
-    // A loop that counts before its end
+    // At the JR C 177, 73 + 13 * B and 41 + 17 * B pay, each with the greatest value 177; the last has the least least
+    // value
+    (
+        Bytes::Routine(&BRANCHES),
+        BRANCHES_TEXT,
+        &[0x0071, 0x0077],
+        Counter::B,
+        Ok(&[
+            (41, 17),
+            (37, 13),
+            (42, 0),
+            (29, 17),
+            (25, 17),
+            (21, 17),
+            (30, 0),
+            (20, 0),
+            (10, 0),
+        ]),
+    ),
+    // A loop whose counter falls before its end
     (
         Bytes::Routine(&COUNTED),
         COUNTED_TEXT,
@@ -193,7 +238,7 @@ const POTENTIALS: &[(Bytes, &str, &[u16], Counter, Wanted)] = &[
     ),
 ];
 
-/// Whether these are some potentials: for each a constant, and how often the counter stands in it.
+/// Whether these are the expected potentials: for each a constant, and the coefficient of the counter.
 pub fn are(found: &[Linear], counter: Variable, wanted: &[(i32, i32)]) -> bool {
     found.len() == wanted.len()
         && found.iter().zip(wanted).all(|(linear, (constant, coefficient))| {
@@ -201,7 +246,7 @@ pub fn are(found: &[Linear], counter: Variable, wanted: &[(i32, i32)]) -> bool {
         })
 }
 
-/// Whether a linear has so many of a variable and nothing else.
+/// Whether a linear has just this multiple of a variable, or no terms if that is 0.
 fn counts(linear: &Linear, variable: Variable, coefficient: i32) -> bool {
     match linear.terms() {
         [] => coefficient == 0,
@@ -216,7 +261,7 @@ fn counts(linear: &Linear, variable: Variable, coefficient: i32) -> bool {
     }
 }
 
-/// Whether the answer is the one that is wanted.
+/// Whether the answer is the expected one.
 fn is_wanted(
     told: &Result<Vec<Linear>, PotentialFault>,
     counter: Counter,
@@ -241,7 +286,7 @@ fn notes_of(alloc: Global, loops: &[u16], counter: Counter) -> Result<Vec<LoopNo
     Ok(notes)
 }
 
-/// The times that a certificate tells.
+/// The times of a certificate's procedures.
 fn times_of(alloc: Global, certificate: &Certificate) -> Result<Vec<u32>, AllocError> {
     let mut times = Vec::new(alloc);
     for proc in certificate.procs() {
@@ -250,7 +295,7 @@ fn times_of(alloc: Global, certificate: &Certificate) -> Result<Vec<u32>, AllocE
     Ok(times)
 }
 
-/// The potentials of procedure 1, by a certificate's text for a ROM, with the times that this tells, or the fault.
+/// The potentials of procedure 1 by a certificate's text for a ROM, with the certificate's times, or the fault.
 fn told(
     alloc: Global,
     rom: &[u8],

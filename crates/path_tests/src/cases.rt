@@ -6,10 +6,10 @@ use path_time::{TimeFault, longest};
 use std::alloc::{AllocError, Global};
 use std::test::Fail;
 
-/// What is answered: T-states and the numbers of rows.
+/// An answer: T-states and the numbers of rows.
 pub type Told = Result<(u32, Vec<u32>), TimeFault>;
 
-/// What is to be answered.
+/// An expected answer.
 pub type Wanted = Result<(u32, &'static [u32]), TimeFault>;
 
 /// The longest walk of a procedure, by a certificate's text for a ROM.
@@ -25,7 +25,7 @@ pub fn told(alloc: Global, rom: &[u8], text: &str, proc: u16) -> Result<Told, Fa
     }
 }
 
-/// Whether the answer is the one that is wanted.
+/// Whether the answer is the expected one.
 pub fn is_told(told: &Told, wanted: &Wanted) -> bool {
     match (told, wanted) {
         (Ok((found, walk)), Ok((sum, rows))) => *found == *sum && walk.as_slice() == *rows,
@@ -34,7 +34,7 @@ pub fn is_told(told: &Told, wanted: &Wanted) -> bool {
     }
 }
 
-/// A ROM: these bytes, or main code that enables NMIs and a routine of these bytes at 0066.
+/// A ROM: these bytes, or main code that enables NMIs with these bytes as the routine at 0066.
 #[derive(Clone, Copy)]
 pub enum Bytes {
     Whole(&'static [u8]),

@@ -1,4 +1,4 @@
-// The tests of the longest walks and of potentials: worked rows, by hand, and refused memory.
+// The tests of longest walks and potentials: rows worked out by hand, and refused memory.
 #![tactic(auto)]
 
 #[cfg(test)]

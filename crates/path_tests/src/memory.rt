@@ -1,4 +1,5 @@
-// Memory that is refused once, at each growth in turn (`tools/memory.sh path_tests`): the call answers `NoMemory`, a line tells it, and the next call is right.
+// Memory is refused once, at each growth in turn (`tools/memory.sh path_tests`). The call then answers `NoMemory`, a
+// line reports it, and the next call gives the right answer.
 
 use crate::bounds_of_rows::are;
 use crate::cases::{Wanted, is_told};
@@ -11,13 +12,13 @@ use path_time::{PotentialFault, TimeFault, longest, potentials};
 use std::alloc::Global;
 use std::test::Fail;
 
-/// What is told where a call answers as is wanted.
+/// The report of a call that gives the expected answer.
 const ANSWERED: &str = "answered";
 
-/// The longest walk of the procedure that is called.
+/// The longest walk of the called procedure.
 const WALK: Wanted = Ok((38, &[3, 4, 5, 6]));
 
-/// What is told of the longest walk of the procedure that is called; a call that is refused is made again.
+/// The report of the longest walk of the called procedure. A refused call is repeated.
 fn told_of_longest(alloc: Global) -> &'static str {
     let Ok(certificate) = read(alloc, CALLED_TEXT.as_bytes()) else {
         return "refused before longest";
@@ -49,7 +50,7 @@ fn longest_again(rt: HostRuntime) -> Result<(), Fail> {
     Ok(())
 }
 
-/// The loop at 000A, which B counts.
+/// The loop at 000A, with the counter B.
 const LOOPS: [LoopNote; 1] = [LoopNote {
     at: 0x000A,
     counter: Variable::B,
@@ -63,7 +64,7 @@ fn are_bounds(found: &Result<Vec<Linear>, PotentialFault>) -> bool {
     }
 }
 
-/// What is told of the potentials of the loop; a call that is refused is made again.
+/// The report of the loop's potentials. A refused call is repeated.
 fn told_of_potentials(alloc: Global) -> &'static str {
     let Ok(certificate) = read(alloc, LOOP_TEXT.as_bytes()) else {
         return "refused before potentials";

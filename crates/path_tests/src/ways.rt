@@ -1,21 +1,21 @@
-// Walks of a procedure at 0008, worked by hand: by several ways, through calls, from several entries, none, and rows that go round.
+// Walks of a procedure at 0008, worked out by hand: several ways, calls, several entries or none, and cycles of rows.
 
 use crate::cases::{Told, Wanted, is_told, told};
 use path_time::TimeFault;
 use std::alloc::Global;
 use std::test::Fail;
 
-/// What begins each ROM: main, which calls 0008.
+/// The beginning of each ROM: main, which calls 0008.
 const MAIN: [u8; 8] = [0x31, 0x00, 0x44, 0xCD, 0x08, 0x00, 0x18, 0xFE];
 
-/// Rows of which nothing is known, each by its procedure, its address and its mode.
+/// Rows with nothing known, each by its procedure, address and mode.
 macro_rules! rows {
     ($($row:literal),*) => {
         concat!($("row ", $row, " * * * * * * * * * * - - - -\n"),*)
     };
 }
 
-/// The rows of main, which have the numbers 0, 1 and 2.
+/// The rows of main, with the numbers 0, 1 and 2.
 const MAIN_ROWS: &str = rows!("0 0000 u", "0 0003 s", "0 0006 s");
 
 const TIMED: &str = "proc sub 0008 1 4 100\n";
@@ -25,7 +25,7 @@ const CALL: [u8; 5] = [0xCD, 0x0C, 0x00, 0xC9, 0xC9];
 
 const CALL_ROWS: &str = rows!("1 0008 s", "1 000B s", "2 000C s");
 
-/// DJNZ over a byte: by 13 to RET where B is not 1, and else by 8 to that byte.
+/// DJNZ over one byte: 13 T-states to RET if B is not 1, else 8 to that byte.
 const ENTRIES: &str = "row 1 0008 s * 0100-01FF:01-01:00-FF * * * * * * * * - - - -\n\
     row 1 0008 s * 0200-FFFF:02-FF:00-FF * * * * * * * * - - - -\n\
     row 1 000A s * * * * * * * * * * - - - -\n\
@@ -37,13 +37,13 @@ const CALLS: [u8; 17] = [
     0xC9,
 ];
 
-/// NOP at 0008; 0009 and 000B jump to each other, and 000D to itself.
+/// NOP at 0008; 0009 and 000B jump to each other, and 000D jumps to itself.
 const ROUND: [u8; 7] = [0x00, 0x18, 0x00, 0x18, 0xFC, 0x18, 0xFE];
 
-/// What a case shows, the code from 0008 on, the lines of procedures and those of rows behind main's, which begin with number 3; then
-/// the longest walk of procedure 1, its T-states and rows, or why there is none.
+/// What a case shows, the code from 0008 on, the lines of procedures, and those of rows after main's, from number 3 on;
+/// then the longest walk of procedure 1, with its T-states and rows, or the fault.
 const WALKS: &[(&str, &[u8], &str, &str, Wanted)] = &[
-    // JR NZ to the next address, by 12 or by 7; RET, 10
+    // JR NZ to the next address, 12 or 7; RET, 10
     (
         "two ways to one row",
         &[0x20, 0x00, 0xC9],
@@ -67,7 +67,7 @@ const WALKS: &[(&str, &[u8], &str, &str, Wanted)] = &[
         rows!("1 0008 s", "1 000A s", "1 000B s"),
         Ok((22, &[3, 5])),
     ),
-    // RET Z leaves by 11, or goes on by 5 to RET, 10
+    // RET Z leaves with 11, or goes on with 5 to RET, 10
     (
         "an exit on the way",
         &[0xC8, 0xC9],
@@ -75,7 +75,7 @@ const WALKS: &[(&str, &[u8], &str, &str, Wanted)] = &[
         rows!("1 0008 s", "1 0009 s"),
         Ok((15, &[3, 4])),
     ),
-    // Behind it HALT and no row
+    // After it HALT and no row
     (
         "HALT behind an exit",
         &[0xC8, 0x76],
@@ -128,7 +128,7 @@ const WALKS: &[(&str, &[u8], &str, &str, Wanted)] = &[
         rows!("1 0009 s"),
         Ok((0, &[])),
     ),
-    // A return where SP is not set is refused
+    // A return in mode `u` is refused
     (
         "a return without SP",
         &[0xC9, 0xC9],
@@ -156,7 +156,7 @@ const WALKS: &[(&str, &[u8], &str, &str, Wanted)] = &[
         ),
         Ok((4_000_000_078, &[3, 4, 5, 6, 7])),
     ),
-    // RET, and behind it a jump to itself
+    // RET, and after it a jump to itself
     (
         "round where the entry does not lead",
         &[0xC9, 0x18, 0xFE],
@@ -171,7 +171,7 @@ const WALKS: &[(&str, &[u8], &str, &str, Wanted)] = &[
         rows!("1 0008 s", "1 0009 s", "1 000B s", "1 000D s"),
         Err(TimeFault::Cycle(0x0009)),
     ),
-    // Without the row at 000B only the last goes round
+    // Without the row at 000B only the last row is on a cycle
     (
         "round at the last address",
         &ROUND,
@@ -189,7 +189,8 @@ const WALKS: &[(&str, &[u8], &str, &str, Wanted)] = &[
     ),
 ];
 
-/// The longest walk of procedure 1, at 0008, which begins with this code; with the lines of procedures and of rows behind main's.
+/// The longest walk of procedure 1 at 0008, which begins with this code; the lines of procedures and rows come after
+/// main's.
 fn told_of(alloc: Global, code: &[u8], procs: &str, rows: &str) -> Result<Told, Fail> {
     let mut rom = Vec::from_slice(alloc, &MAIN)?;
     rom.extend_from_slice(code)?;

@@ -1,4 +1,4 @@
-// The worked rows: a procedure that is called, a loop, main, and an NMI routine.
+// Worked rows: a called procedure, a loop, main, and an NMI routine.
 
 use crate::cases::{Bytes, Wanted, is_told, rom_of, told};
 use path_time::TimeFault;
@@ -68,7 +68,7 @@ pub const ROUTINE: [u8; 12] = [
     0xF5, 0xAF, 0x32, 0x01, 0x70, 0x3C, 0x32, 0x01, 0x70, 0xF1, 0xED, 0x45,
 ];
 
-/// A ROM, its certificate's text, a procedure, and its longest walk, or why there is none.
+/// A ROM, its certificate's text, a procedure, and its longest walk or the fault.
 const WALKS: &[(Bytes, &str, u16, Wanted)] = &[
     (
         Bytes::Whole(&CALLED),

@@ -1,4 +1,4 @@
--- Lemmas of the proofs.
+-- Lemmas about walks and the search for the longest one.
 mod EdgeLemmas
 mod LinkLemmas
 mod RoundLemmas

@@ -9,10 +9,10 @@ use Rattle.std.proofs.lemmas.Option.{same_Some, slice_get_cases, slice_get_withi
 use Rattle.abs_step.specs.declared.next.Next.{Next}
 use Rattle.abs_step.specs.declared.next.NextKind.{NextKind}
 use Rattle.cert_lines.specs.declared.row.Row.{Row}
-use Rattle.cert_order.specs.Contents.{Contents}
-use Rattle.cert_ways.proofs.ExitLemmas.{subject_once}
-use Rattle.cert_ways.specs.Pays.{IsGreatest, Lands, LieBetween, LiesBetween}
-use Rattle.cert_ways.specs.Ways.{IsJump, IsNumbered, IsReturn, IsWay, Subject, Way, nexts_from}
+use Rattle.cert_form.specs.Contents.{CertificateView}
+use Rattle.check_ways.proofs.ExitLemmas.{subject_once}
+use Rattle.check_ways.specs.Pays.{IsGreatest, Lands, LieBetween, LiesBetween}
+use Rattle.check_ways.specs.Ways.{IsJump, IsNumbered, IsReturn, IsWay, SubjectView, WayView, nexts_from}
 use Rattle.path_time.specs.Links.{Added, AreLinks, HasLink, HaveRows, IsAny, IsArrival, IsArrivalOfSome, IsLink, IsWithin, arrival_by, arrival_of}
 use Rattle.path_time.specs.Table.{AreLinksFrom}
 use Rattle.path_time.specs.Walks.{AreApart, Belongs, MayComeNext}
@@ -20,8 +20,8 @@ use Rattle.path_time.specs.declared.links.Link.{Link}
 
 -- ---- links that were added
 
--- nothing, where none of the rows may come next
-pub added_none : (rom : List ℕ) (cert : Contents) (from : ℕ) (Among : ℕ → Type 0) (links : List Link) →
+-- nothing, if none of the rows may come next
+pub added_none : (rom : List ℕ) (cert : CertificateView) (from : ℕ) (Among : ℕ → Type 0) (links : List Link) →
     ((to : ℕ) → Among to → MayComeNext rom cert from to → ⊥) → Added rom cert from Among links links
 added_none rom cert from Among links none = record {
   kept = λ link listed. listed;
@@ -30,7 +30,7 @@ added_none rom cert from Among links none = record {
 }
 
 -- those to fewer rows
-pub added_fewer : (rom : List ℕ) (cert : Contents) (from : ℕ) (Among Fewer : ℕ → Type 0) (old new : List Link) →
+pub added_fewer : (rom : List ℕ) (cert : CertificateView) (from : ℕ) (Among Fewer : ℕ → Type 0) (old new : List Link) →
     ((to : ℕ) → Fewer to → MayComeNext rom cert from to → Among to) → Added rom cert from Among old new → Added rom cert from Fewer old new
 added_fewer rom cert from Among Fewer old new among added = record {
   kept = added.kept;
@@ -39,7 +39,7 @@ added_fewer rom cert from Among Fewer old new among added = record {
 }
 
 -- some links, and then others
-pub added_both : (rom : List ℕ) (cert : Contents) (from : ℕ) (One Other Both : ℕ → Type 0) (a b c : List Link) →
+pub added_both : (rom : List ℕ) (cert : CertificateView) (from : ℕ) (One Other Both : ℕ → Type 0) (a b c : List Link) →
     ((to : ℕ) → Both to → One to ⊎ Other to) → Added rom cert from One a b → Added rom cert from Other b c → Added rom cert from Both a c
 added_both rom cert from One Other Both a b c which first then = record {
   kept = λ link listed. then.kept link (first.kept link listed);
@@ -54,7 +54,7 @@ added_both rom cert from One Other Both a b c which first then = record {
 }
 
 -- one link
-pub added_one : (rom : List ℕ) (cert : Contents) (from to cost : ℕ) (old new : List Link) → AreApart rom cert from to cost →
+pub added_one : (rom : List ℕ) (cert : CertificateView) (from to cost : ℕ) (old new : List Link) → AreApart rom cert from to cost →
     new ≡ old ++ record { from = from; to = to; cost = cost } ∷ [] → Added rom cert from (λ t. t ≡ to) old new
 added_one rom cert from to cost old new apart is =
     let one : Link = record { from = from; to = to; cost = cost } in
@@ -72,7 +72,7 @@ added_one rom cert from to cost old new apart is =
     }
 
 -- one more row
-pub added_next : (rom : List ℕ) (cert : Contents) (from start to : ℕ) (a b c : List Link) → Added rom cert from (IsWithin start to) a b →
+pub added_next : (rom : List ℕ) (cert : CertificateView) (from start to : ℕ) (a b c : List Link) → Added rom cert from (IsWithin start to) a b →
     Added rom cert from (λ t. t ≡ to) b c → Added rom cert from (IsWithin start (to + 1)) a c
 added_next rom cert from start to a b c first then =
     added_both rom cert from (IsWithin start to) (λ t. t ≡ to) (IsWithin start (to + 1)) a b c
@@ -83,8 +83,8 @@ added_next rom cert from start to a b c first then =
     ])
     first then
 
--- where two rows are not compared, none comes next
-pub not_next : (rom : List ℕ) (cert : Contents) (from to : ℕ) (found : Option ℕ) → IsGreatest (LieBetween rom cert from to) found →
+-- if two rows have no cost between them, none comes next
+pub not_next : (rom : List ℕ) (cert : CertificateView) (from to : ℕ) (found : Option ℕ) → IsGreatest (LieBetween rom cert from to) found →
     ((cost : ℕ) → found ≡ Some cost → ⊥) → (t : ℕ) → t ≡ to → MayComeNext rom cert from t → ⊥
 not_next rom cert from to None greatest none t same next =
     greatest next.cost (subst (λ (n : ℕ). LieBetween rom cert from n next.cost) same next.lie)
@@ -92,18 +92,18 @@ not_next rom cert from to (Some cost) greatest none t same next = none cost refl
 
 -- ---- where a row leads
 
--- the rows that stand where a way on leads
-pub within_if_arrival : (s : Subject) (next : Next) (address start end : ℕ) → Some address ≡ arrival_of s next →
+-- the rows at the address to which a successor leads
+pub within_if_arrival : (s : SubjectView) (next : Next) (address start end : ℕ) → Some address ≡ arrival_of s next →
     ((k : ℕ) (row : Row) → slice_get s.cert.rows k ≡ Some row → ((start ≤ k) × (k < end)) ↔ ((row.proc ≡ s.row.proc) × (row.address ≡ address))) →
     (to : ℕ) → IsArrival s next to → IsWithin start end to
 within_if_arrival s next address start end leads rows to arrival =
     (rows to arrival.row arrival.is).1 (arrival.of, same_Some arrival.row.address address (sym arrival.at ∙ sym leads))
 
 -- by a jump
-arrives_by_jump : (s : Subject) (to : ℕ) (target : Row) (way : Way) (jump : IsJump s way) → slice_get s.cert.rows to ≡ Some target → Lands s.cert way target →
+arrives_by_jump : (s : SubjectView) (to : ℕ) (target : Row) (way : WayView) (jump : IsJump s way) → slice_get s.cert.rows to ≡ Some target → Lands s.cert way target →
     IsArrival s jump.next to
 arrives_by_jump s to target way jump at lands =
-    let landed = subst (λ (w : Way). Lands s.cert w target) jump.is lands in
+    let landed = subst (λ (w : WayView). Lands s.cert w target) jump.is lands in
     record {
       row = target;
       is = at;
@@ -112,10 +112,10 @@ arrives_by_jump s to target way jump at lands =
     }
 
 -- back from a call
-arrives_by_return : (s : Subject) (to : ℕ) (target : Row) (way : Way) (back : IsReturn s way) → slice_get s.cert.rows to ≡ Some target → Lands s.cert way target →
+arrives_by_return : (s : SubjectView) (to : ℕ) (target : Row) (way : WayView) (back : IsReturn s way) → slice_get s.cert.rows to ≡ Some target → Lands s.cert way target →
     IsArrival s back.next to
 arrives_by_return s to target way back at lands =
-    let landed = subst (λ (w : Way). Lands s.cert w target) back.is lands in
+    let landed = subst (λ (w : WayView). Lands s.cert w target) back.is lands in
     record {
       row = target;
       is = at;
@@ -123,7 +123,7 @@ arrives_by_return s to target way back at lands =
       at = subst (λ (k : NextKind). arrival_by s back.next k ≡ Some target.address) (sym back.calls.kind) (ap Some (sym landed.at.at));
     }
 
-arrives_by_way : (s : Subject) (nexts : List Next) (to : ℕ) (target : Row) (way : Way) → nexts_from s ≡ nexts → slice_get s.cert.rows to ≡ Some target →
+arrives_by_way : (s : SubjectView) (nexts : List Next) (to : ℕ) (target : Row) (way : WayView) → nexts_from s ≡ nexts → slice_get s.cert.rows to ≡ Some target →
     IsWay s way → Lands s.cert way target → IsArrivalOfSome s nexts to
 arrives_by_way s nexts to target way same at (inl jump) lands = record {
   next = jump.next;
@@ -136,24 +136,24 @@ arrives_by_way s nexts to target way same at (inr back) lands = record {
   is = arrives_by_return s to target way back at lands;
 }
 
--- a row that may come next stands where one of the ways on leads
-pub arrives : (rom : List ℕ) (cert : Contents) (from : ℕ) (s : Subject) (nexts : List Next) → IsNumbered rom cert from s → nexts_from s ≡ nexts →
+-- a row that may come next is where one of the successors leads
+pub arrives : (rom : List ℕ) (cert : CertificateView) (from : ℕ) (s : SubjectView) (nexts : List Next) → IsNumbered rom cert from s → nexts_from s ≡ nexts →
     (to : ℕ) → MayComeNext rom cert from to → IsArrivalOfSome s nexts to
 arrives rom cert from s nexts is same to next =
     let lie = next.lie in
-    let lies = subst (λ (x : Subject). LiesBetween x lie.target next.cost) (subject_once rom cert from lie.subject s lie.is_from is) lie.lies in
-    let at = subst (λ (c : Contents). slice_get c.rows to ≡ Some lie.target) (sym is.same.1) lie.is_to in
+    let lies = subst (λ (x : SubjectView). LiesBetween x lie.target next.cost) (subject_once rom cert from lie.subject s lie.is_from is) lie.lies in
+    let at = subst (λ (c : CertificateView). slice_get c.rows to ≡ Some lie.target) (sym is.same.1) lie.is_to in
     arrives_by_way s nexts to lie.target lies.way same at lies.leads.is_way lies.leads.lands
 
--- a row that leads nowhere has none that may come next
-pub none_arrives : (rom : List ℕ) (cert : Contents) (from : ℕ) (s : Subject) → IsNumbered rom cert from s → nexts_from s ≡ [] → (to : ℕ) →
+-- if a row has no successors, none may come next
+pub none_arrives : (rom : List ℕ) (cert : CertificateView) (from : ℕ) (s : SubjectView) → IsNumbered rom cert from s → nexts_from s ≡ [] → (to : ℕ) →
     MayComeNext rom cert from to → ⊥
 none_arrives rom cert from s is none to next =
     let arrival = arrives rom cert from s [] is none to next in
     absurd (omega (arith, arrival.among.1))
 
--- one more way on
-pub arrival_more : (s : Subject) (nexts : List Next) (k : ℕ) (item : Next) → item ≡ get_or nexts k item → k < length nexts → (to : ℕ) →
+-- one more successor
+pub arrival_more : (s : SubjectView) (nexts : List Next) (k : ℕ) (item : Next) → item ≡ get_or nexts k item → k < length nexts → (to : ℕ) →
     IsArrivalOfSome s (take (k + 1) nexts) to → IsArrivalOfSome s (take k nexts) to ⊎ IsArrival s item to
 arrival_more s nexts k item is within to arrival =
     let longer = take_more nexts k item within ∙ ap (λ (n : Next). take k nexts ++ n ∷ []) (sym is) in
@@ -165,13 +165,13 @@ arrival_more s nexts k item is within to arrival =
 
 -- ---- the links from the rows of a procedure
 
--- those from one number to before another
-pub record Gathered (rom : List ℕ) (cert : Contents) (proc start end : ℕ) (links : List Link) : Type 0 where
+-- from the rows from `start` to below `end`
+pub record Gathered (rom : List ℕ) (cert : CertificateView) (proc start end : ℕ) (links : List Link) : Type 0 where
   pub only : (link : Link) → Contains links link → Belongs cert proc link.from × IsLink rom cert link
   pub all : (from to : ℕ) → start ≤ from → from < end → MayComeNext rom cert from to → HasLink links from to
 
--- a row of a number below the number of rows is there
-pub row_there : (cert : Contents) (proc start end number : ℕ) →
+-- a row with a number below their count exists
+pub row_there : (cert : CertificateView) (proc start end number : ℕ) →
     ((k : ℕ) (row : Row) → slice_get cert.rows k ≡ Some row → ((start ≤ k) × (k < end)) ↔ (row.proc ≡ proc)) → end ≤ length cert.rows →
     start ≤ number → number < end → Belongs cert proc number
 row_there cert proc start end number rows within from below =
@@ -180,7 +180,7 @@ row_there cert proc start end number rows within from below =
       | inr past ↦ absurd (omega (arith, past.0, within, below))
     ]
 
-pub gathered_more : (rom : List ℕ) (cert : Contents) (proc start from : ℕ) (old new : List Link) → Belongs cert proc from →
+pub gathered_more : (rom : List ℕ) (cert : CertificateView) (proc start from : ℕ) (old new : List Link) → Belongs cert proc from →
     Gathered rom cert proc start from old → Added rom cert from IsAny old new → Gathered rom cert proc start (from + 1) new
 gathered_more rom cert proc start from old new belongs before added = record {
   only = λ link listed.
@@ -200,7 +200,7 @@ gathered_more rom cert proc start from old new belongs before added = record {
       ];
 }
 
-pub gathered_all : (rom : List ℕ) (cert : Contents) (proc start end number : ℕ) (links : List Link) →
+pub gathered_all : (rom : List ℕ) (cert : CertificateView) (proc start end number : ℕ) (links : List Link) →
     ((k : ℕ) (row : Row) → slice_get cert.rows k ≡ Some row → ((start ≤ k) × (k < end)) ↔ (row.proc ≡ proc)) → end ≤ number →
     Gathered rom cert proc start number links → AreLinks rom cert proc links
 gathered_all rom cert proc start end number links rows behind gathered = record {
@@ -210,8 +210,8 @@ gathered_all rom cert proc start end number links rows behind gathered = record 
       gathered.all from to place.0 (omega (arith, place.1, behind)) next;
 }
 
--- links are the same in any order
-pub links_moved : (rom : List ℕ) (cert : Contents) (proc : ℕ) (old new : List Link) → IsPermutation old new → AreLinks rom cert proc old → AreLinks rom cert proc new
+-- the order of links does not matter
+pub links_moved : (rom : List ℕ) (cert : CertificateView) (proc : ℕ) (old new : List Link) → IsPermutation old new → AreLinks rom cert proc old → AreLinks rom cert proc new
 links_moved rom cert proc old new moved links = record {
   only = λ link listed. links.only link (Contains-permutation new old link (IsPermutation-sym old new moved) listed);
   all = λ from to belongs next.
@@ -219,14 +219,14 @@ links_moved rom cert proc old new moved links = record {
       (has.0, Contains-permutation old new (record { from = from; to = to; cost = has.0 }) moved has.1);
 }
 
-pub have_rows : (rom : List ℕ) (cert : Contents) (proc : ℕ) (links : List Link) → AreLinks rom cert proc links → HaveRows cert links
+pub have_rows : (rom : List ℕ) (cert : CertificateView) (proc : ℕ) (links : List Link) → AreLinks rom cert proc links → HaveRows cert links
 have_rows rom cert proc links are = record {
   each = λ link listed.
       let belongs = (are.only link listed).0 in
       slice_get_within cert.rows link.from belongs.row belongs.is;
 }
 
--- ---- the links from one row, of links in order
+-- ---- the links from one row, of sorted links
 
 pub links_between : (links : List Link) (row start count : ℕ) →
     IsPartitionPoint (λ (l : Link). ltb l.from row ≡ true) (λ (l : Link). ltb l.from row ≡ false) links start →

@@ -1,4 +1,4 @@
--- What lies ahead of rows: how the table is filled, and what it comes to.
+-- How the table of longest paths is filled, and what it has in the end.
 use Rattle.std.proofs.Common.{◌≡◌, ◌<◌, ◌≤◌, ◌+◌, ◌⊎◌, ◌↔◌, ◌∙◌, ◌++◌, ℕ, List, [], ◌∷◌, Option, Some, None, Contains, IfSome, length, get_or, map, set, take, slice_get, slice_index, inl, inr, sym, ap, subst, refl, arith, ltb, get_or-set_same, get_or-set_other, length-set}
 use Rattle.std.proofs.lemmas.Bool.{cases_eq, cases_lt, cond_both, ltb-false, ltb-true}
 use Rattle.std.proofs.lemmas.List.{take_more}
@@ -8,11 +8,11 @@ use Rattle.call_graph.proofs.DepthLemmas.{few}
 use Rattle.call_graph.proofs.OrderLemmas.{place_in}
 use Rattle.call_graph.specs.declared.edge.Edge.{Edge}
 use Rattle.call_graph.specs.Calls.{Calls, IsCallOrder}
-use Rattle.cert_order.specs.Contents.{Contents}
+use Rattle.cert_form.specs.Contents.{CertificateView}
 use Rattle.cert_lines.specs.declared.row.Row.{Row}
 use Rattle.path_time.proofs.LinkLemmas.{row_there}
 use Rattle.path_time.proofs.EdgeLemmas.{in_list, leads_earlier, link_calls, next_calls, order_belongs}
-use Rattle.path_time.specs.Links.{AreLinks, edge_of}
+use Rattle.path_time.specs.Links.{AreLinks, edge_of_link}
 use Rattle.path_time.specs.Table.{AreLinksFrom, AreSmall, HasExits, IsAhead, IsBest, IsByLink, IsFilled, IsOwnExit, IsTable, IsUpTo, ahead_at, longer, one_more}
 use Rattle.path_time.specs.Walks.{AreApart, Belongs, GoesOut, MayComeNext}
 use Rattle.path_time.specs.declared.ahead.Ahead.{Ahead}
@@ -84,7 +84,7 @@ best_more links table before best k item is within low so_far =
       ];
     }
 
--- the best of the rows from one number to before another, among those up to an end
+-- the best of the rows from `start` to below `upto`
 pub record IsBestUpto (table : List (Option Ahead)) (start upto end before : ℕ) (best : Option Ahead) : Type 0 where
   pub each : (row : ℕ) → start ≤ row → row < upto → (ahead : Ahead) → one_more row before (ahead_at table row) ≡ Some ahead → IsUpTo ahead.sum best
   pub by : (ahead : Ahead) → best ≡ Some ahead → (row : ℕ) × (start ≤ row) × (row < end) × (Some ahead ≡ one_more row before (ahead_at table row))
@@ -108,10 +108,10 @@ best_upto_more table start row end before best from below so_far =
           ];
     }
 
--- ---- the table while the exits are put into it
+-- ---- the table while it gets the exits
 
--- the exits of the rows from one number to before another, among those up to an end
-pub record HasExitsOf (rom : List ℕ) (cert : Contents) (start upto end : ℕ) (table : List (Option Ahead)) : Type 0 where
+-- the exits of the rows from `start` to below `upto`
+pub record HasExitsOf (rom : List ℕ) (cert : CertificateView) (start upto end : ℕ) (table : List (Option Ahead)) : Type 0 where
   pub room : length table ≡ length cert.rows
   pub each : (row : ℕ) → start ≤ row → row < upto → IsOwnExit rom cert row (ahead_at table row)
   pub only : (row : ℕ) (ahead : Ahead) → ahead_at table row ≡ Some ahead → (start ≤ row) × (row < end)
@@ -120,7 +120,7 @@ pub record HasExitsOf (rom : List ℕ) (cert : Contents) (start upto end : ℕ) 
 if_some : (P : Ahead → Type 0) (o : Option Ahead) (ahead : Ahead) → IfSome o P → o ≡ Some ahead → P ahead
 if_some P o ahead holds is = subst (λ (x : Option Ahead). IfSome x P) is holds
 
-pub exits_more : (rom : List ℕ) (cert : Contents) (start row end : ℕ) (table : List (Option Ahead)) (exit : Option Ahead) → end ≤ length cert.rows →
+pub exits_more : (rom : List ℕ) (cert : CertificateView) (start row end : ℕ) (table : List (Option Ahead)) (exit : Option Ahead) → end ≤ length cert.rows →
     start ≤ row → row < end → IsOwnExit rom cert row exit → IfSome exit (λ ahead. (ahead.sum < 4294967296) × (ahead.behind ≡ 0)) →
     HasExitsOf rom cert start row end table → HasExitsOf rom cert start (row + 1) end (set table row exit)
 exits_more rom cert start row end table exit within from below own low so_far =
@@ -152,7 +152,7 @@ exits_more rom cert start row end table exit within from below own low so_far =
     }
 
 -- the exits of all rows of a procedure
-pub exits_all : (rom : List ℕ) (cert : Contents) (proc start upto end : ℕ) (table : List (Option Ahead)) →
+pub exits_all : (rom : List ℕ) (cert : CertificateView) (proc start upto end : ℕ) (table : List (Option Ahead)) →
     ((k : ℕ) (row : Row) → slice_get cert.rows k ≡ Some row → ((start ≤ k) × (k < end)) ↔ (row.proc ≡ proc)) → end ≤ length cert.rows → end ≤ upto →
     HasExitsOf rom cert start upto end table → HasExits rom cert proc table
 exits_all rom cert proc start upto end table rows within behind so_far = record {
@@ -168,9 +168,9 @@ exits_all rom cert proc start upto end table rows within behind so_far = record 
 
 -- ---- the table while it is filled
 
--- a row behind those that are done keeps what lies ahead of it
-ahead_kept : (rom : List ℕ) (cert : Contents) (proc : ℕ) (links : List Link) (order : List ℕ) (table : List (Option Ahead)) (index k row : ℕ) (best : Option Ahead) →
-    AreLinks rom cert proc links → IsCallOrder (map edge_of links) order → k < index → index < length order → slice_index order index ≡ row →
+-- the path of a row that was done is kept when a later row is set
+ahead_kept : (rom : List ℕ) (cert : CertificateView) (proc : ℕ) (links : List Link) (order : List ℕ) (table : List (Option Ahead)) (index k row : ℕ) (best : Option Ahead) →
+    AreLinks rom cert proc links → IsCallOrder (map edge_of_link links) order → k < index → index < length order → slice_index order index ≡ row →
     IsAhead rom cert proc table (slice_index order k) → IsAhead rom cert proc (set table row best) (slice_index order k)
 ahead_kept rom cert proc links order table index k row best are is before inside row_is done =
     let here = slice_index order k in
@@ -187,7 +187,7 @@ ahead_kept rom cert proc links order table index k row best are is before inside
             | inl exit ↦ inl exit
             | inr t ↦
                 let next : MayComeNext rom cert here t.next = record { cost = t.cost; lie = t.apart.0 } in
-                let z = leads_earlier (map edge_of links) order k t.next is within (next_calls rom cert proc links here t.next are belongs next) in
+                let z = leads_earlier (map edge_of_link links) order k t.next is within (next_calls rom cert proc links here t.next are belongs next) in
                 let early = z.before in
                 let stays : t.next ≡ row → ⊥ = λ e. not_row z.at (omega (arith, early, before)) (z.is ∙ e) in
                 inr record {
@@ -203,8 +203,8 @@ ahead_kept rom cert proc links order table index k row best are is before inside
           ];
     }
 
--- where no row comes next, a way out is the row's exit
-ends_here : (rom : List ℕ) (cert : Contents) (proc row : ℕ) (own : Option Ahead) → IsOwnExit rom cert row own → ((to : ℕ) → MayComeNext rom cert row to → ⊥) →
+-- if no row comes next, a path is the row's exit
+ends_here : (rom : List ℕ) (cert : CertificateView) (proc row : ℕ) (own : Option Ahead) → IsOwnExit rom cert row own → ((to : ℕ) → MayComeNext rom cert row to → ⊥) →
     (rows : List ℕ) (sum : ℕ) → GoesOut rom cert proc row rows sum → IsUpTo sum own
 ends_here rom cert proc row None none alone [] sum goes = absurd (none sum goes.1.0)
 ends_here rom cert proc row (Some ahead) leaves alone [] sum goes = leaves.0.1 sum goes.1.0
@@ -212,9 +212,9 @@ ends_here rom cert proc row own exit alone (next ∷ rest) sum goes =
     let follows : MayComeNext rom cert row next = record { cost = goes.1.cost; lie = goes.1.apart.0 } in
     absurd (alone next follows)
 
--- what lies ahead of the next row in the order
-best_ahead : (rom : List ℕ) (cert : Contents) (proc : ℕ) (links some : List Link) (order : List ℕ) (table : List (Option Ahead)) (index row : ℕ) (best : Option Ahead) →
-    AreLinks rom cert proc links → IsCallOrder (map edge_of links) order → index < length order → slice_index order index ≡ row → Belongs cert proc row →
+-- the path from the next row in the order
+best_ahead : (rom : List ℕ) (cert : CertificateView) (proc : ℕ) (links some : List Link) (order : List ℕ) (table : List (Option Ahead)) (index row : ℕ) (best : Option Ahead) →
+    AreLinks rom cert proc links → IsCallOrder (map edge_of_link links) order → index < length order → slice_index order index ≡ row → Belongs cert proc row →
     IsFilled rom cert proc order index table → AreLinksFrom links row some → IsBest some table (ahead_at table row) best → IsOwnExit rom cert row (ahead_at table row) →
     (rows : List ℕ) (sum : ℕ) → GoesOut rom cert proc row rows sum → IsUpTo sum best
 best_ahead rom cert proc links some order table index row best are is inside row_is belongs filled from is_best exit [] sum goes =
@@ -230,8 +230,8 @@ best_ahead rom cert proc links some order table index row best are is inside row
     let link : Link = record { from = row; to = next; cost = has.0 } in
     let apart : AreApart rom cert row next has.0 = (are.only link has.1).1 in
     let same : has.0 ≡ on.cost = omega (arith, apart.1 on.cost on.apart.0, on.apart.1 has.0 apart.0) in
-    let calls = subst (λ (n : ℕ). Calls (map edge_of links) n next) (sym row_is) (link_calls links link has.1) in
-    let z = leads_earlier (map edge_of links) order index next is inside calls in
+    let calls = subst (λ (n : ℕ). Calls (map edge_of_link links) n next) (sym row_is) (link_calls links link has.1) in
+    let z = leads_earlier (map edge_of_link links) order index next is inside calls in
     let ahead_of_next : IsAhead rom cert proc table next = subst (λ (n : ℕ). IsAhead rom cert proc table n) z.is (filled.done z.at z.before) in
     by_next (ahead_at table next) link (from.all link has.1 refl) on.rest (omega (arith, on.sum_is, same)) refl (ahead_of_next.greatest rest on.rest on.goes_on)
   where
@@ -279,8 +279,8 @@ by_link links some table row best ahead from z is = go (ahead_at table z.link.to
         }
 
 -- one more row in the order
-pub fill : (rom : List ℕ) (cert : Contents) (proc : ℕ) (links some : List Link) (order : List ℕ) (table : List (Option Ahead)) (index row : ℕ) (best : Option Ahead) →
-    AreLinks rom cert proc links → IsCallOrder (map edge_of links) order →
+pub fill : (rom : List ℕ) (cert : CertificateView) (proc : ℕ) (links some : List Link) (order : List ℕ) (table : List (Option Ahead)) (index row : ℕ) (best : Option Ahead) →
+    AreLinks rom cert proc links → IsCallOrder (map edge_of_link links) order →
     index < length order → slice_index order index ≡ row → IsFilled rom cert proc order index table → AreLinksFrom links row some →
     IsBest some table (ahead_at table row) best → IsFilled rom cert proc order (index + 1) (set table row best)
 fill rom cert proc links some order table index row best are is inside row_is filled from is_best =
@@ -309,8 +309,8 @@ fill rom cert proc links some order table index row best are is inside row_is fi
                       elim (led ahead (sym same ∙ at)) [
                         | inl own ↦ inl (subst (λ (o : Option Ahead). IsOwnExit rom cert row o) own exit)
                         | inr z ↦
-                            let calls = subst (λ (n : ℕ). Calls (map edge_of links) n z.link.to) (z.from_is ∙ sym row_is) (link_calls links z.link z.listed) in
-                            let early = leads_earlier (map edge_of links) order index z.link.to is inside calls in
+                            let calls = subst (λ (n : ℕ). Calls (map edge_of_link links) n z.link.to) (z.from_is ∙ sym row_is) (link_calls links z.link z.listed) in
+                            let early = leads_earlier (map edge_of_link links) order index z.link.to is inside calls in
                             inr record {
                               next = z.link.to;
                               next_is = z.next_is;
@@ -352,7 +352,7 @@ fill rom cert proc links some order table index row best are is inside row_is fi
     }
 
 -- before the first row of the order
-pub fill_none : (rom : List ℕ) (cert : Contents) (proc : ℕ) (order : List ℕ) (table : List (Option Ahead)) → HasExits rom cert proc table →
+pub fill_none : (rom : List ℕ) (cert : CertificateView) (proc : ℕ) (order : List ℕ) (table : List (Option Ahead)) → HasExits rom cert proc table →
     IsFilled rom cert proc order 0 table
 fill_none rom cert proc order table has = record {
   room = has.room;
@@ -364,11 +364,11 @@ fill_none rom cert proc order table has = record {
       (omega (arith, low.0), omega (arith, low.1));
 }
 
--- an order has 65,536 rows at most
+-- an order has at most 65,536 rows
 pub few_rows : (edges : List Edge) (order : List ℕ) → IsCallOrder edges order → ((k : ℕ) → k < length order → slice_index order k < 65536) → length order ≤ 65536
 few_rows edges order is fits = few 65536 order is.once fits
 
-pub small_so_far : (rom : List ℕ) (cert : Contents) (proc : ℕ) (order : List ℕ) (place : ℕ) (table : List (Option Ahead)) → place ≤ 65536 →
+pub small_so_far : (rom : List ℕ) (cert : CertificateView) (proc : ℕ) (order : List ℕ) (place : ℕ) (table : List (Option Ahead)) → place ≤ 65536 →
     IsFilled rom cert proc order place table → AreSmall table
 small_so_far rom cert proc order place table few filled = record {
   each = λ row ahead at.
@@ -376,9 +376,9 @@ small_so_far rom cert proc order place table few filled = record {
       (omega (arith, low.0, few), omega (arith, low.1, few));
 }
 
--- behind the last row of the order
-pub fill_all : (rom : List ℕ) (cert : Contents) (proc : ℕ) (links : List Link) (order : List ℕ) (table : List (Option Ahead)) (place : ℕ) →
-    AreLinks rom cert proc links → IsCallOrder (map edge_of links) order → length order ≤ 65536 → length order ≡ place →
+-- after the last row of the order
+pub fill_all : (rom : List ℕ) (cert : CertificateView) (proc : ℕ) (links : List Link) (order : List ℕ) (table : List (Option Ahead)) (place : ℕ) →
+    AreLinks rom cert proc links → IsCallOrder (map edge_of_link links) order → length order ≤ 65536 → length order ≡ place →
     IsFilled rom cert proc order place table → IsTable rom cert proc table
 fill_all rom cert proc links order table place are is few all filled = record {
   room = filled.room;
@@ -399,7 +399,7 @@ fill_all rom cert proc links order table place are is few all filled = record {
 }
 
 -- a row of the procedure has a place in the table
-pub row_within : (rom : List ℕ) (cert : Contents) (proc : ℕ) (order : List ℕ) (place : ℕ) (table : List (Option Ahead)) → IsFilled rom cert proc order place table →
+pub row_within : (rom : List ℕ) (cert : CertificateView) (proc : ℕ) (order : List ℕ) (place : ℕ) (table : List (Option Ahead)) → IsFilled rom cert proc order place table →
     {row : ℕ} → Belongs cert proc row → row < length table
 row_within rom cert proc order place table filled {row} belongs =
     let within = slice_get_within cert.rows row belongs.row belongs.is in

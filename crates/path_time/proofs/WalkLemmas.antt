@@ -3,17 +3,17 @@ use Rattle.std.proofs.Common.{◌≡◌, ◌<◌, ◌≤◌, ◌+◌, ◌↔◌,
 use Rattle.std.proofs.lemmas.Option.{none-some, same_Some, slice_get_cases}
 use Rattle.cert_lines.specs.declared.proc.Proc.{Proc}
 use Rattle.cert_lines.specs.declared.row.Row.{Row}
-use Rattle.cert_order.specs.Contents.{Contents}
-use Rattle.cert_ways.specs.Pays.{cost_before}
+use Rattle.cert_form.specs.Contents.{CertificateView}
+use Rattle.check_ways.specs.Pays.{cost_before}
 use Rattle.path_time.proofs.EdgeLemmas.{next_belongs}
 use Rattle.path_time.proofs.TableLemmas.{upto_less}
-use Rattle.path_time.specs.Table.{Ends, Follows, HasFewer, IsAheadOfEntry, IsTable, IsUpTo, ahead_at, one_more}
+use Rattle.path_time.specs.Table.{Ends, FollowsTable, HasFewer, IsAheadOfEntry, IsTable, IsUpTo, ahead_at, one_more}
 use Rattle.path_time.specs.Walks.{AreApart, Belongs, BelongsAt, GoesOut, HasNoWalk, IsLongest, IsWalk}
 use Rattle.path_time.specs.declared.ahead.Ahead.{Ahead}
 
 -- ---- along the table
 
--- a row of which something lies ahead has a place in the table
+-- a row with a path has a place in the table
 pub there_within : (table : List (Option Ahead)) (row : ℕ) (ahead : Ahead) → ahead_at table row ≡ Some ahead → row < length table
 there_within [] row ahead at = absurd (none-some ahead at)
 there_within (x ∷ xs) zero ahead at = omega arith
@@ -23,9 +23,9 @@ pub none_if : (o : Option ℕ) → ((n : ℕ) → o ≡ Some n → ⊥) → o �
 none_if None never = refl
 none_if (Some n) never = absurd (never n refl)
 
--- the rows that follow an entry of the table are a way out
-pub follows_out : (rom : List ℕ) (cert : Contents) (proc : ℕ) (table : List (Option Ahead)) (row : ℕ) (ahead : Ahead) (rows : List ℕ) → IsTable rom cert proc table →
-    Belongs cert proc row → ahead_at table row ≡ Some ahead → Follows table (Some ahead) rows → GoesOut rom cert proc row rows ahead.sum
+-- the rows that follow an entry of the table are a path to an exit
+pub follows_out : (rom : List ℕ) (cert : CertificateView) (proc : ℕ) (table : List (Option Ahead)) (row : ℕ) (ahead : Ahead) (rows : List ℕ) → IsTable rom cert proc table →
+    Belongs cert proc row → ahead_at table row ≡ Some ahead → FollowsTable table (Some ahead) rows → GoesOut rom cert proc row rows ahead.sum
 follows_out rom cert proc table row ahead [] is belongs at follows =
     elim ((is.each row belongs).leads ahead at) [
       | inl exit ↦ (belongs, exit.0)
@@ -44,14 +44,14 @@ follows_out rom cert proc table row ahead (next ∷ rows) is belongs at follows 
               cost = t.cost;
               apart = apart;
               rest = t.there.sum;
-              goes_on = follows_out rom cert proc table next t.there rows is on there_is (subst (λ (o : Option Ahead). Follows table o rows) there_is follows.1);
+              goes_on = follows_out rom cert proc table next t.there rows is on there_is (subst (λ (o : Option Ahead). FollowsTable table o rows) there_is follows.1);
               sum_is = (let sum = t.sum_is in omega (arith, sum));
             },
           )
     ]
 
--- following the table comes to an end
-pub table_ends : (rom : List ℕ) (cert : Contents) (proc : ℕ) (table : List (Option Ahead)) (number : ℕ) (ahead : Ahead) → IsTable rom cert proc table →
+-- following the table ends
+pub table_ends : (rom : List ℕ) (cert : CertificateView) (proc : ℕ) (table : List (Option Ahead)) (number : ℕ) (ahead : Ahead) → IsTable rom cert proc table →
     ahead_at table number ≡ Some ahead → (row : ℕ) → ahead.next ≡ Some row → HasFewer table row ahead.behind
 table_ends rom cert proc table number ahead is at row next =
     elim ((is.each number (is.only number ahead at)).leads ahead at) [
@@ -67,7 +67,7 @@ table_ends rom cert proc table number ahead is at row next =
 
 -- ---- at the entry
 
--- one more row in front has something ahead of it
+-- one more edge before a path
 pub record InFront (table : List (Option Ahead)) (row before : ℕ) (ahead : Ahead) : Type 0 where
   pub there : Ahead
   pub is : ahead_at table row ≡ Some there
@@ -92,8 +92,8 @@ in_front table row before ahead is = go (ahead_at table row) refl
           behind_is = ap (λ (a : Ahead). a.behind) same;
         }
 
--- what lies ahead of the entry comes to an end too
-pub entry_ends : (rom : List ℕ) (cert : Contents) (proc : ℕ) (table : List (Option Ahead)) (start end before : ℕ) (ahead : Ahead) → IsTable rom cert proc table →
+-- following the path from the entry ends too
+pub entry_ends : (rom : List ℕ) (cert : CertificateView) (proc : ℕ) (table : List (Option Ahead)) (start end before : ℕ) (ahead : Ahead) → IsTable rom cert proc table →
     IsAheadOfEntry table start end before (Some ahead) → Ends table ahead
 entry_ends rom cert proc table start end before ahead is entry =
     let by = entry.by ahead refl in
@@ -109,8 +109,8 @@ entry_ends rom cert proc table start end before ahead is entry =
       each = λ number other at row next. table_ends rom cert proc table number other is at row next;
     }
 
--- a row of a number among those at the entry is there
-entry_there : (cert : Contents) (proc address start end number : ℕ) →
+-- a row at the entry, by its number, exists
+entry_there : (cert : CertificateView) (proc address start end number : ℕ) →
     ((k : ℕ) (row : Row) → slice_get cert.rows k ≡ Some row → ((start ≤ k) × (k < end)) ↔ ((row.proc ≡ proc) × (row.address ≡ address))) →
     end ≤ length cert.rows → start ≤ number → number < end → BelongsAt cert proc address number
 entry_there cert proc address start end number rows within from below =
@@ -121,8 +121,8 @@ entry_there cert proc address start end number rows within from below =
       | inr past ↦ absurd (omega (arith, past.0, within, below))
     ]
 
--- a walk's sum is at most that of what lies ahead of the entry
-pub walk_upto : (rom : List ℕ) (cert : Contents) (proc : ℕ) (procedure : Proc) (table : List (Option Ahead)) (start end : ℕ) (best : Option Ahead) →
+-- a walk's sum is at most the sum of the path from the entry
+pub walk_upto : (rom : List ℕ) (cert : CertificateView) (proc : ℕ) (procedure : Proc) (table : List (Option Ahead)) (start end : ℕ) (best : Option Ahead) →
     slice_get cert.procs proc ≡ Some procedure → IsTable rom cert proc table →
     ((k : ℕ) (row : Row) → slice_get cert.rows k ≡ Some row → ((start ≤ k) × (k < end)) ↔ ((row.proc ≡ proc) × (row.address ≡ procedure.entry))) →
     IsAheadOfEntry table start end (cost_before procedure.kind) best → (rows : List ℕ) (sum : ℕ) → IsWalk rom cert proc rows sum → IsUpTo sum best
@@ -142,11 +142,11 @@ walk_upto rom cert proc procedure table start end best at is rows_at entry rows 
         let more : Ahead = record { sum = there.sum + before; next = Some walk.first; behind = there.behind + 1 } in
         upto_less sum more.sum best (omega (arith, sum_is, upto)) (entry.each walk.first place.0 place.1 more (ap (one_more walk.first before) there_is))
 
--- the walk that the table has from the entry is a longest one
-pub longest_walk : (rom : List ℕ) (cert : Contents) (proc : ℕ) (procedure : Proc) (table : List (Option Ahead)) (start end : ℕ) (ahead : Ahead) (told : ℕ) (rows : List ℕ) →
+-- the walk from the entry by the table is a longest one
+pub longest_walk : (rom : List ℕ) (cert : CertificateView) (proc : ℕ) (procedure : Proc) (table : List (Option Ahead)) (start end : ℕ) (ahead : Ahead) (told : ℕ) (rows : List ℕ) →
     slice_get cert.procs proc ≡ Some procedure → IsTable rom cert proc table → end ≤ length cert.rows →
     ((k : ℕ) (row : Row) → slice_get cert.rows k ≡ Some row → ((start ≤ k) × (k < end)) ↔ ((row.proc ≡ proc) × (row.address ≡ procedure.entry))) →
-    IsAheadOfEntry table start end (cost_before procedure.kind) (Some ahead) → told ≡ min ahead.sum 4294967295 → Follows table (Some ahead) rows →
+    IsAheadOfEntry table start end (cost_before procedure.kind) (Some ahead) → told ≡ min ahead.sum 4294967295 → FollowsTable table (Some ahead) rows →
     IsLongest rom cert proc told rows
 longest_walk rom cert proc procedure table start end ahead told [] at is within rows_at entry told_is follows =
     let by = entry.by ahead refl in
@@ -172,15 +172,15 @@ longest_walk rom cert proc procedure table start end ahead told (first ∷ other
         rows_are = refl;
         entry = entry_at;
         rest = front.there.sum;
-        goes_out = follows_out rom cert proc table first front.there others is belongs there_is (subst (λ (o : Option Ahead). Follows table o others) there_is follows.1);
+        goes_out = follows_out rom cert proc table first front.there others is belongs there_is (subst (λ (o : Option Ahead). FollowsTable table o others) there_is follows.1);
         sum_is = (let sum = front.sum_is in omega (arith, sum));
       };
       greatest = λ rows sum walk. walk_upto rom cert proc procedure table start end (Some ahead) at is rows_at entry rows sum walk;
       told_is = told_is;
     }
 
--- where nothing lies ahead of the entry there is no walk
-pub no_walk : (rom : List ℕ) (cert : Contents) (proc : ℕ) (procedure : Proc) (table : List (Option Ahead)) (start end : ℕ) → slice_get cert.procs proc ≡ Some procedure →
+-- if the entry has no path, there is no walk
+pub no_walk : (rom : List ℕ) (cert : CertificateView) (proc : ℕ) (procedure : Proc) (table : List (Option Ahead)) (start end : ℕ) → slice_get cert.procs proc ≡ Some procedure →
     IsTable rom cert proc table →
     ((k : ℕ) (row : Row) → slice_get cert.rows k ≡ Some row → ((start ≤ k) × (k < end)) ↔ ((row.proc ≡ proc) × (row.address ≡ procedure.entry))) →
     IsAheadOfEntry table start end (cost_before procedure.kind) None → HasNoWalk rom cert proc 0
@@ -189,7 +189,7 @@ no_walk rom cert proc procedure table start end at is rows_at entry = record {
   none = λ rows sum walk. walk_upto rom cert proc procedure table start end None at is rows_at entry rows sum walk;
 }
 
--- what two clauses say of an answer
+-- two clauses about an answer imply a third
 pub if_ok_both : {T E : Type 0} (P Q S : T → Type 0) (answer : Result T E) → ((found : T) → P found → Q found → S found) → IfOk answer P → IfOk answer Q →
     IfOk answer S
 if_ok_both P Q S (Ok found) both one other = both found one other

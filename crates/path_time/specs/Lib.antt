@@ -1,4 +1,4 @@
--- The definitions of walks and of which is longest; and what the search for it keeps true.
+-- Definitions of walks, of the longest walk, and of the invariants of the search for it.
 pub mod Links
 pub mod Table
 pub mod Walks

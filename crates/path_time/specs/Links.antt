@@ -5,8 +5,8 @@ use Rattle.abs_step.specs.declared.next.NextKind.{NextKind}
 use Rattle.abs_step.specs.declared.next.NextKind.TheVariants.{Jump, Call, Exit}
 use Rattle.call_graph.specs.declared.edge.Edge.{Edge}
 use Rattle.cert_lines.specs.declared.row.Row.{Row}
-use Rattle.cert_order.specs.Contents.{Contents}
-use Rattle.cert_ways.specs.Ways.{Subject, behind_of}
+use Rattle.cert_form.specs.Contents.{CertificateView}
+use Rattle.check_ways.specs.Ways.{SubjectView, behind_of}
 use Rattle.path_time.specs.Walks.{AreApart, Belongs, MayComeNext}
 use Rattle.path_time.specs.declared.links.Link.{Link}
 
@@ -14,55 +14,55 @@ use Rattle.path_time.specs.declared.links.Link.{Link}
 abbrev pub HasLink : List Link → ℕ → ℕ → Type 0
 HasLink links from to = (cost : ℕ) × Contains links (record { from = from; to = to; cost = cost })
 
--- a link tells what lies between its rows
-abbrev pub IsLink : List ℕ → Contents → Link → Type 0
+-- a link has the T-states between its rows
+abbrev pub IsLink : List ℕ → CertificateView → Link → Type 0
 IsLink rom cert link = AreApart rom cert link.from link.to link.cost
 
--- the links from the rows of a procedure: one at least from each to each that may come next
-pub record AreLinks (rom : List ℕ) (cert : Contents) (proc : ℕ) (links : List Link) : Type 0 where
+-- the links from the rows of a procedure: at least one from each row to each that may come next
+pub record AreLinks (rom : List ℕ) (cert : CertificateView) (proc : ℕ) (links : List Link) : Type 0 where
   pub only : (link : Link) → Contains links link → Belongs cert proc link.from × IsLink rom cert link
   pub all : (from to : ℕ) → Belongs cert proc from → MayComeNext rom cert from to → HasLink links from to
 
 -- links lead from rows of the certificate
-pub record HaveRows (cert : Contents) (links : List Link) : Type 0 where
+pub record HaveRows (cert : CertificateView) (links : List Link) : Type 0 where
   pub each : (link : Link) → Contains links link → link.from < length cert.rows
 
--- links from a row were added, one at least to each of those rows that may come next
-pub record Added (rom : List ℕ) (cert : Contents) (from : ℕ) (Among : ℕ → Type 0) (old new : List Link) : Type 0 where
+-- links from a row were added: at least one to each of those rows that may come next
+pub record Added (rom : List ℕ) (cert : CertificateView) (from : ℕ) (Among : ℕ → Type 0) (old new : List Link) : Type 0 where
   pub kept : (link : Link) → Contains old link → Contains new link
   pub only : (link : Link) → Contains new link → Contains old link ⊎ ((link.from ≡ from) × IsLink rom cert link)
   pub all : (to : ℕ) → Among to → MayComeNext rom cert from to → HasLink new from to
 
--- the rows from one number to before another
+-- the rows from `start` to below `end`
 abbrev pub IsWithin : ℕ → ℕ → ℕ → Type 0
 IsWithin start end number = (start ≤ number) × (number < end)
 
--- where a way on of a row leads within its procedure, through a call and back from it too
-abbrev pub arrival_by : Subject → Next → NextKind → Option ℕ
+-- where a successor leads within its procedure; for a call that is the address after it
+abbrev pub arrival_by : SubjectView → Next → NextKind → Option ℕ
 arrival_by s next Jump = Some next.address
 arrival_by s next Call = Some (behind_of s.decoded s.row.address)
 arrival_by s next Exit = None
 
-abbrev pub arrival_of : Subject → Next → Option ℕ
+abbrev pub arrival_of : SubjectView → Next → Option ℕ
 arrival_of s next = arrival_by s next next.kind
 
--- a row stands where a way on of a row leads
-pub record IsArrival (s : Subject) (next : Next) (number : ℕ) : Type 0 where
+-- a row is where a successor leads
+pub record IsArrival (s : SubjectView) (next : Next) (number : ℕ) : Type 0 where
   pub row : Row
   pub is : slice_get s.cert.rows number ≡ Some row
   pub of : row.proc ≡ s.row.proc
   pub at : arrival_of s next ≡ Some row.address
 
--- a row stands where one of some ways on leads
-pub record IsArrivalOfSome (s : Subject) (nexts : List Next) (number : ℕ) : Type 0 where
+-- a row is where one of the successors leads
+pub record IsArrivalOfSome (s : SubjectView) (nexts : List Next) (number : ℕ) : Type 0 where
   pub next : Next
   pub among : Contains nexts next
   pub is : IsArrival s next number
 
--- any row will do
+-- every row has this property
 abbrev pub IsAny : ℕ → Type 0
 IsAny number = Unit {0}
 
 -- the link without its cost
-abbrev pub edge_of : Link → Edge
-edge_of link = record { caller = link.from; callee = link.to }
+abbrev pub edge_of_link : Link → Edge
+edge_of_link link = record { caller = link.from; callee = link.to }

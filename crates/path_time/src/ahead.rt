@@ -1,23 +1,23 @@
-// What lies ahead of the rows of a procedure: the longest way from each of them to an exit.
+// The longest path from each row of a procedure to an exit.
 
 ghost use Rattle.std.specs.Prelude.{◌≡◌, ◌+◌, ◌<◌, ◌≤◌, ◌^◌, ℕ, IfOk, IfSome, Contains, Some, length, map as mapped, vec_len};
 ghost use Rattle.call_graph.specs.Calls.{IsCallOrder};
-ghost use Rattle.cert_cover.specs.Program.{map_of_board};
-ghost use Rattle.path_time.specs.Links.{AreLinks, edge_of};
-ghost use Rattle.path_time.specs.Table.{AreSmall, Ends, Follows, HasExits, IsAheadOfEntry, IsBest, IsOwnExit, IsTable, ahead_at, longer, one_more};
+ghost use Rattle.cert_form.specs.Contents.{map_of_board};
+ghost use Rattle.path_time.specs.Links.{AreLinks, edge_of_link};
+ghost use Rattle.path_time.specs.Table.{AreSmall, Ends, FollowsTable, HasExits, IsAheadOfEntry, IsBest, IsOwnExit, IsTable, ahead_at, longer, one_more};
 ghost use Rattle.path_time.specs.declared.links.Link.{Link as Joined};
 ghost use Rattle.std.specs.List.Sorted.{IsNonDecreasingBy};
 
 use crate::links::{Link, links_from};
 use address_map::{Map, Rom};
 use call_graph::ProcId;
-use cert_ways::cost_of_leaving;
-use certificate::{Certificate, RowId};
+use cert_contents::{Certificate, RowId};
+use check_walks::cost_of_leaving;
 use std::alloc::{AllocError, Global};
 use std::ops::Range;
 
-/// The longest way from a row to an exit: its T-states, the row that comes next on it, or None where the row itself has that exit,
-/// and how many rows come behind it.
+/// The longest path from a row to an exit: its T-states, the next row on it (None if the row itself has that exit), and
+/// how many rows follow.
 #[derive(Clone, Copy)]
 pub(crate) struct Ahead {
     pub(crate) sum: u64,
@@ -25,7 +25,7 @@ pub(crate) struct Ahead {
     pub(crate) behind: u32,
 }
 
-/// The same with one more row in front, where so many T-states lie between.
+/// The same path with one more edge before it, to the row `row`, at this cost.
 fn one_more(row: u16, cost: u32, ahead: Option<Ahead>) -> Option<Ahead>
     requires sum { IfSome ahead (λ a. a.sum < 2 ^ 63) }
     requires behind { IfSome ahead (λ a. a.behind < 2 ^ 31) }
@@ -41,7 +41,7 @@ fn one_more(row: u16, cost: u32, ahead: Option<Ahead>) -> Option<Ahead>
     }
 }
 
-/// The one with the greater sum.
+/// The path with the greater sum; the first if the sums are equal.
 fn longer(one: Option<Ahead>, other: Option<Ahead>) -> Option<Ahead>
     ensures { result ≡ longer one other }
 {
@@ -52,8 +52,8 @@ fn longer(one: Option<Ahead>, other: Option<Ahead>) -> Option<Ahead>
     }
 }
 
-/// The longest way from each row of a procedure to an exit, by the rows' numbers, where the links lead from rows that stand later in an
-/// order to earlier ones.
+/// The longest path from each row of a procedure to an exit, by the rows' numbers. In the order each row comes after
+/// those to which its links lead.
 pub(crate) fn table_along(
     alloc: Global,
     rom: &Rom,
@@ -67,7 +67,7 @@ pub(crate) fn table_along(
     requires len { map.now.rom_len ≡ length rom.now }
     requires links { AreLinks rom.now certificate.now proc links.now }
     requires rising { IsNonDecreasingBy (λ link. link.from) links.now }
-    requires order { IsCallOrder (mapped edge_of links.now) order.now }
+    requires order { IsCallOrder (mapped edge_of_link links.now) order.now }
     ensures { IfOk result (λ table. IsTable rom.now certificate.now proc table.items) }
 {
     let mut table = exits_of(alloc, rom, map, certificate, proc)?;
@@ -98,7 +98,7 @@ fn exits_of(
     Ok(table)
 }
 
-/// A table in which nothing lies ahead of any row.
+/// A table without any path.
 fn nothing_ahead(alloc: Global, count: usize) -> Result<Vec<Option<Ahead>>, AllocError>
     ensures room { IfOk result (λ table. vec_len table ≡ count) }
     ensures none { IfOk result (λ table. (row : ℕ) → ahead_at table.items row ≡ None) }
@@ -106,7 +106,6 @@ fn nothing_ahead(alloc: Global, count: usize) -> Result<Vec<Option<Ahead>>, Allo
     vec![in alloc; None; count]
 }
 
-/// The exit of a row, if it has one.
 fn own_exit(
     alloc: Global,
     rom: &Rom,
@@ -129,7 +128,7 @@ fn own_exit(
     }
 }
 
-/// The best that these links and what there was before come to.
+/// The longest of the paths by these links and the one before.
 fn best_by(links: &[Link], table: &[Option<Ahead>], before: Option<Ahead>) -> Option<Ahead>
     requires within { (link : Joined) → Contains links.now link → link.to < length table.now }
     requires small { AreSmall table.now }
@@ -145,7 +144,7 @@ fn best_by(links: &[Link], table: &[Option<Ahead>], before: Option<Ahead>) -> Op
     best
 }
 
-/// What lies ahead of a procedure's entry: the best of these rows there, with so many T-states before. The row that comes next is the
+/// The longest path from a procedure's entry: the best of these rows, with `before` T-states added. Its next row is the
 /// first of the walk.
 pub(crate) fn ahead_of_entry(
     table: &[Option<Ahead>],
@@ -164,14 +163,14 @@ pub(crate) fn ahead_of_entry(
     best
 }
 
-/// The rows that come next, one after another, up to one that has its exit.
+/// The rows of a path, up to the one that has its exit.
 pub(crate) fn rows_along(
     alloc: Global,
     table: &[Option<Ahead>],
     first: Ahead,
 ) -> Result<Vec<RowId>, AllocError>
     requires { Ends table.now first }
-    ensures { IfOk result (λ rows. Follows table.now (Some first) rows.items) }
+    ensures { IfOk result (λ rows. FollowsTable table.now (Some first) rows.items) }
 {
     let mut rows = Vec::new(alloc);
     let mut ahead = first;

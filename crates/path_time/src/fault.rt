@@ -1,17 +1,17 @@
-// Why there is no longest walk of a procedure.
+// Why a procedure has no longest walk.
 
 use thiserror::Error;
 
-/// Why there is no longest walk of a procedure.
+/// Why a procedure has no longest walk.
 #[derive(Clone, Copy, Debug, Error, PartialEq, Eq)]
 pub enum TimeFault {
-    /// Walks could go round for ever: the lowest address of the procedure's rows that lie on a circle.
+    /// Its rows have a cycle. This is the lowest address of a row on one.
     #[error("the rows of the procedure go round at {0:04X}")]
     Cycle(u16),
     /// The procedure has no time.
     #[error("the procedure has no time")]
     Untimed,
-    /// There was no memory for the answer, or for what leads to it.
+    /// Memory was refused, for the answer or for what leads to it.
     #[error("out of memory")]
     NoMemory,
 }

@@ -1,4 +1,5 @@
-// The longest walk of a procedure, in T-states (docs/CHECKER.md, "Walks"), and the potentials of its rows (docs/ANALYSIS.md, "Potentials").
+// The longest walk of a procedure, in T-states (docs/CHECKER.md, "Walks"). It also has the potentials of
+// `write_potentials`.
 #![tactic(auto)]
 
 mod ahead;
@@ -7,5 +8,5 @@ mod links;
 mod walks;
 
 pub use fault::TimeFault;
-pub use potentials::{PotentialFault, potentials};
 pub use walks::longest;
+pub use write_potentials::{PotentialFault, potentials};

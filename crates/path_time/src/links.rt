@@ -1,23 +1,24 @@
-// Which rows may come next after which on a walk, and what lies between.
+// Which row may come next after which on a walk, and the T-states between them.
 
 ghost use Rattle.std.specs.Prelude.{◌≡◌, ◌<◌, ◌≤◌, ℕ, IfOk, Ok, OnOk, length, map};
 ghost use Rattle.std.specs.List.Sorted.{IsNonDecreasingBy};
-ghost use Rattle.cert_cover.specs.Program.{map_of_board};
-ghost use Rattle.cert_ways.specs.Pays.{IsGreatest, LieBetween};
-ghost use Rattle.cert_ways.specs.Ways.{IsNumbered, step_of};
-ghost use Rattle.path_time.specs.Links.{Added, AreLinks, IsAny, IsArrival, IsArrivalOfSome, IsWithin, arrival_of, edge_of};
+ghost use Rattle.cert_form.specs.Contents.{map_of_board};
+ghost use Rattle.check_ways.specs.Pays.{IsGreatest, LieBetween};
+ghost use Rattle.check_ways.specs.Ways.{IsNumbered, step_of};
+ghost use Rattle.path_time.specs.Links.{Added, AreLinks, IsAny, IsArrival, IsArrivalOfSome, IsWithin, arrival_of, edge_of_link};
 ghost use Rattle.path_time.specs.Table.{AreLinksFrom};
 
 use abs_step::{Next, NextKind};
 use address_map::{Map, Rom};
 use call_graph::{Edge, ProcId};
-use cert_ways::{Subject, cost_between};
-use certificate::{Certificate, RowId};
+use cert_contents::{Certificate, RowId};
+use check_walks::cost_between;
+use check_ways::Subject;
 use std::alloc::{AllocError, Global};
 use std::ops::Range;
 
-/// Two rows, by their numbers, of which the second may come next after the first on a walk, and the T-states that lie between. There
-/// are 65,535 rows at most.
+/// Two rows, by their numbers: the second may come next after the first on a walk, at this cost in T-states. A
+/// certificate has at most 65,535 rows.
 #[derive(Clone, Copy)]
 pub(crate) struct Link {
     pub(crate) from: u16,
@@ -25,7 +26,8 @@ pub(crate) struct Link {
     pub(crate) cost: u32,
 }
 
-/// The links from the rows of a procedure, by the rows from which they lead.
+/// The links from the rows of a procedure, sorted by the rows from which they lead, and then by those to which they
+/// lead.
 pub(crate) fn links_of(
     alloc: Global,
     rom: &Rom,
@@ -39,11 +41,11 @@ pub(crate) fn links_of(
     ensures rising { IfOk result (λ links. IsNonDecreasingBy (λ link. link.from) links.items) }
 {
     let mut links = gathered(alloc, rom, map, certificate, proc)?;
-    links.sort_unstable_by_key(|link| link.from);
+    links.sort_by_key(|link| link.to)?;
+    links.sort_by_key(|link| link.from)?;
     Ok(links)
 }
 
-/// The links from the rows of a procedure, in any order.
 fn gathered(
     alloc: Global,
     rom: &Rom,
@@ -63,7 +65,6 @@ fn gathered(
     Ok(links)
 }
 
-/// Adds the links from a row.
 fn add_links(
     alloc: Global,
     rom: &Rom,
@@ -87,7 +88,7 @@ fn add_links(
     add_links_by_each(&subject, from, nexts.as_slice(), links)
 }
 
-/// Adds the links from the row of this number, the subject, by its ways on.
+/// Adds the links from the subject, which is the row with this number, by all its successors.
 fn add_links_by_each(
     subject: &Subject,
     from: RowId,
@@ -97,7 +98,8 @@ fn add_links_by_each(
     requires subject { IsNumbered subject.now.rom subject.now.cert from subject.now }
     requires within { from < length subject.now.cert.rows }
     requires step { step_of subject.now ≡ Ok nexts.now }
-    ensures { OnOk result (Added subject.now.rom subject.now.cert from (IsArrivalOfSome subject.now nexts.now) links.old.items links.new.items) }
+    ensures { OnOk result (Added subject.now.rom subject.now.cert from
+        (IsArrivalOfSome subject.now nexts.now) links.old.items links.new.items) }
 {
     for next in nexts {
         add_links_by(subject, from, nexts, next, links)?;
@@ -105,7 +107,7 @@ fn add_links_by_each(
     Ok(())
 }
 
-/// Adds the links from the row of this number, the subject, by one of its ways on.
+/// Adds the links from the subject by one of its successors.
 fn add_links_by(
     subject: &Subject,
     from: RowId,
@@ -116,7 +118,8 @@ fn add_links_by(
     requires subject { IsNumbered subject.now.rom subject.now.cert from subject.now }
     requires within { from < length subject.now.cert.rows }
     requires step { step_of subject.now ≡ Ok nexts.now }
-    ensures { OnOk result (Added subject.now.rom subject.now.cert from (IsArrival subject.now next.now) links.old.items links.new.items) }
+    ensures { OnOk result (Added subject.now.rom subject.now.cert from
+        (IsArrival subject.now next.now) links.old.items links.new.items) }
 {
     match arrival_of(subject, next) {
         Some(address) => {
@@ -127,7 +130,7 @@ fn add_links_by(
     }
 }
 
-/// The address to which a way on of a row leads within its procedure, through a call and back from it too; None for an exit.
+/// The address to which a successor leads within its procedure, for a call the address after it; None for an exit.
 fn arrival_of(subject: &Subject, next: &Next) -> Option<u16>
     ensures { result ≡ arrival_of subject.now next.now }
 {
@@ -138,7 +141,7 @@ fn arrival_of(subject: &Subject, next: &Next) -> Option<u16>
     }
 }
 
-/// Adds the links from the row of this number, the subject, to those of these rows that may come next.
+/// Adds the links from the subject to those of these rows that may come next.
 fn add_links_to(
     subject: &Subject,
     from: RowId,
@@ -150,9 +153,10 @@ fn add_links_to(
     requires within { from < length subject.now.cert.rows }
     requires step { step_of subject.now ≡ Ok nexts.now }
     requires rows { rows.end ≤ length subject.now.cert.rows }
-    ensures { OnOk result (Added subject.now.rom subject.now.cert from (IsWithin rows.start rows.end) links.old.items links.new.items) }
+    ensures { OnOk result (Added subject.now.rom subject.now.cert from
+        (IsWithin rows.start rows.end) links.old.items links.new.items) }
 {
-    // In form: there are 65,535 rows at most.
+    // By the form, there are at most 65,535 rows.
     subject.certificate.is_in_form();
     for to in rows.start..rows.end {
         if let Some(cost) = cost_to(subject, nexts, to) {
@@ -166,10 +170,11 @@ fn add_links_to(
     Ok(())
 }
 
-/// The T-states that lie between the subject, of these ways on, and the row of a number.
+/// The T-states between the subject, with these successors, and the row with this number.
 fn cost_to(subject: &Subject, nexts: &[Next], to: RowId) -> Option<u32>
     requires step { step_of subject.now ≡ Ok nexts.now }
-    ensures { (from : ℕ) → IsNumbered subject.now.rom subject.now.cert from subject.now → IsGreatest (LieBetween subject.now.rom subject.now.cert from to) result }
+    ensures { (from : ℕ) → IsNumbered subject.now.rom subject.now.cert from subject.now
+        → IsGreatest (LieBetween subject.now.rom subject.now.cert from to) result }
 {
     let target = subject.certificate.row(to)?;
     cost_between(subject, nexts, &target)
@@ -177,7 +182,7 @@ fn cost_to(subject: &Subject, nexts: &[Next], to: RowId) -> Option<u32>
 
 /// The links without their costs.
 pub(crate) fn edges_of(alloc: Global, links: &[Link]) -> Result<Vec<Edge>, AllocError>
-    ensures { IfOk result (λ edges. edges.items ≡ map edge_of links.now) }
+    ensures { IfOk result (λ edges. edges.items ≡ map edge_of_link links.now) }
 {
     let mut edges = Vec::new(alloc);
     for link in links {
@@ -189,7 +194,7 @@ pub(crate) fn edges_of(alloc: Global, links: &[Link]) -> Result<Vec<Edge>, Alloc
     Ok(edges)
 }
 
-/// The links from a row, of links that stand by the rows from which they lead.
+/// The links from a row, out of links that are sorted by the rows from which they lead.
 pub(crate) fn links_from(links: &[Link], row: u16) -> &[Link]
     requires { IsNonDecreasingBy (λ link. link.from) links.now }
     ensures { AreLinksFrom links.now row result.now }

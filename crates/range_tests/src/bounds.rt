@@ -1,8 +1,8 @@
-// Linear bounds: values worked by hand.
+// Tests of linear bounds, worked by hand.
 
 ghost use Rattle.std.specs.Prelude.{◌≡◌, Option, Some, None, option_map};
 ghost use Rattle.std.proofs.Common.{rules, subst, sym};
-ghost use Rattle.intervals.specs.Range.{Interval, Within, full, intersection};
+ghost use Rattle.intervals.specs.Range.{RangeView, Within, full, intersection};
 ghost use Rattle.loop_bounds.specs.declared.variable.Variable.TheVariants.{A, B, C, Hl};
 ghost use Rattle.loop_bounds.specs.declared.variable.Variable.{Variable};
 
@@ -13,7 +13,7 @@ use loop_bounds::{
 };
 use std::process::Abort;
 
-/// The ranges of B, C and HL. The others are full.
+/// Ranges of B, C and HL; the others are full.
 #[derive(Drop)]
 struct Registers {
     b: WordRange,
@@ -22,7 +22,7 @@ struct Registers {
 }
 
 impl Ranges for Registers {
-    ghost range_of = { λ s v. elim v as (λ _. Interval) [ B ↦ s.b | C ↦ s.c | Hl ↦ s.hl | _ ↦ full 65536 ] };
+    ghost range_of = { λ s v. elim v as (λ _. RangeView) [ B ↦ s.b | C ↦ s.c | Hl ↦ s.hl | _ ↦ full 65536 ] };
 
     fn range(&self, variable: Variable) -> WordRange {
         match variable {
@@ -34,7 +34,7 @@ impl Ranges for Registers {
     }
 }
 
-/// A state of which it is known that all variables are equal, and the range that they lie in.
+/// A state in which all variables are known to be equal, with their range.
 #[derive(Drop)]
 struct Equal {
     range: WordRange,
@@ -96,7 +96,7 @@ fn linear(rt: &impl Abort, (constant, b, c, hl): Sum) -> Linear {
     sum
 }
 
-/// -1,000,000,000 - 1,000,000 * A + BC: the least constant, the least coefficient, and a second term
+/// -1,000,000,000 - 1,000,000 * A + BC: the least constant, the least coefficient, and a second term.
 fn great() -> Option<Linear> {
     let constant = Linear::of_constant(-1_000_000_000)?;
     let less = constant.with_term(times(-1_000_000, Variable::A))?;
@@ -118,7 +118,8 @@ fn is_great() -> bool {
     }
 }
 
-/// Whether these do not go with it: a variable that it has, one before that, a coefficient of 0, and one above the greatest.
+/// Whether these terms are refused: a variable that is there, one before it, a coefficient of 0, and one above the
+/// greatest.
 fn terms_are_checked() -> bool {
     great_with(times(1, Variable::Bc)).is_none()
         && great_with(times(1, Variable::L)).is_none()
@@ -133,7 +134,7 @@ fn linears_are_checked(rt: HostRuntime) {
     assert!(rt; terms_are_checked());
 }
 
-/// Whether slot 63's low byte is the last variable, and fits as a third term, behind which no fourth does.
+/// Whether the low byte of slot 63 is the last variable and fits as the third term, and a fourth term does not fit.
 fn last_variable_fits() -> Option<bool> {
     let last = times(1, Variable::Slot(SlotNumber::new(63)?, Part::Low));
     let whole = great_with(last)?;
@@ -174,7 +175,7 @@ fn change(left: Left) -> Change {
     }
 }
 
-/// What a step leaves in B, C and BC. It leaves the other variables as they are.
+/// What a step leaves in B, C and BC; the other variables are unchanged.
 type Lefts = (Left, Left, Left);
 
 const KEEPS: Lefts = (Left::OldB, Left::OldC, Left::OldBc);
@@ -188,7 +189,7 @@ fn effect((b, c, bc): Lefts) -> Effect {
     }
 }
 
-/// The least and the greatest of B, and of C. HL is FFFF.
+/// The bounds of B and of C. HL is FFFF.
 type Bounds = ((u16, u16), (u16, u16));
 
 fn known((b, c): Bounds) -> Registers {
@@ -199,7 +200,7 @@ fn known((b, c): Bounds) -> Registers {
     }
 }
 
-/// The sums before and after a step of so many T-states, what it leaves, what is known before and after it, and whether
+/// The potentials before and after a step, its T-states, what it leaves, the bounds before and after it, and whether
 /// the step is paid.
 type Step = (Sum, Sum, u32, Lefts, Bounds, Bounds, bool);
 
@@ -213,7 +214,7 @@ const LOOPING: Bounds = ((1, 8), (0, 65_535));
 
 const ANY: Bounds = ((0, 255), (0, 65_535));
 
-// LD B,8 of 7 T-states, and DJNZ to itself, of 13 or 8: the sums before it, at it and behind it.
+// LD B,8 of 7 T-states, and DJNZ to itself, of 13 or 8: the potentials before it, at it and after it.
 const BEFORE: Sum = (126, 0, 0, 0);
 
 const TURNS: Sum = (15, 13, 0, 0);
@@ -256,7 +257,7 @@ const DOWN: Sum = (1_000_000_000, 0, 0, -1_000_000);
 // B - C
 const APART: Sum = (0, 1, -1, 0);
 
-// Both become what A was.
+// B and C both become the old A.
 const MOVES: Lefts = (Left::OldA, Left::OldA, Left::OldBc);
 
 const GREAT_STEPS: &[Step] = &[
@@ -264,7 +265,7 @@ const GREAT_STEPS: &[Step] = &[
     (DOWN, ZERO, 0, KEEPS, BYTES, BYTES, false),
     (ZERO, DOWN, 0, KEEPS, BYTES, BYTES, true),
     (ZERO, UP, 0, KEEPS, BYTES, BYTES, false),
-    // B - C after a step that makes both of them what A was: the two merge to 0.
+    // B - C after both became the old A: the two merge to 0.
     (ZERO, APART, 0, MOVES, BYTES, BYTES, true),
     (ZERO, APART, 0, KEEPS, BYTES, BYTES, false),
 ];
@@ -285,10 +286,10 @@ const MINUS_SIX: Sum = (6, -1, 0, 0);
 
 const LOWERS: Lefts = (Left::LoweredB, Left::OldC, Left::OldBc);
 
-// What is known before a step where B is 5, and C 0 to 255.
+// Bounds before a step with B 5 and C from 0 to 255.
 const B_IS_FIVE: Bounds = ((5, 5), (0, 255));
 
-/// What a step leaves, what is known before it, a fact, and whether the fact holds behind the step by itself.
+/// What a step leaves, the bounds before it, a fact, and whether the fact holds after the step without another fact.
 const VANISHING: &[(Lefts, Bounds, Sum, bool)] = &[
     (
         (Left::Constant(5), Left::OldC, Left::OldBc),
@@ -305,7 +306,7 @@ const VANISHING: &[(Lefts, Bounds, Sum, bool)] = &[
     (UNKNOWN, BYTES, FIVE, false),
     (MOVES, BYTES, APART, true),
     (KEEPS, BYTES, APART, false),
-    // B is left as it was, and it was 5: the fact is 5 - 5. So is it where C becomes what B was, but not 5 - 6.
+    // B is unchanged and was 5, so the fact is 5 - 5. So it is if C becomes the old B; but not 5 - 6.
     (KEEPS, B_IS_FIVE, FIVE, true),
     (KEEPS, BYTES, FIVE, false),
     (KEEPS, B_IS_FIVE, SIX, false),
@@ -313,13 +314,13 @@ const VANISHING: &[(Lefts, Bounds, Sum, bool)] = &[
     (UNKNOWN, B_IS_FIVE, FIVE, false),
 ];
 
-// Both are what B was.
+// B and C both become the old B.
 const BOTH_B: Lefts = (Left::OldB, Left::OldB, Left::OldBc);
 
 // C - 5
 const C_IS_FIVE: Sum = (-5, 0, 1, 0);
 
-/// What a step leaves, what is known before it, a fact, another, and whether the first holds behind the step where the
+/// What a step leaves, the bounds before it, a fact, another fact, and whether the first holds after the step if the
 /// other held before.
 const BECOMING: &[(Lefts, Bounds, Sum, Sum, bool)] = &[
     (LOWERS, BYTES, FIVE, SIX, true),
@@ -334,7 +335,7 @@ const BECOMING: &[(Lefts, Bounds, Sum, Sum, bool)] = &[
         true,
     ),
     (UNKNOWN, BYTES, APART, APART, false),
-    // B - C where B is left 5 is 5 - C, which is the negation of C - 5, and no longer B - C.
+    // With B left at 5, B - C is 5 - C, the negation of C - 5, and no longer B - C.
     (KEEPS, B_IS_FIVE, APART, C_IS_FIVE, true),
     (KEEPS, B_IS_FIVE, APART, APART, false),
     (KEEPS, BYTES, APART, C_IS_FIVE, false),
@@ -353,7 +354,7 @@ fn facts_are_rewritten(rt: HostRuntime) {
     }
 }
 
-/// What tightening by a fact leaves of a state in which all variables are equal.
+/// The range after tightening by a fact, where all variables are equal.
 fn tightened(fact: &Linear, range: (u16, u16)) -> Option<(u16, u16)> {
     let mut state = Equal {
         range: words(range),
@@ -365,11 +366,11 @@ fn tightened(fact: &Linear, range: (u16, u16)) -> Option<(u16, u16)> {
     }
 }
 
-/// A fact, the range before it and the range that it leaves.
+/// A fact, the range before it, and the range that it leaves.
 const CUTS: &[(Sum, (u16, u16), Option<(u16, u16)>)] = &[
     ((-5, 1, 0, 0), (0, 10), Some((5, 5))),
     ((-5, 1, 0, 0), (6, 10), None),
-    // 3 * B = 10 has no whole solution: 10 / 3 is rounded up and down, inwards.
+    // 3 * B = 10 has no integer solution: 10 / 3 is rounded up and down, inwards.
     ((-10, 3, 0, 0), (0, 10), None),
     ((10, -5, 0, 0), (0, 10), Some((2, 2))),
     // 2 * B = C: B is at most half of 10, and then C, like all, at most 5.
@@ -379,10 +380,10 @@ const CUTS: &[(Sum, (u16, u16), Option<(u16, u16)>)] = &[
     // B + C - 30 = 0: B at least 20, so nothing above 10 is enough.
     ((-30, 1, 1, 0), (0, 10), None),
     ((-30, 1, 1, 0), (0, 20), Some((10, 20))),
-    // B + C + 1 = 0 has no natural solution; a fact without terms cuts nothing.
+    // B + C + 1 = 0 has no solution in natural numbers; a fact without terms cuts nothing.
     ((1, 1, 1, 0), (0, 65_535), None),
     ((5, 0, 0, 0), (7, 9), Some((7, 9))),
-    // B - C = 0 is no news of equal variables.
+    // B - C = 0 says nothing new about equal variables.
     ((0, 1, -1, 0), (7, 9), Some((7, 9))),
 ];
 
@@ -396,7 +397,7 @@ fn a_fact_cuts_its_variables(rt: HostRuntime) {
     }
 }
 
-/// The state keeps the cuts before the one that leaves nothing.
+/// The state keeps the cuts before the one that fails.
 #[test]
 fn what_a_refused_fact_leaves(rt: HostRuntime) {
     // 2 * B - C - 19 = 0: B from 19 / 2 to 29 / 2, inwards 10 to 14, which leaves 10 of 0 to 10; then C is 1.

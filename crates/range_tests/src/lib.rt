@@ -1,4 +1,4 @@
-// The tests of intervals, loop_bounds and stack_shape: values worked by hand.
+// The tests of intervals, loop_bounds and stack_shape, worked by hand.
 #![tactic(auto)]
 
 #[cfg(test)]

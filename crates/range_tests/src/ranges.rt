@@ -1,4 +1,4 @@
-// Ranges and pairs: values worked by hand from the window rule and the table of results.
+// Tests of ranges and pairs, worked by hand from the window rule and the table of results.
 
 use intervals::{ByteRange, Domain, Pair, RegPair, WordRange};
 
@@ -10,7 +10,7 @@ fn words(low: u16, high: u16) -> WordRange {
     WordRange::new(low, high).unwrap_or(WordRange::full())
 }
 
-/// An operation on a range of bytes.
+/// An operation on a byte range.
 #[derive(Clone, Copy)]
 enum ByteOp {
     Sum(u8, u8),
@@ -55,7 +55,7 @@ fn bytes_after(op: ByteOp, (low, high): (u8, u8)) -> ByteRange {
     }
 }
 
-/// A range of bytes, what is done with it, and the range of the results.
+/// A byte range, an operation, and the range of its results.
 const BYTE_SUMS: &[((u8, u8), ByteOp, (u8, u8))] = &[
     ((1, 3), ByteOp::Sum(10, 20), (11, 23)),
     ((200, 210), ByteOp::Sum(60, 70), (4, 24)),
@@ -83,7 +83,7 @@ fn sums_of_bytes(rt: HostRuntime) {
     }
 }
 
-/// A range of bytes, what is done with it, and the range of the results.
+/// A byte range, an operation, and the range of its results.
 const BYTE_LOGIC: &[((u8, u8), ByteOp, (u8, u8))] = &[
     ((12, 12), ByteOp::And(10, 10), (8, 8)),
     ((0, 255), ByteOp::And(7, 7), (0, 7)),
@@ -111,7 +111,7 @@ fn logic_of_bytes(rt: HostRuntime) {
     }
 }
 
-/// An operation on a range of words.
+/// An operation on a word range.
 #[derive(Clone, Copy)]
 enum WordOp {
     Sum(u16, u16),
@@ -134,7 +134,7 @@ fn words_after(op: WordOp, (low, high): (u16, u16)) -> WordRange {
     }
 }
 
-/// A range of words, what is done with it, and the range of the results.
+/// A word range, an operation, and the range of its results.
 const WORD_SUMS: &[((u16, u16), WordOp, (u16, u16))] = &[
     ((0x4000, 0x40ff), WordOp::Sum(1, 2), (0x4001, 0x4101)),
     ((0xffff, 0xffff), WordOp::Sum(1, 1), (0, 0)),
@@ -199,7 +199,7 @@ fn ranges(rt: HostRuntime) {
     assert!(rt; words_hold());
 }
 
-/// Whether a pair is that of these ranges.
+/// Whether a pair has these ranges.
 fn is_of(pair: Pair, word: WordRange, high: ByteRange, low: ByteRange) -> bool {
     pair.word == word && pair.high == high && pair.low == low
 }
@@ -226,7 +226,7 @@ fn made_pairs_hold() -> bool {
         )
 }
 
-/// Whether the pair B from 1 to 8 with any C, its high byte cut to this range, is of these words, or none.
+/// Cuts the high byte of the pair with B from 1 to 8 and any C; whether the result has these words, or is empty.
 fn counts_cut_to(high: ByteRange, left: Option<WordRange>) -> bool {
     let loop_count = Pair::of_origin(RegPair::Bc).with_high(bytes(1, 8));
     match (loop_count.cut_high(high), left) {
@@ -261,8 +261,8 @@ fn pairs(rt: HostRuntime) {
     assert!(rt; not_zero_holds());
 }
 
-/// Whether the normal form of a pair of the words from 0105 on, the high byte 1 and the low bytes up to 09 has the words from
-/// 0105 to 0109 and the low bytes from this cut on.
+/// Whether the normal form of the pair with the words from 0105 to `last`, the high byte 01 and the low byte from
+/// `least` to 09 has the words from 0105 to 0109 and the low byte from `cut` to 09.
 fn becomes(last: u16, least: u8, cut: u8) -> bool {
     let pair = Pair {
         word: words(0x0105, last),
@@ -278,7 +278,8 @@ fn becomes(last: u16, least: u8, cut: u8) -> bool {
 
 #[test]
 fn the_three_cuts_are_made_once(rt: HostRuntime) {
-    // Only after the word was cut to 0105-0109 have its ends one high byte, so the low byte keeps 03 to 09 at first.
+    // The ends of the word have one high byte only after the word was cut to 0105 to 0109, so the low byte keeps 03 to
+    // 09 at first.
     assert!(rt; becomes(0x02ff, 3, 3));
     assert!(rt; becomes(0x0109, 3, 5));
 }

@@ -1,13 +1,13 @@
-// Shapes of the stack: worked by hand.
+// Tests of shapes of the stack, worked by hand.
 use intervals::{ByteRange, Pair, RegPair, WordRange};
 use stack_shape::{SLOTS, Shape, ShapeFault, Slot};
 
 /// What is known of a slot.
 #[derive(Clone, Copy)]
 enum Known {
-    /// A range of words, from the least to the greatest.
+    /// A range of words.
     Words(u16, u16),
-    /// What a pair was at the entry.
+    /// A pair's value at the entry.
     Saved(RegPair),
     Nothing,
 }
@@ -31,7 +31,7 @@ fn shape_of(slots: &[Known]) -> Shape {
     shape
 }
 
-/// A shape of 64 slots, of the words from 0 on, and whether each of them fitted.
+/// A shape of 64 slots with the words from 0 on, and whether each push fitted.
 fn filled() -> (Shape, bool) {
     let mut shape = Shape::empty();
     let mut fits = true;
@@ -59,7 +59,7 @@ fn sixty_four_slots_and_no_more(rt: HostRuntime) {
     assert!(rt; sixty_four_slots_fit());
 }
 
-/// What is done with a shape.
+/// An operation on a shape.
 #[derive(Clone, Copy)]
 enum Op {
     Push(Known),
@@ -68,7 +68,7 @@ enum Op {
     Replace(usize, Known),
 }
 
-/// The slot that is taken out; None where there is none.
+/// The slot that the operation returns, or None.
 fn taken(shape: &mut Shape, op: Op) -> Option<Slot> {
     match op {
         Op::Push(known) => {
@@ -81,7 +81,7 @@ fn taken(shape: &mut Shape, op: Op) -> Option<Slot> {
     }
 }
 
-/// The slots before, what is done, the slot that is taken out, and the slots after it.
+/// The slots before, the operation, the slot that it returns, and the slots after it.
 type Change = (&'static [Known], Op, Option<Known>, &'static [Known]);
 
 const CHANGES: &[Change] = &[
@@ -97,7 +97,7 @@ const CHANGES: &[Change] = &[
         None,
         &[Words(1, 1), Words(2, 3)],
     ),
-    // What is pushed last is popped first
+    // The slot pushed last is popped first.
     (
         &[
             Saved(RegPair::Af),
@@ -121,7 +121,7 @@ const CHANGES: &[Change] = &[
         &[],
     ),
     (&[], Op::Pop, None, &[]),
-    // The top is exchanged, if there is one
+    // The top is exchanged, if there is one.
     (
         &[Words(1, 1), Words(2, 2)],
         Op::Exchange(Saved(RegPair::Hl)),
@@ -129,7 +129,7 @@ const CHANGES: &[Change] = &[
         &[Words(1, 1), Saved(RegPair::Hl)],
     ),
     (&[], Op::Exchange(Saved(RegPair::Hl)), None, &[]),
-    // Slots count from 0, which was pushed first
+    // Slots count from 0, the one pushed first.
     (
         &[Words(1, 1), Words(2, 2), Words(3, 3)],
         Op::Replace(1, Saved(RegPair::Hl)),
@@ -187,7 +187,7 @@ const PAIRINGS: &[Pairing] = &[
         false,
         true,
     ),
-    // The same ranges in the other order
+    // The same ranges in the other order.
     (
         &[Words(0x4000, 0x40ff), Words(0, 10)],
         &[Words(5, 5), Words(0x4010, 0x4020)],
@@ -210,11 +210,11 @@ const PAIRINGS: &[Pairing] = &[
         false,
         true,
     ),
-    // Lengths that differ
+    // Different lengths.
     (&[Nothing], &[Nothing, Nothing], false, false, false),
     (&[], &[Nothing], false, false, false),
     (&[], &[], true, true, true),
-    // One word shared, and none in the second slot
+    // One word shared, and none in the second slot.
     (
         &[Words(0x4000, 0x40ff), Words(0, 10)],
         &[Words(0x40ff, 0x4100), Saved(RegPair::Hl)],

@@ -1,4 +1,4 @@
-// Certificates of version 2: cells that keep a range of bytes, and the raised board.
+// Certificates of version 2: kept cells, and the raised board.
 
 use command_samples::{TABLE, rows_text, run_whole, verify_whole, with_routine};
 use std::test::Fail;
@@ -9,7 +9,7 @@ const KEPT: &[u8] = &[
     0x18, 0xF6,
 ];
 
-/// The cell 4000 keeps 50 to 53, so HL points to video RAM.
+/// Cell 4000 keeps 50 to 53, so HL points into video RAM.
 const KEPT_CERTIFICATE: &str = rows_text!(
     2, "rom 18\nmap galaxian\nstack 4380 4400\nbudget -\nproc main 0000 0 0 -\ncell 4000 50 53";
     "0000 u 0" "* * * *" "- - - -",
@@ -25,7 +25,8 @@ const KEPT_CERTIFICATE: &str = rows_text!(
 /// LD SP,4400H; LD A,1; LD (4000H),A; LD (7001H),A; JR -2
 const ARM: &[u8] = b"\x31\x00\x44\x3E\x01\x32\x00\x40\x32\x01\x70\x18\xFE";
 
-/// A certificate of ARM, whose routine is PUSH AF; LD A,n; LD (4000H),A; POP AF; RETN, 11 + 11 + 7 + 13 + 10 + 14 T-states.
+/// A certificate of `ARM`. Its routine is PUSH AF; LD A,n; LD (4000H),A; POP AF; RETN: 11 + 11 + 7 + 13 + 10 + 14
+/// T-states.
 macro_rules! arm_text {
     ($af:literal) => {
         rows_text!(
@@ -44,7 +45,7 @@ macro_rules! arm_text {
     };
 }
 
-/// Main code, a routine, a certificate of the two, and the status and the text of `verify`.
+/// Main code, a routine, a certificate of both, and the status and output of `verify`.
 const WITH_ROUTINE: &[(&[u8], &[u8], &str, u8, &str)] = &[
     (
         ARM,
@@ -97,10 +98,10 @@ fn routines_of_version_two(rt: HostRuntime) -> Result<(), Fail> {
     Ok(())
 }
 
-/// A ROM, its certificate, and the status and the text of `verify`.
+/// A ROM, its certificate, and the status and output of `verify`.
 const VERDICTS: &[(&[u8], &str, u8, &str)] = &[
     (KEPT, KEPT_CERTIFICATE, 0, TABLE),
-    // No cell, and one that 50 lies not in: HL may point anywhere
+    // No cell, and a cell whose range does not hold 50: HL can point anywhere
     (
         KEPT,
         rows_text!(
@@ -133,7 +134,7 @@ const VERDICTS: &[(&[u8], &str, u8, &str)] = &[
         1,
         "refused 000E 6 WriteRom\n",
     ),
-    // A cell that keeps 48 to 53: no RAM is at 4800
+    // A cell that keeps 48 to 53: 4800 is unmapped
     (
         KEPT,
         rows_text!(
@@ -150,7 +151,7 @@ const VERDICTS: &[(&[u8], &str, u8, &str)] = &[
         1,
         "refused 000E 7 WriteUnmapped\n",
     ),
-    // LD A,60H; LD (4400H),A; JR -15 in place of JR -10: 4400 is the cell 4000 too
+    // LD A,60H; LD (4400H),A; JR -15 in place of JR -10: 4400 is a mirror of cell 4000
     (
         b"\x31\x00\x44\x3E\x50\x32\x00\x40\x3A\x00\x40\x67\x2E\x00\x36\x01\x3E\x60\x32\x00\x44\x18\xF1",
         rows_text!(
@@ -169,7 +170,7 @@ const VERDICTS: &[(&[u8], &str, u8, &str)] = &[
         1,
         "refused 0012 21 CellRange\n",
     ),
-    // LD SP,4400H; JP 0003H, and a cell in the region; and on the raised board
+    // LD SP,4400H; JP 0003H, with a cell inside the region; and with the same region on the raised board
     (
         b"\x31\x00\x44\xC3\x03\x00",
         rows_text!(
@@ -190,7 +191,7 @@ const VERDICTS: &[(&[u8], &str, u8, &str)] = &[
         1,
         "refused 0000 2 Region\n",
     ),
-    // LD SP,8400H; LD A,1; LD (7001H),A; JR -2: nothing listens at 7001; and the same with LD SP,4400H
+    // LD SP,8400H; LD A,1; LD (7001H),A; JR -2: 7001 is unmapped; and the same with LD SP,4400H
     (
         b"\x31\x00\x84\x3E\x01\x32\x01\x70\x18\xFE",
         rows_text!(

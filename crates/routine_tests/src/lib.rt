@@ -1,4 +1,4 @@
-// The tests of NMI routines and their times, of kept cells, and of runs in which an NMI comes, by the commands over devices in memory.
+// Tests of NMI routines and their times, of kept cells, and of runs with an NMI, by the commands on devices in memory.
 #![tactic(auto)]
 
 #[cfg(test)]

@@ -1,4 +1,4 @@
-// Runs with NMIs: the lines of their routines, and devices that fail amid them.
+// Runs with NMIs: the lines of their routines, and devices that fail during them.
 
 use crate::routines::{
     CALLING, CALLING_CERTIFICATE, FILL, FILL_CERTIFICATE, HALTED, HALTED_CERTIFICATE, REARM,
@@ -9,17 +9,17 @@ use memory_devices::{Bytes, Taken};
 use std::alloc::Global;
 use std::test::Fail;
 
-/// Seven events of TOGGLE, of which the last two are an acceptance and its end; 37 bytes.
+/// Seven events of `TOGGLE`, in 37 bytes. The last two are an NMI acceptance and the routine's end.
 const SEVEN: &str = "reset 50650 00\n7 00 00 00 00 00 00 1\n";
 
-/// What `run` prints of them; 86 bytes.
+/// What `run` prints for them, in 86 bytes.
 const SEVEN_TEXT: &str = "nmi 5 000C\nend 6 25\ndone 7 72 000C 4400\n\
     regs 0044 0000 0000 0000 0000 0000\nsum 12 0 0\n";
 
-/// Main code, a routine, a certificate of the two, an input, its number of events, and the status and the text of `run`.
+/// Main code, a routine, a certificate of both, an input, its number of events, and the status and output of `run`.
 const RUNS: &[(&[u8], &[u8], &str, &str, u32, u8, &str)] = &[
     (TOGGLE, RETURN, TOGGLE_CERTIFICATE, SEVEN, 7, 0, SEVEN_TEXT),
-    // The blank finds the NMI disabled
+    // The NMI is disabled at the vertical blank
     (
         TOGGLE,
         RETURN,
@@ -29,7 +29,7 @@ const RUNS: &[(&[u8], &[u8], &str, &str, u32, u8, &str)] = &[
         0,
         "done 7 71 000C 4400\nregs 0044 0000 0000 0000 0000 0000\nsum 0 0 0\n",
     ),
-    // The lines of the routine come before a bad line
+    // The lines of the routine come before the report of a bad line
     (
         TOGGLE,
         RETURN,
@@ -61,7 +61,7 @@ const RUNS: &[(&[u8], &[u8], &str, &str, u32, u8, &str)] = &[
         "nmi 5 0009\nend 12 80\ndone 15 134 0009 4400\n\
          regs 0100 0000 0000 0000 0000 0000\nsum 10 0 0\n",
     ),
-    // Between a call and its callee's first instruction
+    // Between a call and the callee's first instruction
     (
         CALLING,
         REARM,
@@ -84,7 +84,7 @@ fn routines_are_told(rt: HostRuntime) -> Result<(), Fail> {
     Ok(())
 }
 
-/// Seven events of TOGGLE, with an input and an output of one byte a call, each of which fails behind so many calls.
+/// Seven events of `TOGGLE`. Input and output handle one byte a call, and fail after this many calls.
 fn seven(alloc: Global, rom: &[u8], reads: u64, writes: u64) -> Outcome {
     run(
         alloc,
@@ -96,7 +96,7 @@ fn seven(alloc: Global, rom: &[u8], reads: u64, writes: u64) -> Outcome {
     )
 }
 
-/// What was written before the output failed stays, byte by byte; before the input's last byte nothing is written.
+/// The bytes written before the output failed stay. Nothing is written before the input's last byte is read.
 #[test]
 fn devices_fail_amid_a_run(rt: HostRuntime) -> Result<(), Fail> {
     let alloc = rt.alloc();

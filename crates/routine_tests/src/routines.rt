@@ -1,4 +1,4 @@
-// NMI routines, whose NMI may come at any instruction.
+// NMI routines. Their NMI can come at any instruction.
 
 use command_samples::{is_refused, rows_text, verify_whole, with_routine};
 use std::test::Fail;
@@ -12,8 +12,8 @@ pub const REARM: &[u8] = b"\xF5\xAF\x32\x01\x70\x3C\x32\x01\x70\xF1\xED\x45";
 /// PUSH BC; LD B,8; DJNZ -2; POP BC; RET
 const COUNT: &[u8] = b"\xC5\x06\x08\x10\xFE\xC1\xC9";
 
-/// The text of a certificate with these lines ahead of its rows, the rows of ENABLE, further rows of main, and rows of the routine; in
-/// front of each row stand its place, what is known of AF, BC, DE and HL, and the last four fields.
+/// The text of a certificate with the rows of `ENABLE`. It takes the lines before the rows, further rows of main, and
+/// rows of the routine. Each row has its place, its ranges of AF, BC, DE and HL, and its last four fields.
 macro_rules! enable_text {
     ($head:literal; $($main:literal $pairs:literal $rest:literal),*; $($row:literal $own:literal $last:literal),*) => {
         rows_text!(
@@ -28,7 +28,8 @@ macro_rules! enable_text {
     };
 }
 
-/// The same with REARM as the routine: 11 + 11 + 4 + 13 + 4 + 13 + 10 + 14 T-states. Rows of further procedures stand behind it.
+/// The same with the rows of `REARM` as the routine: 11 + 11 + 4 + 13 + 4 + 13 + 10 + 14 T-states. Rows of further
+/// procedures follow.
 macro_rules! rearm_text {
     ($head:literal; $($main:literal $pairs:literal $rest:literal),*; $($row:literal $own:literal $last:literal),*) => {
         enable_text!(
@@ -60,7 +61,7 @@ const COUNT_CERTIFICATE: &str = enable_text!(
     "1 006C n" "*@AF *@BC *@DE *@HL" "- - - 10"
 );
 
-/// What `verify` prints of REARM, with main's depth 0 in 128 bytes.
+/// What `verify` prints for `REARM`, with main's depth 0 and a stack of 128 bytes.
 const REARM_TABLE: &str =
     "accepted\nmain 0000 depth     0 time      -\nnmi  0066 depth     4 time     80\n\
     stack 4 of 128\nnmi 80 of 50665\n";
@@ -99,8 +100,8 @@ pub const HALTED_CERTIFICATE: &str = rearm_text!(
     "0009 n" "0100-01FF:01-01:00-FF * * *" "- - - -";
 );
 
-/// LD SP,4400H; LD A,1; LD (7001H),A; CALL 000DH; JR -5; RET. All of the region is used, by an NMI between the call and its
-/// callee's first instruction
+/// LD SP,4400H; LD A,1; LD (7001H),A; CALL 000DH; JR -5; RET. An NMI between the call and the callee's first
+/// instruction uses the whole region
 pub const CALLING: &[u8] = b"\x31\x00\x44\x3E\x01\x32\x01\x70\xCD\x0D\x00\x18\xFB\xC9";
 
 pub const CALLING_CERTIFICATE: &str = rearm_text!(
@@ -109,7 +110,7 @@ pub const CALLING_CERTIFICATE: &str = rearm_text!(
     "2 000D n" "0100-01FF:01-01:00-FF@AF *@BC *@DE *@HL" "- - - -"
 );
 
-/// Main code, a routine, a certificate of the two, and the table.
+/// Main code, a routine, a certificate of both, and the table.
 const TABLES: &[(&[u8], &[u8], &str, &str)] = &[
     (ENABLE, REARM, REARM_CERTIFICATE, REARM_TABLE),
     (
@@ -119,7 +120,7 @@ const TABLES: &[(&[u8], &[u8], &str, &str)] = &[
         "accepted\nmain 0000 depth     0 time      -\nnmi  0066 depth     4 time    148\n\
          stack 4 of 128\nnmi 148 of 50665\n",
     ),
-    // LD B,0 turns 256 times: 11 + 11 + 7 + 255 * 13 + 8 + 10 + 10 T-states
+    // LD B,0 makes 256 turns: 11 + 11 + 7 + 255 * 13 + 8 + 10 + 10 T-states
     (
         ENABLE,
         b"\xC5\x06\x00\x10\xFE\xC1\xC9",
@@ -165,9 +166,9 @@ fn routines_are_accepted(rt: HostRuntime) -> Result<(), Fail> {
     Ok(())
 }
 
-/// Main code, a routine, a certificate of the two, and the refusal.
+/// Main code, a routine, a certificate of both, and the refusal.
 const REFUSALS: &[(&[u8], &[u8], &str, &str)] = &[
-    // XOR A; LD (7001H),A; RETN: AF is not given back
+    // XOR A; LD (7001H),A; RETN: AF is not restored
     (
         ENABLE,
         b"\xAF\x32\x01\x70\xED\x45",
@@ -215,7 +216,7 @@ const REFUSALS: &[(&[u8], &[u8], &str, &str)] = &[
         ),
         "refused 0066 19 HaltInNmi\n",
     ),
-    // LD A,1; LD (7001H),A; LD SP,4400H; JR -2: an NMI may come before SP is set
+    // LD A,1; LD (7001H),A; LD SP,4400H; JR -2: an NMI can come before SP is set
     (
         b"\x3E\x01\x32\x01\x70\x31\x00\x44\x18\xFE",
         RETURN,
@@ -229,15 +230,15 @@ const REFUSALS: &[(&[u8], &[u8], &str, &str)] = &[
         ),
         "refused 0002 15 NmiBeforeStack\n",
     ),
-    // There is a routine, and the certificate has none
+    // The ROM has a routine, and the certificate has none
     (
         ENABLE,
         REARM,
         enable_text!("rom 114\nstack 4380 4400\nbudget -\nproc main 0000 0 0 -"; ;),
         "refused 0005 16 NmiMissing\n",
     ),
-    // PUSH AF; PUSH BC; LD A,(6000H); LD B,A; DJNZ -2; POP BC; POP AF; RETN: what B is decides which of two rows at 006C comes next, and
-    // a row that does not cover the whole state is paid for, too
+    // PUSH AF; PUSH BC; LD A,(6000H); LD B,A; DJNZ -2; POP BC; POP AF; RETN: the value of B selects one of two rows at
+    // 006C. The row before has to pay for a row that covers only a part of the state, too
     (
         ENABLE,
         b"\xF5\xC5\x3A\x00\x60\x47\x10\xFE\xC1\xF1\xED\x45",
@@ -255,7 +256,7 @@ const REFUSALS: &[(&[u8], &[u8], &str, &str)] = &[
         ),
         "refused 006B 17 Time\n",
     ),
-    // One byte less of stack than main, its callee's word and the routine need
+    // The region is one byte smaller than main, the callee's return address and the routine need
     (
         CALLING,
         REARM,
@@ -280,7 +281,7 @@ fn routines_are_refused(rt: HostRuntime) -> Result<(), Fail> {
     Ok(())
 }
 
-/// A part of COUNT's certificate, another in its place, and the refusal.
+/// A part of the text of `COUNT_CERTIFICATE`, its replacement, and the refusal.
 const COUNT_CHANGES: &[(&str, &str, &str)] = &[
     ("rom 109\n", "rom 110\n", "refused 0000 1 Rom\n"),
     ("4400\n", "43FF\n", "refused 0000 20 SpWrite\n"),

@@ -1,4 +1,4 @@
-// Potentials: the T-states that a procedure takes at most.
+// Potentials: upper bounds on the T-states that a procedure takes.
 
 use command_samples::{SAVE, is_refused, rows_text, verify_whole};
 use std::test::Fail;
@@ -15,7 +15,7 @@ const SAVE_CERTIFICATE: &str = rows_text!(
     "1 000C s" "*@AF *@BC *@DE *@HL" "- - - 10"
 );
 
-/// The same with LD B,8; DJNZ -2; RET, and with LD B,0.
+/// The same with LD B,8; DJNZ -2; RET. `COUNT_ALL` has LD B,0.
 const COUNT: &[u8] = &[
     0x31, 0x00, 0x44, 0xCD, 0x08, 0x00, 0x18, 0xFE, 0x06, 0x08, 0x10, 0xFE, 0xC9,
 ];
@@ -35,7 +35,7 @@ const COUNT_CERTIFICATE: &str = rows_text!(
     "1 000C s" "*@AF 0000-00FF:00-00:00-FF *@DE *@HL" "- - - 10"
 );
 
-/// 7 + 255 * 13 + 8 + 10 T-states: B = 0 turns 256 times.
+/// 7 + 255 * 13 + 8 + 10 T-states: B = 0 makes 256 turns.
 const COUNT_ALL_CERTIFICATE: &str = rows_text!(
     1, "rom 13\nstack 4380 4400\nbudget -\nproc main 0000 1 2 -\nproc sub 0008 0 2 3340\nsplit 1 000A B";
     "0000 u" "* * * *" "- - - -",
@@ -47,7 +47,7 @@ const COUNT_ALL_CERTIFICATE: &str = rows_text!(
     "1 000C s" "*@AF 0000-00FF:00-00:00-FF *@DE *@HL" "- - - 10"
 );
 
-/// A ROM, its certificate, and its table.
+/// A ROM, its certificate, and the table.
 const TABLES: &[(&[u8], &str, &str)] = &[
     (
         SAVE,
@@ -76,7 +76,7 @@ fn times_are_told(rt: HostRuntime) {
     }
 }
 
-/// A ROM, its certificate, a part of its text, another in its place, and the refusal.
+/// A ROM, its certificate, a part of its text, the replacement, and the refusal.
 const CHANGES: &[(&[u8], &str, &str, &str, &str)] = &[
     (
         SAVE,

@@ -1,4 +1,4 @@
--- One text written behind another.
+-- One text written after another.
 use Rattle.std.proofs.Common.{ℕ, List, [], ◌++◌, Option, Some, None, Result, Ok, Err, refl, sym, ap, subst, ◌∙◌, append_assoc}
 use Rattle.std.proofs.lemmas.List.{append-nil}
 use Rattle.texts.specs.Device.{DeviceState, FailsAmid, HasGrown, Puts, Takes, TakesBytes, TakesPart}
@@ -8,7 +8,7 @@ taken_none : (a : Option (List ℕ)) → TakesBytes a [] a
 taken_none None = tt
 taken_none (Some old) = ap (λ (bytes : List ℕ). Some bytes) (sym (append-nil old))
 
--- where nothing is written, nothing is taken
+-- if nothing is written, nothing is taken
 pub takes_none : (a : DeviceState) → Takes a [] a
 takes_none a = record { taken = taken_none a.bytes; quiet = refl }
 
@@ -18,7 +18,7 @@ part_behind (Some old) b c xs ys p q =
     let (part, rest, is, parts) = subst (λ (o : Option (List ℕ)). TakesPart o ys c) p q in
     (xs ++ part, rest, is ∙ ap (λ (bytes : List ℕ). Some bytes) (append_assoc old xs part), ap (λ (bytes : List ℕ). xs ++ bytes) parts ∙ sym (append_assoc xs part rest))
 
--- a text that was written, and one behind it that was or amid which the sink failed
+-- a text was written, and one after it was, or the sink failed inside it
 pub fails_behind : (a b c : DeviceState) (xs ys : List ℕ) → Takes a xs b → FailsAmid b ys c → FailsAmid a (xs ++ ys) c
 fails_behind a b c xs ys p q = record { part = part_behind a.bytes b.bytes c.bytes xs ys p.taken q.part; failed = subst (λ (n : ℕ). HasGrown n c.failures) p.quiet q.failed }
 

@@ -1,31 +1,29 @@
--- One event more.
+-- One more event.
 use Rattle.std.proofs.Common.{Result, Ok, ◌≡◌, ◌≢◌, ◌<◌, ◌+◌, ◌-◌, inl, inr, ℕ, suc, Bool, true, false, List, drop, [], ◌∷◌, ◌++◌, length, length-append, slice_get, Option, Some, None, refl, sym, ap, subst, ◌∙◌, arith, is_some}
-use Rattle.std.proofs.lemmas.Bool.{cases_eq, cases_lt}
+use Rattle.std.proofs.lemmas.Bool.{cases_eq, cases_lt, false≢true}
 use Rattle.board_step.specs.Context.{context_of}
 use Rattle.board_step.specs.Hardware.{Hardware}
 use Rattle.board_step.specs.Kind.{kind_of}
-use Rattle.known_instrs.specs.Known.{IsKnownAt}
-use Rattle.known_instrs.specs.declared.known.Known.{Known}
-use Rattle.rom_fetch.proofs.DecodedLemmas.{decoded_once}
+use Rattle.z80_actions.specs.Known.{IsKnownAt}
+use Rattle.z80_actions.specs.declared.known.Known.{Known}
+use Rattle.board_fetch.proofs.DecodedLemmas.{decoded_once}
 use Rattle.t_states.specs.Costs.{cost_of}
-use Rattle.std.proofs.lemmas.Bool.{false≢true}
 use Rattle.z80_decode.specs.declared.fault.DecodeFault.{DecodeFault}
 use Rattle.z80_actions.specs.Action.{instr_of}
 use Rattle.z80_decode.specs.declared.instr.Instr.{Instr}
 use Rattle.z80_decode.specs.declared.instr.Instr.TheVariants.{Return, ReturnIf, ReturnFromInterrupt, ReturnFromNonMaskable}
 use Rattle.board_step.specs.Run.{AcceptsAt, EndsAt, ReturnsTo, Run, spent, time_before}
-use Rattle.known_instrs.specs.Returns.{is_return}
-use Rattle.board_step.specs.State.{State}
+use Rattle.z80_actions.specs.Returns.{is_return}
+use Rattle.board_step.specs.State.{BoardView}
 use Rattle.board_step.specs.Step.{Step, instr_draft, t_of}
 use Rattle.board_step.specs.declared.env.Env.{Env}
 use Rattle.board_step.specs.declared.event.Event.{Event}
 use Rattle.board_step.specs.declared.event.Kind.{Kind}
 use Rattle.board_step.specs.declared.event.Kind.TheVariants as kinds
 use Rattle.board_step.proofs.SingleLemmas.{one_event, one_state}
-use Rattle.run_lines.specs.Follows.{AllReturned, Follows, HasTold, IsOpen, Knows, Passes, SaysReturned, Stands, begins, ends, goes_on, line_of_note, stays}
-use Rattle.run_lines.specs.Lines.{end_line}
-use Rattle.run_lines.specs.Told.{NeverNests, Tells, TellsUpTo}
-use Rattle.run_lines.specs.Told.{begins as tells_begin, ends as tells_end, nothing}
+use Rattle.run_lines.specs.Follows.{AllReturned, Follows, HasTold, IsOpen, Knows, RunsFrom, SaysReturned, StandsAfter, begins, ends, goes_on, line_of_note, stays}
+use Rattle.run_lines.specs.Lines.{return_line}
+use Rattle.run_lines.specs.Told.{NeverNests, Tells, TellsUpTo, begins as tells_begin, ends as tells_end, nothing}
 use Rattle.std.proofs.lemmas.Option.{slice_get-get_or, slice_get_within, get_or_from_slice_get}
 use Rattle.std.proofs.Math.Seq.{get_or-append_seam}
 use Rattle.std.proofs.lemmas.List.{get_or_append_left}
@@ -42,7 +40,7 @@ clash k p q = cc
 same_instr : (i j : Instr) → (let r : Result Instr DecodeFault = Ok i in r) ≡ Ok j → i ≡ j
 same_instr i j e = cc
 
-pub says_some : (hardware : Hardware) (s new : State) (env : Env) (event : Event) (known : Known) (returned : Bool) → kind_of s ≡ kinds.Instr → IsKnownAt hardware.rom s.regs.pc known → Step hardware s env event new →
+pub says_some : (hardware : Hardware) (s new : BoardView) (env : Env) (event : Event) (known : Known) (returned : Bool) → kind_of s ≡ kinds.Instr → IsKnownAt hardware.rom s.regs.pc known → Step hardware s env event new →
     ((rom : List ℕ) (at : ℕ) (taken : Bool) → IsKnownAt rom at known → event.t ≡ cost_of (instr_of known.action) taken → returned ≡ is_return (instr_of known.action) taken) → SaysReturned hardware s env returned
 says_some hardware s new env event known returned kind is step told =
     let c = context_of hardware s env in
@@ -55,11 +53,11 @@ says_some hardware s new env event known returned kind is step told =
       none = λ on. kind;
     }
 
-pub says_none : (hardware : Hardware) (s : State) (env : Env) → (kind_of s ≡ kinds.Instr → ⊥) → SaysReturned hardware s env false
+pub says_none : (hardware : Hardware) (s : BoardView) (env : Env) → (kind_of s ≡ kinds.Instr → ⊥) → SaysReturned hardware s env false
 says_none hardware s env none = record { is = λ kind instr stands. absurd (none kind); none = λ on. absurd (false≢true on) }
 
--- what stands at the program counter says whether the event returns
-pub says_known : (hardware : Hardware) (s : State) (env : Env) (known : Known) → kind_of s ≡ kinds.Instr → IsKnownAt hardware.rom s.regs.pc known →
+-- the instruction at the program counter decides whether the event returns
+pub says_known : (hardware : Hardware) (s : BoardView) (env : Env) (known : Known) → kind_of s ≡ kinds.Instr → IsKnownAt hardware.rom s.regs.pc known →
     SaysReturned hardware s env (is_return (instr_of known.action) (instr_draft (context_of hardware s env) (instr_of known.action)).taken)
 says_known hardware s env known kind is =
     let c = context_of hardware s env in
@@ -78,7 +76,7 @@ returns_never ReturnFromInterrupt taken e = e
 returns_never ReturnFromNonMaskable taken e = e
 returns_never _ taken e = e
 
--- nothing is told of an instruction where no routine runs, or where it does not return
+-- an instruction is not reported if no routine runs or if it does not return
 pub follows_quietly : (running : Option Moment) (kind : Kind) (before after : Moment) (returned : Bool) → kind ≢ kinds.Accept → (is_some running ≡ true → returned ≡ false) →
     Follows running kind before after returned notes.Nothing running
 follows_quietly (Some began) kind before after returned other none = goes_on began other refl (λ on. absurd (false≢true (sym (none refl) ∙ on))) refl refl
@@ -147,7 +145,7 @@ module _ (hardware : Hardware) (run : Run hardware) (never : NeverNests run) (n 
           | inr more ↦ let here : from ≡ n = omega arith in absurd (kind (subst (λ (k : ℕ). (run.event_at k).kind ≡ kinds.Accept) here a.accepts))
         ]
 
-    -- or runs on, and no other ends here
+    -- or it runs on, and no other ends here
     no_return : (returned ≡ true → after.sp ≢ began.sp) → ReturnsTo run o.from n → ⊥
     no_return not r = not (returned_by o.from r) (after_sp ∙ r.sp ∙ sym o.sp)
 
@@ -191,7 +189,7 @@ module _ (hardware : Hardware) (run : Run hardware) (never : NeverNests run) (n 
     time = before_time;
   }
 
-  -- what is told of an event, and what is known behind it
+  -- the report of an event, and what is known after it
   pub followed : (running next : Option Moment) (note : Note) → Knows run n running → Follows running (run.event_at n).kind before after returned note next →
       Tells run n (line_of_note n (run.state_at n).regs.pc note) × Knows run (suc n) next
   followed running next note knows (begins kind told is) =
@@ -201,7 +199,7 @@ module _ (hardware : Hardware) (run : Run hardware) (never : NeverNests run) (n 
       let o : IsOpen run n began = subst (Knows run n) was knows in
       let e = ended began o kind on sp in
       let time : after.time - began.time ≡ spent run o.from n = ap (λ (t : ℕ). t - began.time) after_time ∙ ap (λ (t : ℕ). time_before run (suc n) - t) o.time in
-      (tells_end o.from e.0 (ap (line_of_note n (run.state_at n).regs.pc) told ∙ ap (end_line n) time), subst (Knows run (suc n)) (sym is) e.1)
+      (tells_end o.from e.0 (ap (line_of_note n (run.state_at n).regs.pc) told ∙ ap (return_line n) time), subst (Knows run (suc n)) (sym is) e.1)
   followed running next note knows (goes_on began kind was not told is) =
       let o : IsOpen run n began = subst (Knows run n) was knows in
       (nothing (λ a. kind a.accepts) (none_ends began o not) (ap (line_of_note n (run.state_at n).regs.pc) told), subst (Knows run (suc n)) (sym (is ∙ was)) (runs_on began o not))
@@ -209,7 +207,7 @@ module _ (hardware : Hardware) (run : Run hardware) (never : NeverNests run) (n 
       let all : AllReturned run n = subst (Knows run n) was knows in
       (nothing (λ a. kind a.accepts) (none_ends_here all) (ap (line_of_note n (run.state_at n).regs.pc) told), subst (Knows run (suc n)) (sym (is ∙ was)) (all_returned kind all))
 
--- ---- all runs that begin alike
+-- ---- all runs that begin the same way
 
 got : {X : Type 0} (xs : List X) (x y : X) (i : ℕ) → slice_get xs i ≡ Some y → slice_get (xs ++ x ∷ []) i ≡ Some y
 got {X = X} xs x y i h =
@@ -223,19 +221,19 @@ got_last {X = X} xs x =
     slice_get-get_or (xs ++ x ∷ []) (length xs) x more ∙ ap (λ (z : X). Some z) (get_or-append_seam xs x [] x)
 
 -- at the beginning
-pub told_none : (hardware : Hardware) (start : State) → HasTold hardware start [] [] start (record { events = 0; time = 0; running = None })
+pub told_none : (hardware : Hardware) (start : BoardView) → HasTold hardware start [] [] start (record { events = 0; time = 0; running = None })
 unfolding TellsUpTo
 told_none hardware start = record { on = λ run p. record { state = p.starts; told = refl; knows = record { each = λ from earlier a. absurd (omega arith) }; time = refl; events = refl } }
 
--- one event more
-pub told_more : (hardware : Hardware) (start : State) → ((run : Run hardware) → run.state_at 0 ≡ start → NeverNests run) → (envs : List Env) (text : List ℕ) (s new : State) (env : Env) (event : Event) (teller next : Teller) (note : Note) (returned : Bool) →
+-- one more event
+pub told_more : (hardware : Hardware) (start : BoardView) → ((run : Run hardware) → run.state_at 0 ≡ start → NeverNests run) → (envs : List Env) (text : List ℕ) (s new : BoardView) (env : Env) (event : Event) (teller next : Teller) (note : Note) (returned : Bool) →
     HasTold hardware start envs text s teller → Step hardware s env event new → SaysReturned hardware s env returned → next.events ≡ teller.events + 1 → next.time ≡ teller.time + event.t →
     Follows teller.running event.kind (record { sp = s.regs.sp; time = teller.time }) (record { sp = new.regs.sp; time = next.time }) returned note next.running →
     HasTold hardware start (envs ++ env ∷ []) (text ++ line_of_note teller.events event.at note) new next
 unfolding TellsUpTo
 told_more hardware start never envs text s new env event teller next note returned told stepped says events time follows = record { on = on }
   where
-    on : (run : Run hardware) → Passes run start (envs ++ env ∷ []) → Stands run (length (envs ++ env ∷ [])) (text ++ line_of_note teller.events event.at note) new next
+    on : (run : Run hardware) → RunsFrom run start (envs ++ env ∷ []) → StandsAfter run (length (envs ++ env ∷ [])) (text ++ line_of_note teller.events event.at note) new next
     on run p =
         let n = length envs in
         let count : n + 1 ≡ length (envs ++ env ∷ []) = omega (arith, length-append envs (env ∷ [])) in
@@ -245,19 +243,19 @@ told_more hardware start never envs text s new env event teller next note return
         let so_far = told.on run (record { starts = p.starts; count = omega arith; envs_are = λ i e h. p.envs_are i e (got envs env e i h) }) in
         let same_env : run.env_at n ≡ env = p.envs_are n env (got_last envs env) in
         let here : Step hardware s env (run.event_at n) (run.state_at (suc n)) =
-        subst (λ (x : State). Step hardware x env (run.event_at n) (run.state_at (suc n))) so_far.state (subst (λ (x : Env). Step hardware (run.state_at n) x (run.event_at n) (run.state_at (suc n))) same_env (run.steps n within)) in
+        subst (λ (x : BoardView). Step hardware x env (run.event_at n) (run.state_at (suc n))) so_far.state (subst (λ (x : Env). Step hardware (run.state_at n) x (run.event_at n) (run.state_at (suc n))) same_env (run.steps n within)) in
         let same_event : run.event_at n ≡ event = one_event hardware s (run.state_at (suc n)) new env (run.event_at n) event here stepped in
         let same_state : run.state_at (suc n) ≡ new = one_state hardware s (run.state_at (suc n)) new env (run.event_at n) event here stepped in
         let says_there : SaysReturned hardware (run.state_at n) (run.env_at n) returned =
-        subst (λ (x : State). SaysReturned hardware x (run.env_at n) returned) (sym so_far.state) (subst (λ (x : Env). SaysReturned hardware s x returned) (sym same_env) says) in
+        subst (λ (x : BoardView). SaysReturned hardware x (run.env_at n) returned) (sym so_far.state) (subst (λ (x : Env). SaysReturned hardware s x returned) (sym same_env) says) in
         let t : time_before run (suc n) ≡ next.time = ap (λ (v : Event). time_before run n + v.t) same_event ∙ ap (λ (x : ℕ). x + event.t) so_far.time ∙ sym time in
         let f = followed hardware run (never run p.starts) n within returned says_there (record { sp = s.regs.sp; time = teller.time }) (record { sp = new.regs.sp; time = next.time })
-        (ap (λ (x : State). x.regs.sp) (sym so_far.state)) (sym so_far.time) (ap (λ (x : State). x.regs.sp) (sym same_state)) (sym t)
+        (ap (λ (x : BoardView). x.regs.sp) (sym so_far.state)) (sym so_far.time) (ap (λ (x : BoardView). x.regs.sp) (sym same_state)) (sym t)
         teller.running next.running note so_far.knows (subst (λ (v : Event). Follows teller.running v.kind (record { sp = s.regs.sp; time = teller.time }) (record { sp = new.regs.sp; time = next.time }) returned note next.running) (sym same_event) follows) in
-        let at : (run.state_at n).regs.pc ≡ event.at = ap (λ (x : State). x.regs.pc) so_far.state ∙ sym stepped.at in
+        let at : (run.state_at n).regs.pc ≡ event.at = ap (λ (x : BoardView). x.regs.pc) so_far.state ∙ sym stepped.at in
         let line : line_of_note n (run.state_at n).regs.pc note ≡ line_of_note teller.events event.at note =
         ap (λ (pc : ℕ). line_of_note n pc note) at ∙ ap (λ (k : ℕ). line_of_note k event.at note) so_far.events in
-        subst (λ (k : ℕ). Stands run k (text ++ line_of_note teller.events event.at note) new next) suc_n (record {
+        subst (λ (k : ℕ). StandsAfter run k (text ++ line_of_note teller.events event.at note) new next) suc_n (record {
           state = same_state;
           told = (text, so_far.told, record { line = line_of_note teller.events event.at note; tells = subst (Tells run n) line f.0; is = refl });
           knows = f.1;

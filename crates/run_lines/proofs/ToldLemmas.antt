@@ -1,4 +1,4 @@
--- What is told of a run is told once.
+-- The lines of a run are unique.
 use Rattle.std.proofs.Common.{◌≡◌, ◌<◌, ◌+◌, inl, inr, ℕ, zero, suc, List, [], ◌++◌, sym, ap, subst, ◌∙◌, append_assoc, arith}
 use Rattle.std.proofs.lemmas.Bool.{cases_lt}
 use Rattle.std.proofs.lemmas.List.{append-nil}
@@ -6,14 +6,14 @@ use Rattle.board_step.specs.Hardware.{Hardware}
 use Rattle.board_step.specs.Run.{AcceptsAt, EndsAt, Run, spent}
 use Rattle.board_step.specs.declared.event.Kind.{Kind}
 use Rattle.board_step.specs.declared.event.Kind.TheVariants as kinds
-use Rattle.run_lines.specs.Lines.{end_line}
+use Rattle.run_lines.specs.Lines.{return_line}
 use Rattle.run_lines.specs.Told.{NeverNests, Tells, TellsUpTo, begins, ends, nothing}
 
 clash : (k : Kind) → k ≡ kinds.Accept → k ≡ kinds.Instr → ⊥
 clash k p q = cc
 
 module _ (hardware : Hardware) (run : Run hardware) (never : NeverNests run) where
-  -- an event ends one routine at most
+  -- an event ends at most one routine
   earlier_ended : (i k j : ℕ) → EndsAt run i j → EndsAt run k j → i < k → ⊥
   earlier_ended i k j first second lt =
       let n = never i k lt first.accepts second.accepts in
@@ -39,7 +39,7 @@ module _ (hardware : Hardware) (run : Run hardware) (never : NeverNests run) whe
   one_line i x y (begins a e) (ends k b f) = absurd (no_end k i a b)
   one_line i x y (begins a e) (nothing b n f) = absurd (b a)
   one_line i x y (ends k a e) (begins b f) = absurd (no_end k i b a)
-  one_line i x y (ends k a e) (ends l b f) = e ∙ ap (λ (from : ℕ). end_line i (spent run from i)) (ends_one k l i a b) ∙ sym f
+  one_line i x y (ends k a e) (ends l b f) = e ∙ ap (λ (from : ℕ). return_line i (spent run from i)) (ends_one k l i a b) ∙ sym f
   one_line i x y (ends k a e) (nothing b n f) = absurd (n k a)
   one_line i x y (nothing a n e) (begins b f) = absurd (a b)
   one_line i x y (nothing a n e) (ends k b f) = absurd (n k b)
@@ -51,7 +51,7 @@ module _ (hardware : Hardware) (run : Run hardware) (never : NeverNests run) whe
   one_text (suc n) x y (a, p, u) (b, q, v) =
       u.is ∙ ap (λ (t : List ℕ). t ++ u.line) (one_text n a b p q) ∙ ap (λ (l : List ℕ). b ++ l) (one_line n u.line v.line u.tells v.tells) ∙ sym v.is
 
-  -- what is told up to an event begins what is told up to a later one
+  -- the lines up to an event are a prefix of the lines up to a later one
   pub begins_alike : (i n : ℕ) (text whole : List ℕ) → TellsUpTo run i text → TellsUpTo run (i + n) whole → (rest : List ℕ) × (whole ≡ text ++ rest)
   unfolding TellsUpTo
   begins_alike i zero text whole p q =

@@ -1,4 +1,4 @@
--- The definitions: the lines that tell of a run, and how they are found event by event.
+-- Definitions of the lines that report a run, and of how they follow from the events.
 pub mod Lines
 pub mod Told
 pub mod Follows

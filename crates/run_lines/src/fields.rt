@@ -1,4 +1,4 @@
-// The fields of a line that is made.
+// Adds fields to a line.
 
 ghost use Rattle.std.specs.Prelude.{◌≡◌, ◌≤◌, ◌+◌, ◌∷◌, ◌++◌, length, decimal};
 ghost use Rattle.texts.specs.Made.{MADE_LEN};

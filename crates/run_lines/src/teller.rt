@@ -1,11 +1,11 @@
-// Which event of a run has a line.
+// The tracer: which event of a run has a line.
 
 ghost use Rattle.std.specs.Prelude.{◌≡◌, ◌≢◌, ◌<◌, ◌+◌, ◌-◌, ◌++◌, ◌^◌, ℕ, List, Bool, true};
 ghost use Rattle.board_step.specs.Hardware.{Hardware};
 ghost use Rattle.board_step.specs.Kind.{kind_of};
-ghost use Rattle.known_instrs.specs.Known.{IsKnownAt};
-ghost use Rattle.known_instrs.specs.Returns.{is_return};
-ghost use Rattle.board_step.specs.State.{State};
+ghost use Rattle.z80_actions.specs.Known.{IsKnownAt};
+ghost use Rattle.z80_actions.specs.Returns.{is_return};
+ghost use Rattle.board_step.specs.State.{BoardView};
 ghost use Rattle.board_step.specs.Step.{Step};
 ghost use Rattle.board_step.specs.declared.env.Env.{Env};
 ghost use Rattle.board_step.specs.declared.event.Kind.{Kind as Kinds};
@@ -15,7 +15,7 @@ ghost use Rattle.t_states.specs.Costs.{cost_of};
 ghost use Rattle.z80_actions.specs.Action.{instr_of};
 
 use board_step::{Event, Kind, Known};
-use z80_decode::Instr;
+use z80_actions::is_return;
 
 /// A moment of a run, before an event or after it.
 #[derive(Clone, Copy)]
@@ -26,23 +26,23 @@ pub struct Moment {
     pub time: u64,
 }
 
-/// What is told of an event.
+/// What the tracer reports of an event.
 #[derive(Clone, Copy)]
 pub enum Note {
     Nothing,
-    /// It began an NMI routine: it accepted the NMI.
+    /// It accepted an NMI.
     Begins,
-    /// It ended the NMI routine that ran, which took this many T-states.
+    /// It ended the running NMI routine, which took this many T-states.
     Ends(u64),
 }
 
-/// Follows a run event by event, and knows which of them have a line.
+/// Follows a run event by event, and decides which of them have a line.
 #[derive(Clone, Copy)]
 pub struct Teller {
     /// The number of events so far.
     pub events: u64,
-    /// The moment before the acceptance of the NMI routine that runs, if one does.
-    // Between the two numbers, so that they are added to one by one, and not as one vector.
+    /// The moment before the acceptance of the running NMI routine, if one runs.
+    // Between the two numbers, so that they are added to one by one and not as one vector.
     pub running: Option<Moment>,
     /// The T-states of the events so far.
     pub time: u64,
@@ -60,14 +60,16 @@ impl Teller {
         }
     }
 
-    /// Follows the run over an event, from one stack pointer to another, and gives what is told of it. `returned` says whether it is an
-    /// instruction that returned.
+    /// Follows the run over an event and reports it. `before` and `after` are the stack pointers; `returned` says
+    /// whether the event is an instruction that returned.
     pub fn follow(&mut self, event: &Event, before: u16, after: u16, returned: bool) -> Note
         requires events { self.old.events < 2 ^ 64 - 1 }
         requires time { self.old.time < 2 ^ 63 }
         ensures events { self.new.events ≡ self.old.events + 1 }
         ensures time { self.new.time ≡ self.old.time + event.now.t }
-        ensures note { Follows self.old.running event.now.kind (record { sp = before; time = self.old.time }) (record { sp = after; time = self.new.time }) returned result self.new.running }
+        ensures note { Follows self.old.running event.now.kind
+            (record { sp = before; time = self.old.time })
+            (record { sp = after; time = self.new.time }) returned result self.new.running }
     {
         let before = Moment {
             sp: before,
@@ -83,7 +85,7 @@ impl Teller {
     }
 }
 
-/// What is told of an event between two moments, and the routine that runs behind it.
+/// Reports an event between two moments, and updates the running routine.
 fn next_note(
     running: &mut Option<Moment>,
     kind: Kind,
@@ -102,9 +104,10 @@ fn next_note(
     }
 }
 
-/// What is told of any other event than an acceptance.
+/// Reports an event that is no acceptance.
 fn end_note(running: &mut Option<Moment>, after: Moment, returned: bool) -> Note
-    ensures { (kind : Kinds) (before : Moments) → kind ≢ Kind.Accept → Follows running.old kind before after returned result running.new }
+    ensures { (kind : Kinds) (before : Moments) → kind ≢ Kind.Accept
+        → Follows running.old kind before after returned result running.new }
 {
     match *running {
         Some(began) if returned && after.sp == began.sp => {
@@ -115,27 +118,20 @@ fn end_note(running: &mut Option<Moment>, after: Moment, returned: bool) -> Note
     }
 }
 
-/// Whether an instruction returned by the event in which it was done, where this is what is known of it.
+/// Whether an event is an instruction that returned, given what is known of the instruction.
 pub fn has_returned(known: &Known, event: &Event) -> bool
-    ensures { (hardware : Hardware) (s new : State) (env : Env) → kind_of s ≡ Kinds.Instr → IsKnownAt hardware.rom s.regs.pc known.now → Step hardware s env event.now new → SaysReturned hardware s env result }
+    ensures { (hardware : Hardware) (s new : BoardView) (env : Env) → kind_of s ≡ Kinds.Instr
+        → IsKnownAt hardware.rom s.regs.pc known.now → Step hardware s env event.now new
+        → SaysReturned hardware s env result }
 {
     returned_after(known, event.t)
 }
 
-/// Whether an instruction that took this many T-states returned.
+/// Whether an instruction that took `t` T-states returned.
 fn returned_after(known: &Known, t: u8) -> bool
-    ensures { (rom : List ℕ) (at : ℕ) (taken : Bool) → IsKnownAt rom at known.now → t ≡ cost_of (instr_of known.now.action) taken → result ≡ is_return (instr_of known.now.action) taken }
+    ensures { (rom : List ℕ) (at : ℕ) (taken : Bool) → IsKnownAt rom at known.now
+        → t ≡ cost_of (instr_of known.now.action) taken
+        → result ≡ is_return (instr_of known.now.action) taken }
 {
     is_return(&known.action.instr(), t == known.costs.taken)
-}
-
-/// Whether an instruction that is taken or not returns.
-fn is_return(instr: &Instr, taken: bool) -> bool
-    ensures { result ≡ is_return instr.now taken }
-{
-    match instr {
-        Instr::Return | Instr::ReturnFromInterrupt | Instr::ReturnFromNonMaskable => true,
-        Instr::ReturnIf(_) => taken,
-        _ => false,
-    }
 }

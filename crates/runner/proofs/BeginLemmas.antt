@@ -1,4 +1,4 @@
--- What is told of some lines begins the text of the play of each input that begins with them.
+-- The lines so far are a prefix of the text of each input that begins with the bytes so far.
 use Rattle.std.proofs.Common.{◌≡◌, ◌<◌, ◌≤◌, ◌+◌, ◌-◌, ◌⊎◌, inl, inr, ℕ, Bool, true, false, List, [], ◌∷◌, ◌++◌, Option, Some, None, length, take, drop, get_or, slice_get, refl, sym, ap, subst, ◌∙◌, append_assoc, arith, length-append}
 use Rattle.std.specs.List.{AllByRecursion}
 use Rattle.std.proofs.lemmas.Bool.{cases_lt}
@@ -7,13 +7,14 @@ use Rattle.std.proofs.lemmas.Grind.{flat_map-append}
 use Rattle.std.proofs.lemmas.List.{append-nil, get_or_append_left, length-take-le, take-append-drop, take-append-le, take_all}
 use Rattle.std.proofs.lemmas.Option.{get_or_from_slice_get, slice_get-get_or, slice_get_within}
 use Rattle.board_step.specs.Hardware.{Hardware}
-use Rattle.board_step.specs.Reset.{IsReset, reset_state}
+use Rattle.board_step.specs.Reset.{IsReset}
+use Rattle.board_step.specs.ResetState.{reset_state}
 use Rattle.board_step.specs.Run.{Run}
-use Rattle.board_step.specs.State.{State}
+use Rattle.board_step.specs.State.{BoardView}
 use Rattle.board_step.specs.declared.env.Env.{Env}
 use Rattle.board_step.specs.declared.env.Inputs.{Inputs}
 use Rattle.certificate.specs.Pieces.{OfBytes}
-use Rattle.run_lines.specs.Follows.{HasTold, Passes}
+use Rattle.run_lines.specs.Follows.{HasTold, RunsFrom}
 use Rattle.run_lines.specs.Told.{NeverNests, TellsUpTo}
 use Rattle.run_lines.specs.declared.teller.Teller.{Teller}
 use Rattle.run_lines.proofs.ToldLemmas.{begins_alike}
@@ -24,13 +25,13 @@ use Rattle.texts.proofs.NumberLemmas.{hex2_injective}
 use Rattle.runner.specs.Input.{IsResetLine, IsEnvLine, env_fields, env_text, reset_fields, reset_of, reset_text}
 use Rattle.runner.specs.Machine.{IsOver}
 use Rattle.runner.specs.Output.{summary_text}
-use Rattle.runner.specs.Playing.{BeginsEach, BeginsWith, IsPart, IsTextOf, envs_of, text_of}
+use Rattle.runner.specs.Playing.{BeginsEach, InputBegins, IsPart, IsTextOf, envs_of, env_lines_text}
 use Rattle.runner.specs.declared.input.EnvLine.{EnvLine}
 use Rattle.runner.specs.declared.input.ResetLine.{ResetLine}
 use Rattle.runner.proofs.FeedLemmas.{first_feed}
 use Rattle.runner.proofs.InputLemmas.{env_fields_kept, no_feed_env, no_feed_reset, reset_fields_kept}
 
--- ---- a text is that of one line
+-- ---- a text has one line
 
 flag_once : (a b : Bool) → flag_digit a ≡ flag_digit b → a ≡ b
 flag_once false false e = refl
@@ -78,11 +79,11 @@ tails_same : (a x y : List ℕ) → a ++ x ≡ a ++ y → x ≡ y
 tails_same [] x y e = e
 tails_same (b ∷ a) x y e = tails_same a x y (ap (drop 1) e)
 
--- behind two texts that are one, before the first line feed of the same bytes
+-- after two equal texts, before the first line feed of the same bytes
 behind_feed : (a b x y : List ℕ) → a ≡ b → a ++ 10 ∷ x ≡ b ++ 10 ∷ y → x ≡ y
 behind_feed a b x y same e = ap (drop 1) (tails_same a (10 ∷ x) (10 ∷ y) (e ∙ ap (λ (t : List ℕ). t ++ 10 ∷ y) (sym same)))
 
--- of two readings one has the other's lines, and perhaps more; or fewer, and then a line in form begins what it left
+-- one of two readings has the other's lines and perhaps more; or it has fewer, and a line in form begins what it left
 record Fewer (lines others : List EnvLine) (rest : List ℕ) : Type 0 where
   next : EnvLine
   form : IsEnvLine next
@@ -94,23 +95,23 @@ record Fewer (lines others : List EnvLine) (rest : List ℕ) : Type 0 where
 abbrev Alike : List EnvLine → List EnvLine → List ℕ → Type 0
 Alike lines others rest = ((behind : List EnvLine) × (others ≡ lines ++ behind)) ⊎ Fewer lines others rest
 
-line_apart : (line : EnvLine) (lines : List EnvLine) (x : List ℕ) → text_of (line ∷ lines) ++ x ≡ env_text line ++ 10 ∷ (text_of lines ++ x)
-line_apart line lines x = append_assoc (env_text line ++ 10 ∷ []) (text_of lines) x ∙ append_assoc (env_text line) (10 ∷ []) (text_of lines ++ x)
+line_apart : (line : EnvLine) (lines : List EnvLine) (x : List ℕ) → env_lines_text (line ∷ lines) ++ x ≡ env_text line ++ 10 ∷ (env_lines_text lines ++ x)
+line_apart line lines x = append_assoc (env_text line ++ 10 ∷ []) (env_lines_text lines) x ∙ append_assoc (env_text line) (10 ∷ []) (env_lines_text lines ++ x)
 
 one_more : (line : EnvLine) (lines others : List EnvLine) (rest : List ℕ) → Alike lines others rest → Alike (line ∷ lines) (line ∷ others) rest
 one_more line lines others rest (inl (behind, is)) = inl (behind, ap (λ (ls : List EnvLine). line ∷ ls) is)
 one_more line lines others rest (inr f) =
     inr record { next = f.next; form = f.form; behind = f.behind; more = f.more; lines_are = ap (λ (ls : List EnvLine). line ∷ ls) f.lines_are; rest_is = f.rest_is }
 
-alike : (lines others : List EnvLine) (more rest : List ℕ) → AllByRecursion IsEnvLine lines → AllByRecursion IsEnvLine others → text_of lines ++ more ≡ text_of others ++ rest → Alike lines others rest
+alike : (lines others : List EnvLine) (more rest : List ℕ) → AllByRecursion IsEnvLine lines → AllByRecursion IsEnvLine others → env_lines_text lines ++ more ≡ env_lines_text others ++ rest → Alike lines others rest
 alike [] others more rest form_a form_b e = inl (others, refl)
 alike (line ∷ lines) [] more rest form_a form_b e =
-    inr record { next = line; form = form_a.0; behind = lines; more = text_of lines ++ more; lines_are = refl; rest_is = sym e ∙ line_apart line lines more }
+    inr record { next = line; form = form_a.0; behind = lines; more = env_lines_text lines ++ more; lines_are = refl; rest_is = sym e ∙ line_apart line lines more }
 alike (line ∷ lines) (other ∷ others) more rest form_a form_b e =
-    let apart : env_text line ++ 10 ∷ (text_of lines ++ more) ≡ env_text other ++ 10 ∷ (text_of others ++ rest) = sym (line_apart line lines more) ∙ e ∙ line_apart other others rest in
-    let text : env_text line ≡ env_text other = first_feed (env_text line) (env_text other) (text_of lines ++ more) (text_of others ++ rest) (no_feed_env line form_a.0) (no_feed_env other form_b.0) apart in
+    let apart : env_text line ++ 10 ∷ (env_lines_text lines ++ more) ≡ env_text other ++ 10 ∷ (env_lines_text others ++ rest) = sym (line_apart line lines more) ∙ e ∙ line_apart other others rest in
+    let text : env_text line ≡ env_text other = first_feed (env_text line) (env_text other) (env_lines_text lines ++ more) (env_lines_text others ++ rest) (no_feed_env line form_a.0) (no_feed_env other form_b.0) apart in
     let same : line ≡ other = env_once line other form_a.0 form_b.0 text in
-    let behind : text_of lines ++ more ≡ text_of others ++ rest = behind_feed (env_text line) (env_text other) (text_of lines ++ more) (text_of others ++ rest) text apart in
+    let behind : env_lines_text lines ++ more ≡ env_lines_text others ++ rest = behind_feed (env_text line) (env_text other) (env_lines_text lines ++ more) (env_lines_text others ++ rest) text apart in
     subst (λ (l : EnvLine). Alike (line ∷ lines) (l ∷ others) rest) same (one_more line lines others rest (alike lines others more rest form_a.1 form_b.1 behind))
 
 -- ---- environments
@@ -122,7 +123,7 @@ record Taken (steps done : ℕ) (envs : List Env) : Type 0 where
   most : done ≤ length (take steps envs)
   same : take done (take steps envs) ≡ take done envs
 
--- the first of them are those of the first of them
+-- the first of some are the first of those
 taken : (steps done : ℕ) (envs : List Env) → done ≤ steps → done ≤ length envs → Taken steps done envs
 taken steps done envs within fewer = elim (cases_lt (length envs) steps) [
   | inl less ↦
@@ -141,7 +142,7 @@ got xs ys i x h =
     slice_get-get_or (xs ++ ys) i x more ∙ ap (λ (z : Env). Some z) (get_or_append_left xs ys x i within ∙ get_or_from_slice_get xs i x x h)
 
 -- a run over environments passes through the first of them
-passes_first : (hardware : Hardware) (run : Run hardware) (start last : State) (envs : List Env) (done : ℕ) → done ≤ length envs → IsOver run start envs last → Passes run start (take done envs)
+passes_first : (hardware : Hardware) (run : Run hardware) (start last : BoardView) (envs : List Env) (done : ℕ) → done ≤ length envs → IsOver run start envs last → RunsFrom run start (take done envs)
 passes_first hardware run start last envs done most over =
     let many : length (take done envs) ≡ done = length-take-le done envs most in
     let all = over.count in
@@ -151,34 +152,34 @@ passes_first hardware run start last envs done most over =
       envs_are = λ i env h. over.envs_are i env (subst (λ (es : List Env). slice_get es i ≡ Some env) (take-append-drop done envs) (got (take done envs) (drop done envs) i env h));
     }
 
--- ---- what is told
+-- ---- the lines
 
 module _ (hardware : Hardware) (never : (run : Run hardware) → IsReset (run.state_at 0) → NeverNests run) (steps done : ℕ) (reset : ResetLine) (reset_form : IsResetLine reset) (lines : List EnvLine) (lines_form : AllByRecursion IsEnvLine lines)
-    (starts : IsReset (reset_state (reset_of reset))) (within : done ≤ steps) (fewer : done ≤ length (envs_of lines)) (told : List ℕ) (s : State) (teller : Teller)
+    (starts : IsReset (reset_state (reset_of reset))) (within : done ≤ steps) (fewer : done ≤ length (envs_of lines)) (told : List ℕ) (s : BoardView) (teller : Teller)
     (has : HasTold hardware (reset_state (reset_of reset)) (take done (envs_of lines)) told s teller) where
   abbrev read : List ℕ
-  read = reset_text reset ++ 10 ∷ text_of lines
+  read = reset_text reset ++ 10 ∷ env_lines_text lines
 
   -- another reading of an input that begins so
   record Reading (other : ResetLine) (others : List EnvLine) (rest : List ℕ) : Type 0 where
     same : other ≡ reset
     alike_is : Alike lines others rest
 
-  reading : (more : List ℕ) (other : ResetLine) (others : List EnvLine) (rest : List ℕ) → BeginsWith other others rest (read ++ more) → Reading other others rest
+  reading : (more : List ℕ) (other : ResetLine) (others : List EnvLine) (rest : List ℕ) → InputBegins other others rest (read ++ more) → Reading other others rest
   reading more other others rest b =
-      let apart : reset_text reset ++ 10 ∷ (text_of lines ++ more) ≡ reset_text other ++ 10 ∷ (text_of others ++ rest) =
-      sym (append_assoc (reset_text reset) (10 ∷ text_of lines) more) ∙ b.parts ∙ append_assoc (reset_text other) (10 ∷ text_of others) rest in
-      let text : reset_text reset ≡ reset_text other = first_feed (reset_text reset) (reset_text other) (text_of lines ++ more) (text_of others ++ rest) (no_feed_reset reset reset_form) (no_feed_reset other b.reset_form) apart in
+      let apart : reset_text reset ++ 10 ∷ (env_lines_text lines ++ more) ≡ reset_text other ++ 10 ∷ (env_lines_text others ++ rest) =
+      sym (append_assoc (reset_text reset) (10 ∷ env_lines_text lines) more) ∙ b.parts ∙ append_assoc (reset_text other) (10 ∷ env_lines_text others) rest in
+      let text : reset_text reset ≡ reset_text other = first_feed (reset_text reset) (reset_text other) (env_lines_text lines ++ more) (env_lines_text others ++ rest) (no_feed_reset reset reset_form) (no_feed_reset other b.reset_form) apart in
       record {
         same = sym (reset_once reset other reset_form b.reset_form text);
-        alike_is = alike lines others more rest lines_form b.lines_form (behind_feed (reset_text reset) (reset_text other) (text_of lines ++ more) (text_of others ++ rest) text apart);
+        alike_is = alike lines others more rest lines_form b.lines_form (behind_feed (reset_text reset) (reset_text other) (env_lines_text lines ++ more) (env_lines_text others ++ rest) text apart);
       }
 
   record Covers (others : List EnvLine) : Type 0 where
     most : done ≤ length (envs_of others)
     first : take done (envs_of others) ≡ take done (envs_of lines)
 
-  -- it has the events that were done
+  -- it has the executed events
   covers : (others : List EnvLine) (rest : List ℕ) → Alike lines others rest → (Fewer lines others rest → steps ≤ length (envs_of others)) → Covers others
   covers others rest (inl (behind, is)) enough =
       let envs : envs_of others ≡ envs_of lines ++ envs_of behind = ap envs_of is ∙ envs_both lines behind in
@@ -195,14 +196,14 @@ module _ (hardware : Hardware) (never : (run : Run hardware) → IsReset (run.st
         first = sym (ap (take done) envs ∙ take-append-le done (envs_of others) (envs_of (f.next ∷ f.behind)) most);
       }
 
-  -- so what is told of its run begins with what was told
-  told_first : (run : Run hardware) (other : ResetLine) (last : State) (envs : List Env) (whole : List ℕ) → other ≡ reset → done ≤ length envs → take done envs ≡ take done (envs_of lines) →
+  -- so the lines of its run begin with these lines
+  told_first : (run : Run hardware) (other : ResetLine) (last : BoardView) (envs : List Env) (whole : List ℕ) → other ≡ reset → done ≤ length envs → take done envs ≡ take done (envs_of lines) →
       IsOver run (reset_state (reset_of other)) envs last → TellsUpTo run run.count whole → (rest : List ℕ) × (whole ≡ told ++ rest)
   told_first run other last envs whole same most first over upto =
       let start : reset_state (reset_of other) ≡ reset_state (reset_of reset) = ap (λ (r : ResetLine). reset_state (reset_of r)) same in
-      let over_here : IsOver run (reset_state (reset_of reset)) envs last = subst (λ (x : State). IsOver run x envs last) start over in
-      let passes : Passes run (reset_state (reset_of reset)) (take done (envs_of lines)) =
-      subst (λ (es : List Env). Passes run (reset_state (reset_of reset)) es) first (passes_first hardware run (reset_state (reset_of reset)) last envs done most over_here) in
+      let over_here : IsOver run (reset_state (reset_of reset)) envs last = subst (λ (x : BoardView). IsOver run x envs last) start over in
+      let passes : RunsFrom run (reset_state (reset_of reset)) (take done (envs_of lines)) =
+      subst (λ (es : List Env). RunsFrom run (reset_state (reset_of reset)) es) first (passes_first hardware run (reset_state (reset_of reset)) last envs done most over_here) in
       let n = length (take done (envs_of lines)) in
       let fits = passes.count in
       let all : n + (run.count - n) ≡ run.count = omega arith in
@@ -219,23 +220,25 @@ module _ (hardware : Hardware) (never : (run : Run hardware) → IsReset (run.st
       let t = taken steps done (envs_of p.lines) within c.most in
       let (rest, text_is) = told_first p.runs.run p.reset p.last (take steps (envs_of p.lines)) text r.same t.most (t.same ∙ c.first) p.runs.over p.told_is in
       (rest ++ summary_text summary, is ∙ ap (λ (x : List ℕ). x ++ summary_text summary) text_is ∙ append_assoc told rest (summary_text summary))
-  begins more whole (inr (number, inl b)) = absurd (b.bad reset (text_of lines ++ more) reset_form (append_assoc (reset_text reset) (10 ∷ text_of lines) more))
+  begins more whole (inr (number, inl b)) = absurd (b.bad reset (env_lines_text lines ++ more) reset_form (append_assoc (reset_text reset) (10 ∷ env_lines_text lines) more))
   begins more whole (inr (number, inr b)) =
       let r = reading more b.reset b.lines b.rest b.begins in
       let c = covers b.lines b.rest r.alike_is (λ f. absurd (b.bad f.next f.more f.form f.rest_is)) in
       told_first b.told_is.run b.reset b.told_is.last (envs_of b.lines) whole r.same c.most c.first b.told_is.over b.told_is.told_is
 
-  pub begins_each : BeginsEach hardware steps (reset_text reset ++ 10 ∷ text_of lines) told
+  pub begins_each : BeginsEach hardware steps (reset_text reset ++ 10 ∷ env_lines_text lines) told
   begins_each = record { each = begins }
 
--- nothing begins each text
-none_begins : (hardware : Hardware) (steps : ℕ) → BeginsEach hardware steps [] []
-none_begins hardware steps = record { each = λ more whole is. (whole, refl) }
+-- a prefix of each text of inputs that begin with some bytes is one for inputs that begin with more
+pub begins_longer : (hardware : Hardware) (steps : ℕ) (read more told : List ℕ) → BeginsEach hardware steps read told → BeginsEach hardware steps (read ++ more) told
+begins_longer hardware steps read more told begins =
+    record { each = λ rest whole is. begins.each (more ++ rest) whole (subst (λ (bytes : List ℕ). IsTextOf hardware steps bytes whole) (append_assoc read more rest) is) }
 
+-- the empty text is a prefix of each text
+pub none_begins : (hardware : Hardware) (steps : ℕ) (read : List ℕ) → BeginsEach hardware steps read []
+none_begins hardware steps read = record { each = λ more whole is. (whole, refl) }
+
+-- what was read is a part of an input
 pub is_part : (hardware : Hardware) (steps : ℕ) (old now : Option (List ℕ)) (read told : List ℕ) → GivesBytes old read now → BeginsEach hardware steps read told → OfBytes old (IsPart hardware steps told)
 is_part hardware steps None now read told given begins = (read, record { read = read; more = []; parts = sym (append-nil read); begins = begins })
 is_part hardware steps (Some bytes) now read told (left, is, parts) begins = record { read = read; more = left; parts = parts; begins = begins }
-
-pub no_part : (hardware : Hardware) (steps : ℕ) (old : Option (List ℕ)) → OfBytes old (IsPart hardware steps [])
-no_part hardware steps None = ([], record { read = []; more = []; parts = refl; begins = none_begins hardware steps })
-no_part hardware steps (Some bytes) = record { read = []; more = bytes; parts = refl; begins = none_begins hardware steps }

@@ -3,12 +3,12 @@ use Rattle.std.proofs.lemmas.List.{append-nil}
 use Rattle.texts.specs.Numbers.{Reads}
 use Rattle.runner.specs.Playing.{BeginsWithNo}
 use Rattle.texts.specs.Device.{DeviceState, GivesBytes}
-use Rattle.texts.specs.Incoming.{HasNoFeed, IsLine, IsTooLong, IsUnended}
+use Rattle.texts.specs.Incoming.{HasNoFeed, IsLineTaken, IsTooLong, IsUnended}
 
 heads_same : (x y : ℕ) (xs ys : List ℕ) → x ∷ xs ≡ y ∷ ys → x ≡ y
 heads_same x y xs ys e = ap (λ (l : List ℕ). get_or l 0 0) e
 
--- two texts without a line feed, each before the first line feed of the same bytes, are one
+-- two texts without a line feed, each before the first line feed of the same bytes, are equal
 pub first_feed : (a b x y : List ℕ) → HasNoFeed a → HasNoFeed b → a ++ 10 ∷ x ≡ b ++ 10 ∷ y → a ≡ b
 first_feed [] [] x y none_a none_b e = refl
 first_feed [] (c ∷ b) x y none_a none_b e = absurd (none_b.0 (sym (heads_same 10 c x (b ++ 10 ∷ y) e)))
@@ -16,7 +16,7 @@ first_feed (c ∷ a) [] x y none_a none_b e = absurd (none_a.0 (heads_same c 10 
 first_feed (c ∷ a) (d ∷ b) x y none_a none_b e =
     ap (λ (h : ℕ). h ∷ a) (heads_same c d (a ++ 10 ∷ x) (b ++ 10 ∷ y) e) ∙ ap (λ (l : List ℕ). d ∷ l) (first_feed a b x y none_a.1 none_b.1 (ap (drop 1) e))
 
--- a line feed does not stand within bytes that have none
+-- bytes without a line feed have none inside
 feed_within : (a b x y : List ℕ) → HasNoFeed a → length b < length a → a ++ x ≡ b ++ 10 ∷ y → ⊥
 feed_within [] b x y none less e = absurd (omega (arith, less))
 feed_within (c ∷ a) [] x y none less e = none.0 (heads_same c 10 (a ++ x) y e)
@@ -33,7 +33,7 @@ module _ {X : Type 0} (text : X → List ℕ) (InForm : X → Type 0) where
   in_line feedless None new line no_feed given none = tt
   in_line feedless (Some bytes) new line no_feed (left, is, parts) none = none_in_line feedless bytes line left no_feed parts none
 
-  pub no_line : ((x : X) → InForm x → HasNoFeed (text x)) → (old new : DeviceState) (line : List ℕ) → IsLine 30 old line new → Reads text InForm line None → IfSome old.bytes (BeginsWithNo text InForm)
+  pub no_line : ((x : X) → InForm x → HasNoFeed (text x)) → (old new : DeviceState) (line : List ℕ) → IsLineTaken 30 old line new → Reads text InForm line None → IfSome old.bytes (BeginsWithNo text InForm)
   no_line feedless old new line is none = in_line feedless old.bytes new.bytes line is.no_feed is.given.given none
 
   -- nor does one begin a text that is too long
@@ -42,7 +42,7 @@ module _ {X : Type 0} (text : X → List ℕ) (InForm : X → Type 0) where
   in_long short (Some bytes) new line long no_feed (left, is, parts) = λ x rest form e.
       feed_within line (text x) left rest no_feed (omega (arith, short x form, long)) (sym parts ∙ e)
 
-  -- or that no line feed ends
+  -- nor one that no line feed ends
   in_unended : (old : Option (List ℕ)) (line : List ℕ) → HasNoFeed line → IfSome old (λ bytes. line ≡ bytes) → IfSome old (BeginsWithNo text InForm)
   in_unended None line no_feed all = tt
   in_unended (Some bytes) line no_feed all = λ x rest form e.
@@ -56,15 +56,15 @@ given_some : (old new : Option (List ℕ)) (line : List ℕ) → 0 < length line
 given_some None new line some given = tt
 given_some (Some bytes) new line some (left, is, parts) = λ empty. absurd (omega (arith, some, ap length (sym empty ∙ parts), length-append line left))
 
--- where a line stands, something is left
-pub line_some : (old new : DeviceState) (line : List ℕ) → IsLine 30 old line new → IfSome old.bytes (λ bytes. bytes ≢ [])
+-- where a line is, something is left
+pub line_some : (old new : DeviceState) (line : List ℕ) → IsLineTaken 30 old line new → IfSome old.bytes (λ bytes. bytes ≢ [])
 line_some old new line is = given_some old.bytes new.bytes (line ++ 10 ∷ []) (omega (arith, length-append line (10 ∷ []))) is.given.given
 
 pub bad_some : (old new : DeviceState) → IsTooLong 30 old new ⊎ IsUnended 30 old new → IfSome old.bytes (λ bytes. bytes ≢ [])
 bad_some old new (inl bad) = given_some old.bytes new.bytes bad.text (omega (arith, bad.long)) bad.given.given
 bad_some old new (inr bad) = given_some old.bytes new.bytes bad.text bad.some bad.given.given
 
--- both hold of what a source tells
+-- both hold of a source's bytes
 pub both : (o : Option (List ℕ)) (P Q : List ℕ → Type 0) → IfSome o P → IfSome o Q → IfSome o (λ bytes. P bytes × Q bytes)
 both None P Q p q = tt
 both (Some bytes) P Q p q = (p, q)

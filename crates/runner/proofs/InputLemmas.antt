@@ -13,7 +13,7 @@ use Rattle.texts.specs.Incoming.{HasNoFeed}
 use Rattle.runner.specs.declared.input.EnvLine.{EnvLine}
 use Rattle.runner.specs.declared.input.ResetLine.{ResetLine}
 
--- a line is found again in its fields, so who reads the fields reads the line
+-- a line is determined by its fields, so reading the fields is reading the line
 pub reads_joined : {X : Type 0} (fields : X → List (List ℕ)) (InForm : X → Type 0) → ((x : X) → InForm x → fields_in (join_with_byte 32 (fields x)) ≡ fields x) → (line : List ℕ) (r : Option X) →
     Reads fields InForm (fields_in line) r → Reads (λ x. join_with_byte 32 (fields x)) InForm line r
 reads_joined fields InForm kept line (Some x) (form, same) = (form, sym (join_with_byte-slice_split 32 line) ∙ ap (join_with_byte 32) same)
@@ -43,7 +43,7 @@ no_feed_reset line form = no_feed_from_test (reset_text line) (no_lf_in_join (re
 pub no_feed_env : (line : EnvLine) → IsEnvLine line → HasNoFeed (env_text line)
 no_feed_env line form = no_feed_from_test (env_text line) (no_lf_in_join (env_fields line) (plain_env line form))
 
--- the bytes of fields, each with one byte more
+-- the lengths of fields, each with one more byte
 abbrev widths : List (List ℕ) → ℕ
 widths [] = 0
 widths (field ∷ fields) = length field + 1 + widths fields
@@ -76,7 +76,7 @@ short_env line form =
     let count = length-decimal-le 10 line.count (omega arith) (omega (arith, form.most)) (omega (arith, form.most)) in
     omega (arith, joined, sum, count, length_hex2 line.inputs.in0, length_hex2 line.inputs.in1, length_hex2 line.inputs.in2, length_hex2 line.inputs.bus, length_hex2 line.noise, length_hex2 line.r, length_flag line.latch)
 
--- a line of environments has a byte at least
+-- a line of environments has at least one byte
 pub env_some : (line : EnvLine) → IsEnvLine line → 0 < length (env_text line)
 env_some line form =
     let joined = length_joined (decimal line.count) (hex2 line.inputs.in0 ∷ hex2 line.inputs.in1 ∷ hex2 line.inputs.in2 ∷ hex2 line.inputs.bus ∷ hex2 line.noise ∷ hex2 line.r ∷ flag_digit line.latch ∷ []) in

@@ -18,7 +18,7 @@ pub sums_whole : (old : List ℕ) (a b c : ℕ) → ((((old ++ codes "sum") ++ 3
 unfolding sum_line
 sums_whole old a b c = line_added old (codes "sum") (map decimal (a ∷ b ∷ c ∷ []))
 
--- three items, and six, by their places
+-- a list of three items, and one of six, by their places
 pub three : (xs : List ℕ) → length xs ≡ 3 → get_or xs 0 0 ∷ get_or xs 1 0 ∷ get_or xs 2 0 ∷ [] ≡ xs
 three [] e = absurd (omega (arith, e))
 three (a ∷ []) e = absurd (omega (arith, e))

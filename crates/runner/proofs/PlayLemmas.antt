@@ -6,13 +6,14 @@ use Rattle.std.proofs.lemmas.Grind.{flat_map-append}
 use Rattle.std.proofs.lemmas.List.{append-nil, take_all, take-replicate, length-replicate}
 use lib.Seq.{take-append-add}
 use Rattle.board_step.specs.Hardware.{Hardware}
-use Rattle.board_step.specs.Reset.{IsReset, reset_state}
+use Rattle.board_step.specs.Reset.{IsReset}
+use Rattle.board_step.specs.ResetState.{reset_state}
 use Rattle.board_step.specs.Run.{Run}
-use Rattle.board_step.specs.State.{State}
+use Rattle.board_step.specs.State.{BoardView}
 use Rattle.board_step.specs.declared.env.Env.{Env}
 use Rattle.board_step.specs.declared.event.Event.{Event}
 use Rattle.certificate.specs.Pieces.{OfBytes}
-use Rattle.run_lines.specs.Follows.{HasTold, Passes}
+use Rattle.run_lines.specs.Follows.{HasTold, RunsFrom}
 use Rattle.run_lines.specs.Told.{TellsUpTo}
 use Rattle.run_lines.specs.declared.teller.Teller.{Teller}
 use Rattle.texts.specs.Device.{DeviceState, GivesBytes}
@@ -21,7 +22,7 @@ use Rattle.runner.specs.Input.{IsResetLine, IsEnvLine, reset_of, reset_text, env
 use Rattle.runner.specs.Leads.{LeadsTo, time_of}
 use Rattle.runner.specs.Machine.{IsOver, RunsTo, Summarizes}
 use Rattle.runner.specs.Player.{PlaysEvents}
-use Rattle.runner.specs.Playing.{BeginsWithNo, IsBadLine, Played, TakesEnv, TakesReset, ToldOver, envs_of, text_of}
+use Rattle.runner.specs.Playing.{BeginsWithNo, IsBadLine, Played, TakesEnv, TakesReset, ToldOver, envs_of, env_lines_text}
 use Rattle.runner.specs.declared.input.EnvLine.{EnvLine}
 use Rattle.runner.specs.declared.input.ResetLine.{ResetLine}
 use Rattle.runner.specs.declared.machine.Summary.{Summary}
@@ -30,13 +31,13 @@ use Rattle.runner.proofs.FeedLemmas.{none_in_line}
 use Rattle.runner.proofs.LeadsLemmas.{leads_both, one_each, run_of, runs_to, time_of-append}
 use Rattle.runner.proofs.InputLemmas.{no_feed_env, env_some}
 
--- a play under way: what was taken off the input, the run over its lines so far, and what was told of it
+-- a play so far: what was read of the input, the run over its lines, and the lines of the run
 pub record Sofar (hardware : Hardware) (steps : ℕ) (old now : Option (List ℕ)) (number left : ℕ) (player : Player) (told : List ℕ) : Type 0 where
   pub reset : ResetLine
   pub reset_form : IsResetLine reset
   pub lines : List EnvLine
   pub lines_form : AllByRecursion IsEnvLine lines
-  pub given : GivesBytes old (reset_text reset ++ 10 ∷ text_of lines) now
+  pub given : GivesBytes old (reset_text reset ++ 10 ∷ env_lines_text lines) now
   pub number_is : number ≡ length lines + 1
   pub starts : IsReset (reset_state (reset_of reset))
   pub events : List Event
@@ -68,15 +69,15 @@ sofar_start hardware steps old now reset player takes state starts events time h
       covered = omega arith;
       counted = events;
       timed = time;
-      has = subst (λ (s : State). HasTold hardware start (take steps []) [] s player.teller) (sym state) (subst (λ (envs : List Env). HasTold hardware start envs [] start player.teller) none has);
+      has = subst (λ (s : BoardView). HasTold hardware start (take steps []) [] s player.teller) (sym state) (subst (λ (envs : List Env). HasTold hardware start envs [] start player.teller) none has);
     }
 
 pub all_form : (lines : List EnvLine) (line : EnvLine) → AllByRecursion IsEnvLine lines → IsEnvLine line → AllByRecursion IsEnvLine (lines ++ line ∷ [])
 all_form [] line all form = (form, tt)
 all_form (l ∷ lines) line all form = (all.0, all_form lines line all.1 form)
 
-pub text_push : (lines : List EnvLine) (line : EnvLine) → text_of (lines ++ line ∷ []) ≡ text_of lines ++ (env_text line ++ 10 ∷ [])
-text_push lines line = flat_map-append (λ (l : EnvLine). env_text l ++ 10 ∷ []) lines (line ∷ []) ∙ ap (λ (t : List ℕ). text_of lines ++ t) (append-nil _)
+pub text_push : (lines : List EnvLine) (line : EnvLine) → env_lines_text (lines ++ line ∷ []) ≡ env_lines_text lines ++ (env_text line ++ 10 ∷ [])
+text_push lines line = flat_map-append (λ (l : EnvLine). env_text l ++ 10 ∷ []) lines (line ∷ []) ∙ ap (λ (t : List ℕ). env_lines_text lines ++ t) (append-nil _)
 
 pub envs_push : (lines : List EnvLine) (line : EnvLine) → envs_of (lines ++ line ∷ []) ≡ envs_of lines ++ replicate line.count (env_of line)
 envs_push lines line = flat_map-append (λ (l : EnvLine). replicate l.count (env_of l)) lines (line ∷ []) ∙ ap (λ (es : List Env). envs_of lines ++ es) (append-nil _)
@@ -92,7 +93,7 @@ take_of_copies m n env =
           take-replicate m n env more ∙ ap (λ (k : ℕ). replicate k env) same
     ]
 
--- the environments of a line more, of which as many are taken as are left
+-- the environments of one more line, of which as many are taken as are left
 take_push : (steps left n : ℕ) (envs : List Env) (env : Env) → 0 < left → left ≡ steps - length envs → take steps (envs ++ replicate n env) ≡ take steps envs ++ replicate (min n left) env
 take_push steps left n envs env some is =
     let whole : steps ≡ length envs + left = omega (arith, some, is) in
@@ -101,7 +102,7 @@ take_push steps left n envs env some is =
     ∙ ap (λ (es : List Env). envs ++ es) (take_of_copies left n env)
     ∙ ap (λ (es : List Env). es ++ replicate (min n left) env) (sym (take_all steps envs (omega (arith, whole))))
 
--- a line more was read and its events done
+-- one more line was read, and its events were executed
 pub sofar_more : (hardware : Hardware) (steps : ℕ) (old : Option (List ℕ)) (mid now : DeviceState) (number left : ℕ) (player new : Player) (told more : List ℕ) (line : EnvLine) (count : ℕ) →
     Sofar hardware steps old mid.bytes number left player told → 0 < left → TakesEnv mid (Some line) now → count ≡ min line.count left → PlaysEvents hardware player (env_of line) count more new →
     Sofar hardware steps old now.bytes (number + 1) (left - count) new (told ++ more)
@@ -113,8 +114,8 @@ sofar_more hardware steps old mid now number left player new told more line coun
     ap (take steps) (envs_push far.lines line) ∙ take_push steps left line.count (envs_of far.lines) (env_of line) some far.covered
     ∙ ap (λ (k : ℕ). take steps (envs_of far.lines) ++ replicate k (env_of line)) (sym is) in
     let both = leads_both hardware start player.machine.state new.machine.state (take steps (envs_of far.lines)) copies far.events ran.events far.leads ran.leads in
-    let text : (reset_text far.reset ++ 10 ∷ text_of far.lines) ++ (env_text line ++ 10 ∷ []) ≡ reset_text far.reset ++ 10 ∷ text_of (far.lines ++ line ∷ []) =
-    append_assoc (reset_text far.reset) (10 ∷ text_of far.lines) (env_text line ++ 10 ∷ []) ∙ ap (λ (rest : List ℕ). reset_text far.reset ++ 10 ∷ rest) (sym (text_push far.lines line)) in
+    let text : (reset_text far.reset ++ 10 ∷ env_lines_text far.lines) ++ (env_text line ++ 10 ∷ []) ≡ reset_text far.reset ++ 10 ∷ env_lines_text (far.lines ++ line ∷ []) =
+    append_assoc (reset_text far.reset) (10 ∷ env_lines_text far.lines) (env_text line ++ 10 ∷ []) ∙ ap (λ (rest : List ℕ). reset_text far.reset ++ 10 ∷ rest) (sym (text_push far.lines line)) in
     let many : length ran.events ≡ count = one_each hardware player.machine.state new.machine.state copies ran.events ran.leads ∙ length-replicate count (env_of line) in
     let event_count = plays.events in
     let spent = plays.time in
@@ -135,23 +136,23 @@ sofar_more hardware steps old mid now number left player new told more line coun
       has = subst (λ (es : List Env). HasTold hardware start es (told ++ more) new.machine.state new.teller) (sym envs) (plays.more start (take steps (envs_of far.lines)) told far.starts far.has);
     }
 
--- ---- what is told
+-- ---- the lines
 
-passes_over : (hardware : Hardware) (run : Run hardware) (start last : State) (envs : List Env) → IsOver run start envs last → Passes run start envs
+passes_over : (hardware : Hardware) (run : Run hardware) (start last : BoardView) (envs : List Env) → IsOver run start envs last → RunsFrom run start envs
 passes_over hardware run start last envs over = let many = over.count in record { starts = over.starts; count = omega arith; envs_are = over.envs_are }
 
-pub told_of_run : (hardware : Hardware) (run : Run hardware) (start last : State) (envs : List Env) (told : List ℕ) (s : State) (teller : Teller) → HasTold hardware start envs told s teller → IsOver run start envs last → TellsUpTo run run.count told
+pub told_of_run : (hardware : Hardware) (run : Run hardware) (start last : BoardView) (envs : List Env) (told : List ℕ) (s : BoardView) (teller : Teller) → HasTold hardware start envs told s teller → IsOver run start envs last → TellsUpTo run run.count told
 told_of_run hardware run start last envs told s teller has over =
     subst (λ (n : ℕ). TellsUpTo run n told) (sym over.count) (has.on run (passes_over hardware run start last envs over)).told
 
-told_over : (hardware : Hardware) (start last : State) (envs : List Env) (events : List Event) (told : List ℕ) (teller : Teller) → LeadsTo hardware start envs events last → HasTold hardware start envs told last teller → ToldOver hardware start envs told
+told_over : (hardware : Hardware) (start last : BoardView) (envs : List Env) (events : List Event) (told : List ℕ) (teller : Teller) → LeadsTo hardware start envs events last → HasTold hardware start envs told last teller → ToldOver hardware start envs told
 told_over hardware start last envs events told teller leads has =
     let r = run_of hardware start last envs events leads in
     record { run = r.run; last = last; over = r.over; told_is = told_of_run hardware r.run start last envs told last teller has r.over }
 
 -- ---- where a play ends
 
--- the play ends at the end of the input or where no event is left
+-- the play ends at the end of the input, or where no event is left
 pub sofar_ends : (hardware : Hardware) (steps : ℕ) (old now : Option (List ℕ)) (number left : ℕ) (player : Player) (told : List ℕ) (summary : Summary) → Sofar hardware steps old now number left player told →
     IfSome now (λ bytes. bytes ≡ []) ⊎ (left ≡ 0) → Summarizes player.teller.events player.teller.time player.machine.state summary → OfBytes old (Played hardware steps summary told)
 sofar_ends hardware steps old now number left player told summary far ends sums = by old now far.given ends
@@ -160,7 +161,7 @@ sofar_ends hardware steps old now number left player told summary far ends sums 
     runs = runs_to hardware (reset_state (reset_of far.reset)) (take steps (envs_of far.lines)) far.events player.machine.state summary far.leads
         (subst (λ (n : ℕ). Summarizes n (time_of far.events) player.machine.state summary) far.counted (subst (λ (t : ℕ). Summarizes player.teller.events t player.machine.state summary) far.timed sums))
 
-    played : (rest bytes : List ℕ) → bytes ≡ (reset_text far.reset ++ 10 ∷ text_of far.lines) ++ rest → (rest ≡ []) ⊎ (steps ≤ length (envs_of far.lines)) → Played hardware steps summary told bytes
+    played : (rest bytes : List ℕ) → bytes ≡ (reset_text far.reset ++ 10 ∷ env_lines_text far.lines) ++ rest → (rest ≡ []) ⊎ (steps ≤ length (envs_of far.lines)) → Played hardware steps summary told bytes
     played rest bytes parts enough = record {
       reset = far.reset;
       lines = far.lines;
@@ -172,14 +173,14 @@ sofar_ends hardware steps old now number left player told summary far ends sums 
       told_is = told_of_run hardware runs.run (reset_state (reset_of far.reset)) player.machine.state (take steps (envs_of far.lines)) told player.machine.state player.teller far.has runs.over;
     }
 
-    by : (old now : Option (List ℕ)) → GivesBytes old (reset_text far.reset ++ 10 ∷ text_of far.lines) now → IfSome now (λ bytes. bytes ≡ []) ⊎ (left ≡ 0) → OfBytes old (Played hardware steps summary told)
-    by None now given ends = ((reset_text far.reset ++ 10 ∷ text_of far.lines) ++ [], played [] _ refl (inl refl))
+    by : (old now : Option (List ℕ)) → GivesBytes old (reset_text far.reset ++ 10 ∷ env_lines_text far.lines) now → IfSome now (λ bytes. bytes ≡ []) ⊎ (left ≡ 0) → OfBytes old (Played hardware steps summary told)
+    by None now given ends = ((reset_text far.reset ++ 10 ∷ env_lines_text far.lines) ++ [], played [] _ refl (inl refl))
     by (Some bytes) now (rest, rest_is, parts) ends = played rest bytes parts (elim ends [
       | inl empty ↦ inl (subst (λ (o : Option (List ℕ)). IfSome o (λ bytes. bytes ≡ [])) rest_is empty)
       | inr none ↦ inr (omega (arith, none, far.covered))
     ])
 
--- a line feed alone is no line of environments
+-- a single line feed is no line of environments
 no_env_at_feed : BeginsWithNo env_text IsEnvLine (10 ∷ [])
 no_env_at_feed = none_in_line env_text IsEnvLine no_feed_env (10 ∷ []) [] [] tt refl
     (λ line form e. absurd (omega (arith, env_some line form, ap length e)))
@@ -196,7 +197,7 @@ sofar_bad hardware steps old now number left player told n far some is left_some
     over = subst (λ (envs : List Env). ToldOver hardware (reset_state (reset_of far.reset)) envs told) whole
         (told_over hardware (reset_state (reset_of far.reset)) player.machine.state (take steps (envs_of far.lines)) far.events told player.teller far.leads far.has)
 
-    later : (rest bytes : List ℕ) → bytes ≡ (reset_text far.reset ++ 10 ∷ text_of far.lines) ++ rest → rest ≢ [] → BeginsWithNo env_text IsEnvLine rest → IsBadLine hardware steps n told bytes
+    later : (rest bytes : List ℕ) → bytes ≡ (reset_text far.reset ++ 10 ∷ env_lines_text far.lines) ++ rest → rest ≢ [] → BeginsWithNo env_text IsEnvLine rest → IsBadLine hardware steps n told bytes
     later rest bytes parts some_left bad = inr record {
       reset = far.reset;
       lines = far.lines;
@@ -209,7 +210,7 @@ sofar_bad hardware steps old now number left player told n far some is left_some
       told_is = over;
     }
 
-    by : (old now : Option (List ℕ)) → GivesBytes old (reset_text far.reset ++ 10 ∷ text_of far.lines) now → IfSome now (λ bytes. bytes ≢ []) → IfSome now (BeginsWithNo env_text IsEnvLine) → OfBytes old (IsBadLine hardware steps n told)
+    by : (old now : Option (List ℕ)) → GivesBytes old (reset_text far.reset ++ 10 ∷ env_lines_text far.lines) now → IfSome now (λ bytes. bytes ≢ []) → IfSome now (BeginsWithNo env_text IsEnvLine) → OfBytes old (IsBadLine hardware steps n told)
     by None now given left_some bad = (_, later (10 ∷ []) _ refl (λ e. absurd (omega (arith, ap length e))) no_env_at_feed)
     by (Some bytes) now (rest, rest_is, parts) left_some bad =
         later rest bytes parts (subst (λ (o : Option (List ℕ)). IfSome o (λ bytes. bytes ≢ [])) rest_is left_some) (subst (λ (o : Option (List ℕ)). IfSome o (BeginsWithNo env_text IsEnvLine)) rest_is bad)

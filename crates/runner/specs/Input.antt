@@ -7,12 +7,12 @@ use Rattle.board_step.specs.declared.env.Env.{Env}
 use Rattle.texts.specs.Numbers.{IsByte, flag_digit, hex2}
 use Rattle.runner.specs.declared.input.EnvLine.{EnvLine}
 use Rattle.runner.specs.declared.input.ResetLine.{ResetLine}
-use Rattle.frame_times.specs.Frame.{frame}
+use Rattle.t_states.specs.Frame.{frame}
 use Rattle.z80_alu.specs.Word.{word_of}
 use Rattle.z80_alu.specs.declared.regs.RegisterSet.{RegisterSet}
 use Rattle.z80_alu.specs.declared.regs.Regs.{Regs}
 
--- the fields of an input's first line (docs/PROGRAM.md, "INPUT"), and the line without its LF
+-- the fields of an input's first line, and the line without its line feed (docs/PROGRAM.md, "INPUT")
 abbrev pub reset_fields : ResetLine → List (List ℕ)
 reset_fields line = codes "reset" ∷ decimal line.phase ∷ hex2 line.fill ∷ []
 
@@ -24,14 +24,14 @@ pub record IsResetLine (line : ResetLine) : Type 0 where
   pub fill : IsByte line.fill
 
 -- a register set whose bytes are all the same
-abbrev pub set_of : ℕ → RegisterSet
-set_of fill = record { a = fill; f = fill; b = fill; c = fill; d = fill; e = fill; h = fill; l = fill }
+abbrev pub filled_set : ℕ → RegisterSet
+filled_set fill = record { a = fill; f = fill; b = fill; c = fill; d = fill; e = fill; h = fill; l = fill }
 
--- registers whose bytes are all the same, but for those that a reset clears
+-- registers after a reset: each byte that a reset leaves open is this one
 abbrev pub regs_of : ℕ → Regs
 regs_of fill = record {
-  main = set_of fill;
-  alternate = set_of fill;
+  main = filled_set fill;
+  alternate = filled_set fill;
   ix = word_of fill fill;
   iy = word_of fill fill;
   sp = word_of fill fill;
@@ -42,7 +42,7 @@ regs_of fill = record {
   iff2 = false;
 }
 
--- the values that a reset leaves open, as the first line of an input tells them
+-- the values that a reset leaves open, as the first line of an input gives them
 abbrev pub reset_of : ResetLine → Reset
 reset_of line = record {
   work = replicate 1024 line.fill;
@@ -52,7 +52,7 @@ reset_of line = record {
   phase = line.phase;
 }
 
--- the fields of any other line, and the line without its LF
+-- the fields of any other line, and the line without its line feed
 abbrev pub env_fields : EnvLine → List (List ℕ)
 env_fields line =
     decimal line.count ∷ hex2 line.inputs.in0 ∷ hex2 line.inputs.in1 ∷ hex2 line.inputs.in2 ∷ hex2 line.inputs.bus ∷ hex2 line.noise ∷ hex2 line.r ∷ flag_digit line.latch ∷ []
@@ -70,6 +70,6 @@ pub record IsEnvLine (line : EnvLine) : Type 0 where
   pub noise : IsByte line.noise
   pub r : IsByte line.r
 
--- the environment of each event that a line stands for: both reads of an event find the same inputs
+-- the environment of each event of a line: both reads of an event find the same inputs
 abbrev pub env_of : EnvLine → Env
 env_of line = record { inputs = line.inputs ∷ line.inputs ∷ []; noise = line.noise; r = line.r; latch = line.latch }

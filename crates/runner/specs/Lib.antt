@@ -1,4 +1,4 @@
--- The definitions of runs of accepted ROMs, and of the texts that tell of them.
+-- Definitions of runs of accepted ROMs, and of the texts that report them.
 pub mod Input
 pub mod Leads
 pub mod Machine
@@ -7,5 +7,5 @@ pub mod Player
 pub mod Playing
 pub mod Stretch
 pub mod Turns
--- passed on from below
+-- Definitions of lower crates, passed on.
 pub use Rattle.cert_checker.specs.Certified

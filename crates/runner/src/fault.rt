@@ -5,7 +5,7 @@ use thiserror::Error;
 /// Why a play ended before its summary.
 #[derive(Clone, Copy, Debug, Error, PartialEq, Eq)]
 pub enum PlayFault {
-    /// A line of the input that was needed is not in form; lines count from 1.
+    /// A needed line of the input is out of form; lines count from 1.
     #[error("bad input line {0}")]
     Line(u64),
     /// The input failed.

@@ -5,31 +5,31 @@ ghost use Rattle.texts.specs.Numbers.{Reads};
 ghost use Rattle.runner.specs.Input.{IsResetLine, IsEnvLine, reset_fields, reset_text, reset_of, regs_of, env_fields, env_text, env_of};
 
 use board_step::{Env, Inputs, Reset};
-use frame_times::FRAME;
+use t_states::FRAME;
 use texts::{Fields, decimal_between, flag_field, hex2_field};
 use z80_alu::{RegisterSet, Regs, Word};
 
 /// The longest line of an input, without its line feed.
 pub(crate) const LINE_LEN: usize = 30;
 
-/// The first line of an input, `reset PHASE FILL`.
+/// The first line of an input, `reset PHASE FILL` (docs/PROGRAM.md, "INPUT").
 #[derive(Clone, Copy)]
 pub struct ResetLine {
     /// The T-states since the last vertical blank began, 0 to 50,687.
     pub phase: u32,
-    /// The byte of every RAM cell and of every register byte that a reset leaves open.
+    /// The byte of each RAM cell, and of each register byte that a reset leaves open.
     pub fill: u8,
 }
 
 impl ResetLine {
-    /// The line that has this text, which comes without its LF.
+    /// The line with this text, which is given without its line feed; None if the text is out of form.
     pub fn of(text: &[u8]) -> Option<ResetLine>
         ensures { Reads reset_text IsResetLine text.now result }
     {
         reset_line(Fields::of(text))
     }
 
-    /// The values that a reset leaves open, as the line tells them.
+    /// The values that a reset leaves open, as the line gives them.
     pub fn reset(self) -> Reset
         ensures { result ≡ reset_of self }
     {
@@ -44,7 +44,7 @@ impl ResetLine {
     }
 }
 
-/// The registers of a reset whose bytes are all the same, but for those that a reset clears.
+/// Registers after a reset: each byte that a reset leaves open is this one.
 fn filled_regs(fill: u8) -> Regs
     ensures { result ≡ regs_of fill }
 {
@@ -92,13 +92,13 @@ fn reset_line(mut fields: Fields) -> Option<ResetLine>
     }
 }
 
-/// Another line of an input, `N IN0 IN1 IN2 OPEN NOISE R L`: an environment, and for how many events it
-/// stands.
+/// Any other line of an input, `N IN0 IN1 IN2 OPEN NOISE R L`: the environment of a number of events (docs/PROGRAM.md,
+/// "INPUT").
 #[derive(Clone, Copy)]
 pub struct EnvLine {
     /// The number of events, at least 1.
     pub count: u32,
-    /// What both reads of an event find.
+    /// The inputs of both reads of an event.
     pub inputs: Inputs,
     pub noise: u8,
     pub r: u8,
@@ -106,14 +106,14 @@ pub struct EnvLine {
 }
 
 impl EnvLine {
-    /// The line that has this text, which comes without its LF.
+    /// The line with this text, which is given without its line feed; None if the text is out of form.
     pub fn of(text: &[u8]) -> Option<EnvLine>
         ensures { Reads env_text IsEnvLine text.now result }
     {
         env_line(Fields::of(text))
     }
 
-    /// The environment of each of its events.
+    /// The environment of each of these events.
     pub fn env(self) -> Env
         ensures { result ≡ env_of self }
     {

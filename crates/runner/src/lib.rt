@@ -1,5 +1,4 @@
-// The runner: a machine that runs accepted ROMs with no test for a trap, and plays of an input's text
-// (docs/PROGRAM.md).
+// The runner: a machine that runs accepted ROMs without a test for a trap, and plays of an input (docs/PROGRAM.md).
 #![tactic(auto)]
 
 mod fault;

@@ -19,7 +19,7 @@ pub fn summary_lines(summary: &Summary) -> MadeLine
     lines
 }
 
-/// Adds the line of a summary's events, T-states, program counter and stack pointer.
+/// Adds the line of the events, T-states, program counter and stack pointer.
 fn add_done(lines: &mut MadeLine, summary: &Summary)
     requires { length lines.old + 95 ≤ MADE_LEN }
     ensures value { lines.new ≡ lines.old ++ done_line summary.now }
@@ -33,7 +33,7 @@ fn add_done(lines: &mut MadeLine, summary: &Summary)
     lines.add_byte(b'\n');
 }
 
-/// Adds the line of a summary's register pairs.
+/// Adds the line of the register pairs.
 fn add_regs(lines: &mut MadeLine, pairs: &[u16; 6])
     requires { length lines.old + 35 ≤ MADE_LEN }
     ensures value { lines.new ≡ lines.old ++ regs_line pairs.now }
@@ -50,7 +50,7 @@ fn add_regs(lines: &mut MadeLine, pairs: &[u16; 6])
     lines.add_byte(b'\n');
 }
 
-/// Adds the line of a summary's sums.
+/// Adds the line of the sums.
 fn add_sums(lines: &mut MadeLine, sums: &[u32; 3])
     requires { length lines.old + 124 ≤ MADE_LEN }
     ensures value { lines.new ≡ lines.old ++ sum_line sums.now }

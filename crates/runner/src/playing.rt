@@ -1,9 +1,9 @@
-// Plays of an input's text.
+// Plays of an input.
 
 ghost use Rattle.std.specs.Prelude.{◌≢◌, ◌≡◌};
 ghost use Rattle.cert_checker.specs.Certified.{hardware_on};
-ghost use Rattle.runner.specs.Playing.{HasNoEnv, HasNoReset, Plays, PlaysInput, ReadsLine, TakesEnv, TakesReset};
-ghost use Rattle.texts.specs.Incoming.{EndsWell, left_of};
+ghost use Rattle.runner.specs.Playing.{HasNoEnv, HasNoReset, LONGEST, Plays, PlaysInput, ReadsInputLine, TakesEnv, TakesReset};
+ghost use Rattle.texts.specs.Incoming.{EndsWell, FailsAmidLine, unread_of};
 
 use crate::fault::PlayFault;
 use crate::input::{EnvLine, LINE_LEN, ResetLine};
@@ -14,22 +14,24 @@ use arrayvec::ArrayVec;
 use cert_checker::Accepted;
 use texts::{DeviceFault, Incoming, LineEnd, Sink, Source, put};
 
-/// Plays an input (docs/PROGRAM.md, "INPUT") on an accepted ROM for at most this many events, and writes the lines of its NMI
-/// routines as they come and its summary at the end ("A run's lines"). A line of the input is read and judged only when its events
-/// are needed; the first line is always needed.
+/// Plays an input (docs/PROGRAM.md, "INPUT") on an accepted ROM for at most `steps` events. The lines of its NMI
+/// routines are written as they come, and the summary at the end ("A run's lines"). A line of the input is read and
+/// judged only when its events are needed; the first line is always needed.
 ///
 /// # Errors
 ///
-/// `Line` is the first needed line that is out of form, counted from 1; what is told of the events before it was written. `Read` and
-/// `Write` come only where the device failed; what was written before a fault begins the text of each input that begins with the bytes
-/// that were read.
+/// `Line` has the number, counted from 1, of the first needed line that is out of form; the lines of the events before
+/// it were written. `Read` and `Write` come only where that device failed. What was written then is a prefix of the
+/// text of each input that begins with the bytes that the input gave by then. After `Read` these bytes end inside a
+/// needed line, before its line feed and its 31st byte: the input is asked for nothing beyond a needed line.
 pub fn play<R: Source, W: Sink>(
     accepted: &Accepted,
     steps: u32,
     input: &mut R,
     out: &mut W,
 ) -> Result<Summary, PlayFault>
-    ensures { Plays (hardware_on accepted.now) steps (R.state input.old) (R.state input.new) result (W.state out.old) (W.state out.new) }
+    ensures { Plays (hardware_on accepted.now) steps (R.state input.old) (R.state input.new) result
+        (W.state out.old) (W.state out.new) }
 {
     let summary = match play_input(accepted, steps, input, out) {
         Ok(summary) => summary,
@@ -41,14 +43,15 @@ pub fn play<R: Source, W: Sink>(
     }
 }
 
-/// Plays an input, and writes what is told of its run, without the summary.
+/// Plays an input and writes the lines of its events, without the summary.
 fn play_input<R: Source, W: Sink>(
     accepted: &Accepted,
     steps: u32,
     input: &mut R,
     out: &mut W,
 ) -> Result<Summary, PlayFault>
-    ensures { PlaysInput (hardware_on accepted.now) steps (R.state input.old) (R.state input.new) result (W.state out.old) (W.state out.new) }
+    ensures { PlaysInput (hardware_on accepted.now) steps (R.state input.old) (R.state input.new)
+        result (W.state out.old) (W.state out.new) }
 {
     let mut incoming = Incoming::new();
     let reset = first_line(&mut incoming, input)?;
@@ -72,8 +75,13 @@ fn play_input<R: Source, W: Sink>(
 
 /// The first line of an input.
 fn first_line<R: Source>(incoming: &mut Incoming, input: &mut R) -> Result<ResetLine, PlayFault>
-    ensures line { ReadsLine TakesReset HasNoReset 1 (left_of incoming.old (R.state input.old)) result (left_of incoming.new (R.state input.new)) }
-    ensures at_end { result ≢ Err PlayFault.Read → EndsWell incoming.old (R.state input.old) → EndsWell incoming.new (R.state input.new) }
+    ensures line { ReadsInputLine TakesReset HasNoReset 1
+        (unread_of incoming.old (R.state input.old)) result
+        (unread_of incoming.new (R.state input.new)) }
+    ensures at_end { result ≢ Err PlayFault.Read → EndsWell incoming.old (R.state input.old)
+        → EndsWell incoming.new (R.state input.new) }
+    ensures amid { result ≡ Err PlayFault.Read
+        → FailsAmidLine LONGEST (unread_of incoming.old (R.state input.old)) (R.state input.new) }
 {
     let mut text = ArrayVec::<u8, LINE_LEN>::new();
     match incoming.next_line(input, &mut text) {
@@ -87,14 +95,19 @@ fn first_line<R: Source>(incoming: &mut Incoming, input: &mut R) -> Result<Reset
     }
 }
 
-/// The next line of environments, which has this number, or None at the end of the input.
+/// The next line, by its number; None at the end of the input.
 fn next_env<R: Source>(
     incoming: &mut Incoming,
     number: u64,
     input: &mut R,
 ) -> Result<Option<EnvLine>, PlayFault>
-    ensures line { ReadsLine TakesEnv HasNoEnv number (left_of incoming.old (R.state input.old)) result (left_of incoming.new (R.state input.new)) }
-    ensures at_end { result ≢ Err PlayFault.Read → EndsWell incoming.old (R.state input.old) → EndsWell incoming.new (R.state input.new) }
+    ensures line { ReadsInputLine TakesEnv HasNoEnv number
+        (unread_of incoming.old (R.state input.old)) result
+        (unread_of incoming.new (R.state input.new)) }
+    ensures at_end { result ≢ Err PlayFault.Read → EndsWell incoming.old (R.state input.old)
+        → EndsWell incoming.new (R.state input.new) }
+    ensures amid { result ≡ Err PlayFault.Read
+        → FailsAmidLine LONGEST (unread_of incoming.old (R.state input.old)) (R.state input.new) }
 {
     let mut text = ArrayVec::<u8, LINE_LEN>::new();
     match incoming.next_line(input, &mut text) {

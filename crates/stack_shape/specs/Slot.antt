@@ -8,11 +8,11 @@ use Rattle.intervals.specs.Pair.{HoldsPair, CoversPair, MeetsPair, hull_of_pairs
 abbrev pub HoldsSlot : Slot → Entry → ℕ → Type 0
 HoldsSlot slot entry word = HoldsPair slot.pair entry word
 
--- the pair of the first covers that of the second
+-- the pair of the first covers the pair of the second
 abbrev pub CoversSlot : Slot → Slot → Type 0
 CoversSlot a b = CoversPair a.pair b.pair
 
--- range by range, the two pairs share a value
+-- the ranges of the two pairs share a value each
 abbrev pub MeetsSlot : Slot → Slot → Type 0
 MeetsSlot a b = MeetsPair a.pair b.pair
 

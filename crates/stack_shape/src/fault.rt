@@ -1,13 +1,13 @@
-// The faults of changes of a shape.
+// Faults of changes to a shape.
 use thiserror::Error;
 
-/// Why a shape could not be changed.
+/// Why a change to a shape was refused. The shape is as it was.
 #[derive(Clone, Copy, Debug, Error, PartialEq, Eq)]
 pub enum ShapeFault {
-    /// There are 64 slots already.
+    /// A push at 64 slots.
     #[error("the stack has 64 words already")]
     Full,
-    /// There is no slot.
+    /// A pop or an exchange at 0 slots.
     #[error("the stack has no word")]
     Empty,
 }

@@ -9,7 +9,7 @@ use intervals::Domain;
 use std::alloc::AllocError;
 use std::marker::Model;
 
-/// How many slots a shape has at most.
+/// The greatest number of slots in a shape.
 pub const SLOTS: usize = 64;
 
 const _: () = prove!(SLOTS == 64);
@@ -39,7 +39,7 @@ impl Clone for Shape {
 
     ghost is_infallible = { λ _. ⊤ };
 
-    /// The same shape again. It takes no memory, and never fails.
+    /// A copy. It takes no memory and never fails.
     fn clone(&self) -> Result<Shape, AllocError> {
         Ok(self.copied())
     }
@@ -50,7 +50,7 @@ impl Shape {
     ghost use Rattle.stack_shape.specs.Slot.{HoldsSlot};
     ghost use Rattle.stack_shape.specs.Shape.{HoldsShape, CoversShape, MeetsShape, hull_of_shapes};
 
-    /// The shape without words, which an activation begins with.
+    /// The shape without slots, with which an activation begins.
     pub fn empty() -> Shape
         ensures { result ≡ [] }
     {
@@ -59,7 +59,7 @@ impl Shape {
         }
     }
 
-    /// The same shape again. It takes no memory.
+    /// A copy. It takes no memory.
     pub fn copied(&self) -> Shape
         ensures { result ≡ self.now }
     {
@@ -68,7 +68,7 @@ impl Shape {
         Shape { slots }
     }
 
-    /// The slots, first pushed first, 0 to 64.
+    /// The slots, first pushed first, at most 64.
     pub fn slots(&self) -> &[Slot]
         ensures value { result.now ≡ self.now }
         ensures within { length result.now ≤ 64 }
@@ -76,7 +76,7 @@ impl Shape {
         self.slots.as_slice()
     }
 
-    /// How many slots there are, 0 to 64.
+    /// The number of slots, 0 to 64.
     pub fn len(&self) -> usize
         ensures value { result ≡ length self.now }
         ensures within { result ≤ 64 }
@@ -84,14 +84,13 @@ impl Shape {
         self.slots.len()
     }
 
-    /// Whether there is no slot.
     pub fn is_empty(&self) -> bool
         ensures { IsTrue result ↔ (self.now ≡ []) }
     {
         self.slots.is_empty()
     }
 
-    /// How many bytes the words take on the stack, 0 to 128.
+    /// The bytes that the words take on the stack, 0 to 128.
     pub fn bytes(&self) -> u16
         ensures value { result ≡ 2 * length self.now }
         ensures within { result ≤ 128 }
@@ -99,7 +98,7 @@ impl Shape {
         self.len() as u16 * 2
     }
 
-    /// The slot that was pushed last, or None where there is none.
+    /// The slot that was pushed last, or None for an empty shape.
     pub fn top(&self) -> Option<Slot>
         ensures none { IsNone result ↔ (self.now ≡ []) }
         ensures last { IfSome result (λ top. (below : List Slot) × (self.now ≡ below ++ top ∷ [])) }
@@ -107,7 +106,7 @@ impl Shape {
         self.slots.last().copied()
     }
 
-    /// Pushes a slot. At 64 slots it is Full, and the shape stays as it was.
+    /// Pushes a slot. Err(Full) at 64 slots, with the shape unchanged.
     pub fn push(&mut self, slot: Slot) -> Result<(), ShapeFault>
         ensures ok { IsOk result ↔ (length self.old < 64) }
         ensures pushed { OnOk result (self.new ≡ self.old ++ slot ∷ []) }
@@ -120,7 +119,7 @@ impl Shape {
         self.slots.try_push(slot).map_err(|_| ShapeFault::Full)
     }
 
-    /// Pops the slot that was pushed last, and gives it. At 0 slots it is Empty, and the shape stays as it was.
+    /// Pops the slot that was pushed last and returns it. Err(Empty) at 0 slots, with the shape unchanged.
     pub fn pop(&mut self) -> Result<Slot, ShapeFault>
         ensures ok { IsOk result ↔ (0 < length self.old) }
         ensures popped { IfOk result (λ top. self.old ≡ self.new ++ top ∷ []) }
@@ -133,8 +132,7 @@ impl Shape {
         self.slots.pop().ok_or(ShapeFault::Empty)
     }
 
-    /// Puts a slot in the place of the one that was pushed last, and gives that one. At 0 slots it is Empty, and the
-    /// shape stays as it was.
+    /// Replaces the slot that was pushed last and returns it. Err(Empty) at 0 slots, with the shape unchanged.
     pub fn exchange(&mut self, slot: Slot) -> Result<Slot, ShapeFault>
         ensures ok { IsOk result ↔ (0 < length self.old) }
         ensures exchanged { IfOk result (λ top. (below : List Slot)
@@ -150,8 +148,8 @@ impl Shape {
         Ok(top)
     }
 
-    /// Puts a slot in the place of another, where place 0 has the slot that was pushed first, and gives the one that was
-    /// there. From the length on there is none: it is None, and the shape stays as it was.
+    /// Replaces the slot at `place` and returns it; place 0 is the slot that was pushed first. None if `place` is not
+    /// below the length, with the shape unchanged.
     pub fn replace(&mut self, place: usize, slot: Slot) -> Option<Slot>
         ensures some { IsSome result ↔ (place < length self.old) }
         ensures given { IfSome result (λ before. before ≡ slice_index_or self.old place slot) }
@@ -167,7 +165,7 @@ impl Shape {
         Some(before)
     }
 
-    /// Whether the shapes have one length and, place by place, the ranges of their slots share a value.
+    /// Whether the shapes have one length and their slots meet, place by place.
     pub fn meets(&self, other: &Shape) -> bool
         ensures { IsTrue result ↔ MeetsShape self.now other.now }
     {
@@ -175,8 +173,8 @@ impl Shape {
         mine.len() == theirs.len() && mine.iter().zip(theirs).all(|(a, b)| a.pair.meets(b.pair))
     }
 
-    /// Whether this shape covers the other one: they have one length, and each slot covers the other's slot in its
-    /// place. Covering is a preorder, and this shape then holds of all words that the other holds of.
+    /// Whether this shape covers the other: they have one length, and each slot covers the other's at its place.
+    /// Covering is a preorder. A shape that covers another holds of all words that the other holds of.
     pub fn covers(&self, other: &Shape) -> bool
         ensures exact { IsTrue result ↔ CoversShape self.now other.now }
         ensures reflexive { self.now ≡ other.now → IsTrue result }
@@ -189,11 +187,13 @@ impl Shape {
         mine.len() == theirs.len() && mine.iter().zip(theirs).all(|(a, b)| a.covers(b))
     }
 
-    /// The shape whose slots are the joins of the two shapes' slots, place by place, or None where their lengths differ.
-    /// It covers both, and holds of all words that either holds of.
+    /// The joins of the slots, place by place, or None if the lengths differ. The join covers both shapes, and holds of
+    /// all words that either holds of.
     pub fn join(&self, other: &Shape) -> Option<Shape>
-        ensures exact { SomeIff result (length self.now ≡ length other.now) (hull_of_shapes self.now other.now) }
-        ensures covers { IfSome result (λ both. CoversShape both self.now × CoversShape both other.now) }
+        ensures exact { SomeIff result (length self.now
+            ≡ length other.now) (hull_of_shapes self.now other.now) }
+        ensures covers { IfSome result (λ both. CoversShape both self.now
+            × CoversShape both other.now) }
         ensures holds { IfSome result (λ both. (entry : Entry) (words : List ℕ)
             → HoldsShape self.now entry words ⊎ HoldsShape other.now entry words → HoldsShape both entry words) }
     {

@@ -1,9 +1,9 @@
-// Slots: what is known of a word on the stack.
+// Slots: what is known of one word on the stack.
 ghost use Rattle.std.specs.Prelude.{◌≡◌};
 
 use intervals::{Domain, Pair};
 
-/// What is known of a word on the stack: the same as of a pair of registers.
+/// What is known of one word on the stack, as of a register pair.
 #[derive(Clone, Copy, PartialEq, Eq, Hash)]
 pub struct Slot {
     pub pair: Pair,
@@ -14,7 +14,7 @@ impl Default for Slot {
 
     ghost is_default = { λ s. s ≡ record { pair = full_pair } };
 
-    /// A word of which nothing is known.
+    /// A word about which nothing is known.
     fn default() -> Slot {
         Slot { pair: Pair::full() }
     }

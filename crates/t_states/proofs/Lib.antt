@@ -1,2 +1,2 @@
--- The lemmas: each cost is 4 to 23 T-states.
+-- The lemmas, lowest first.
 pub mod CostLemmas

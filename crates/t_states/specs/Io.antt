@@ -1,4 +1,4 @@
--- Trusted: the instructions that use a port.
+-- Trusted: the instructions of the I/O group.
 use Rattle.std.specs.Prelude.{Bool, true, false}
 use Rattle.z80_decode.specs.declared.instr.Instr.{Instr}
 use Rattle.z80_decode.specs.declared.instr.Instr.TheVariants.{InputImmediate, InputRegister, OutputImmediate, OutputRegister, BlockInput, BlockOutput}

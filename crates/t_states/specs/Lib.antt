@@ -1,3 +1,5 @@
--- The definitions: the T-states of instructions, and the use of ports.
+-- The definitions: the T-states of instructions and of a frame, and the use of ports.
 pub mod Costs
 pub mod Io
+pub mod Budget
+pub mod Frame

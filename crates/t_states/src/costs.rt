@@ -1,4 +1,4 @@
-// What each instruction costs in T-states.
+// The T-states of each instruction.
 ghost use Rattle.std.specs.Prelude.{◌≡◌, ◌≤◌, Bool};
 ghost use Rattle.z80_decode.specs.declared.instr.Instr.{Instr};
 ghost use Rattle.t_states.specs.Costs.{cost_of, by_memory, by_place, by_pair, by_stack_pair, by_pointer, by_address, by_direct, by_block};
@@ -7,12 +7,11 @@ use z80_decode::{
     Address, BlockKind, Direct, Instr, Memory, Operand, Place, Pointer, Register16, StackPair,
 };
 
-/// The T-states of an instruction, 4 to 23: the table in docs/INSTRUCTIONS.md, section "T-states"
-/// (UM0080, "Z80 Instruction Description").
+/// The T-states of an instruction, 4 to 23: the table of docs/INSTRUCTIONS.md, "T-states" (UM0080, "Z80 Instruction
+/// Description").
 ///
-/// Where an instruction has two costs, `taken` says which: that a conditional jump, call or return
-/// is taken, that DJNZ jumps, or that a repeating block instruction goes on. It is ignored where
-/// there is one cost, as at JP cc,nn.
+/// `taken` selects between two costs: a conditional jump, call or return is taken, DJNZ jumps, or a repeating block
+/// instruction repeats. Where there is one cost, as for JP cc,nn, it is ignored.
 pub fn cost(instr: &Instr, taken: bool) -> u8
     ensures exact { result ≡ cost_of instr.now taken }
     ensures least { 4 ≤ result }
@@ -80,7 +79,7 @@ pub fn cost(instr: &Instr, taken: bool) -> u8
     }
 }
 
-/// Each instruction costs 4 to 23 T-states, taken or not. A law: it does nothing when it is called.
+/// A law: each instruction takes 4 to 23 T-states, taken or not. A call does nothing.
 pub fn cost_range()
     ensures least { (instr : Instr) (taken : Bool) → 4 ≤ cost_of instr taken }
     ensures greatest { (instr : Instr) (taken : Bool) → cost_of instr taken ≤ 23 }

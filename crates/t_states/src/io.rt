@@ -1,11 +1,11 @@
-// The instructions that use a port.
+// Instructions of the I/O group.
 ghost use Rattle.std.specs.Prelude.{◌≡◌};
 ghost use Rattle.t_states.specs.Io.{is_io};
 
 use z80_decode::Instr;
 
-/// Whether the instruction reads or writes a port (UM0080, "Input and Output Group"): IN A,(n),
-/// IN r,(C), OUT (n),A, OUT (C),r, and the block instructions of input and output.
+/// Whether the instruction belongs to the I/O group (UM0080, "Input and Output Group"): IN A,(n), IN r,(C), OUT (n),A,
+/// OUT (C),r, and the block instructions of input and output.
 pub fn is_io(instr: &Instr) -> bool
     ensures { result ≡ is_io instr.now }
 {

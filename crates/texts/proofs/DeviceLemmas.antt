@@ -8,7 +8,7 @@ takes_bytes (Some old) b c xs ys p q =
     let after : TakesBytes (Some (old ++ xs)) ys c = subst (λ (o : Option (List ℕ)). TakesBytes o ys c) p q in
     after ∙ ap (λ (bytes : List ℕ). Some bytes) (append_assoc old xs ys)
 
--- two writes are one
+-- two writes in a row are one
 pub takes_both : (a b c : DeviceState) (xs ys : List ℕ) → Takes a xs b → Takes b ys c → Takes a (xs ++ ys) c
 takes_both a b c xs ys p q = record { taken = takes_bytes a.bytes b.bytes c.bytes xs ys p.taken q.taken; quiet = q.quiet ∙ p.quiet }
 
@@ -18,7 +18,7 @@ gives_bytes (Some old) b c xs ys (left, is, parts) q =
     let (last, ends, more) = subst (λ (o : Option (List ℕ)). GivesBytes o ys c) is q in
     (last, ends, parts ∙ ap (λ (bytes : List ℕ). xs ++ bytes) more ∙ sym (append_assoc xs ys last))
 
--- two reads are one
+-- two reads in a row are one
 pub gives_both : (a b c : DeviceState) (xs ys : List ℕ) → Gives a xs b → Gives b ys c → Gives a (xs ++ ys) c
 gives_both a b c xs ys p q = record { given = gives_bytes a.bytes b.bytes c.bytes xs ys p.given q.given; quiet = q.quiet ∙ p.quiet }
 
@@ -26,7 +26,7 @@ gives_no_bytes : (a : Option (List ℕ)) → GivesBytes a [] a
 gives_no_bytes None = tt
 gives_no_bytes (Some old) = (old, refl, refl)
 
--- where nothing was read, no byte was given
+-- if nothing was read, no byte was given
 pub gives_none : (a : DeviceState) → Gives a [] a
 gives_none a = record { given = gives_no_bytes a.bytes; quiet = refl }
 

@@ -27,7 +27,7 @@ cond_none : (b : Bool) (n : ℕ) → cond b (Some n) None ≡ None → b ≡ fal
 cond_none true n e = absurd (some_not_none n e)
 cond_none false n e = refl
 
--- where no byte passes, the text is the one part
+-- if no byte passes, the text is the only part
 pub slice_split_nowhere : (p : ℕ → Bool) (xs : List ℕ) → position p xs ≡ None → slice_split p xs ≡ xs ∷ []
 slice_split_nowhere p xs e =
     let past = ltb-false _ _ (cond_none _ _ e) in
@@ -40,7 +40,7 @@ slice_split_position p xs i e =
     let Parts : ℕ → Type 0 = λ n. slice_split p xs ≡ take n xs ∷ slice_split p (drop (n + 1) xs) in
     subst Parts found.1 (slice_split_first p xs 0 (ltb-true _ _ found.0))
 
--- and the byte stands between what is before it and what is behind it
+-- that byte is between the parts before and after it
 pub cut_position : (m : ℕ) (xs : List ℕ) (i : ℕ) → position (λ b. b == m) xs ≡ Some i → xs ≡ take i xs ++ m ∷ drop (i + 1) xs
 cut_position m xs i e =
     let found = cond_some _ _ _ e in
@@ -55,11 +55,11 @@ first_digit : (n : ℕ) → n < 2 ^ 32 → (n ≡ 0) ⊎ (48 < get_or (decimal n
 first_digit zero small = inl refl
 first_digit (suc n) small = inr (first_decimal (suc n) (omega arith) (omega arith))
 
--- a number's decimal has no sign
+-- a decimal has no sign
 decimal_plain : (n : ℕ) → n < 2 ^ 32 → get_or (decimal n) 0 0 ≢ 43
 decimal_plain n small e = elim (first_digit n small) [ inl z ↦ absurd (omega (arith, ap (λ ds. get_or ds 0 0) (ap decimal z ∙ decimal_digit 0 (lit< tt)))) | inr above ↦ absurd (omega arith) ]
 
--- nor a leading zero
+-- a decimal has no leading zero
 decimal_short : (n : ℕ) → n < 2 ^ 32 → get_or (decimal n) 0 0 ≡ 48 → length (decimal n) ≡ 1
 decimal_short n small e = elim (first_digit n small) [ inl z ↦ ap length (ap decimal z ∙ decimal_digit 0 (lit< tt)) | inr above ↦ absurd (omega arith) ]
 
@@ -67,7 +67,7 @@ decimal_short n small e = elim (first_digit n small) [ inl z ↦ ap length (ap d
 pub decimal_begins : (bs : List ℕ) (n : ℕ) → n < 2 ^ 32 → bs ≡ decimal n → BeginsDecimal bs
 decimal_begins bs n small e = subst BeginsDecimal (sym e) record { some = decimal_nonempty n (omega arith); no_sign = decimal_plain n small; no_leading_zero = decimal_short n small }
 
--- and is text
+-- each decimal is text
 pub decimal_is_text : (bs : List ℕ) (n : ℕ) → n < 2 ^ 32 → bs ≡ decimal n → IsUtf8 bs
 decimal_is_text bs n small e = subst IsUtf8 (sym e) (IsUtf8-from_ascii (decimal n) (IsAscii-decimal n (omega arith)))
 
@@ -77,7 +77,7 @@ err_not_ok e n same = cc
 own : IsNumeralModel (AllDigits 10) (digits_value 10)
 own = numerals_by_value _ tells_digits
 
--- what `parse` gives is the number whose decimal the text is, if it begins as one
+-- `parse` gives the number of a text that begins as a decimal
 pub decimal_from_parse : {E : Type 0} (bs : List ℕ) (r : Result ℕ E) → ParsesUnsigned 32 10 bs r → BeginsDecimal bs → Reads decimal (λ n. n < 2 ^ 32) bs (result_ok r)
 decimal_from_parse {E} bs (Ok n) h begins =
     let k = parse_plain own {E = E} 32 bs (Ok n) h begins.no_sign in
@@ -87,7 +87,7 @@ decimal_from_parse {E} bs (Ok n) h begins =
 decimal_from_parse bs (Err e) h begins = λ n small same.
     err_not_ok e n (parse-decimal 32 n bs (Err e) (omega arith) (omega arith) same h)
 
--- the one number that has this decimal is out of bounds
+-- the only number with this decimal is out of bounds
 pub out_of_bounds : (bs : List ℕ) (least most n : ℕ) → n < 2 ^ 32 → most < 2 ^ 32 → bs ≡ decimal n → ((least ≤ n) × (n ≤ most) → ⊥) → Reads decimal (λ m. (least ≤ m) × (m ≤ most)) bs None
 out_of_bounds bs least most n small bound is out = λ m within same.
     let one : m ≡ n = decimal_injective m n (omega (arith, within.1)) (omega arith) (sym same ∙ is) in
@@ -100,7 +100,7 @@ nothing_left mark None false fields e view = cc
 nothing_left mark (Some text) true fields e view = cc
 nothing_left mark (Some text) false fields e view = (λ t. cc, λ same. absurd (slice_split_some (λ b. b == mark) text.now (view ∙ same)))
 
--- a field that is another ends them
+-- a different field ends the repetition
 pub replicate_stops : (k count : ℕ) (word : List ℕ) (old now : List (List ℕ)) → k < count → old ≡ replicate k word ++ now → ((rest : List (List ℕ)) → now ≢ word ∷ rest) → (rest : List (List ℕ)) → old ≢ replicate count word ++ rest
 replicate_stops k count word old now below e other rest all =
     let left = count - (k + 1) in

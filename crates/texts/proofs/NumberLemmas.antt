@@ -1,4 +1,4 @@
--- Numbers as they are spelled: how long they are, and that no two are spelled alike.
+-- The spelling of numbers: lengths, and that no two numbers have the same.
 use Rattle.std.proofs.Common.{◌≡◌, ◌≤◌, ◌<◌, ◌+◌, ◌^◌, ◌/◌, ◌%◌, ℕ, [], ◌∷◌, length, refl, arith, length-append}
 use Rattle.std.specs.Fmt.{decimal}
 use Rattle.std.proofs.lemmas.Bool.Decides.{nat_tests}
@@ -23,11 +23,11 @@ length_decimal_32 n small = length-decimal-le 10 n (omega arith) (omega (arith, 
 pub length_decimal_128 : (n : ℕ) → n < 2 ^ 128 → length (decimal n) ≤ 39
 length_decimal_128 n small = length-decimal-le_wide 39 n (omega arith) (omega (arith, small)) (omega (arith, small))
 
--- no more digits than a number below a power of ten has
+-- no more digits than the power of ten above it says
 pub length_decimal_below : (digits n : ℕ) → 0 < digits → n < 10 ^ digits → n < 2 ^ 128 → length (decimal n) ≤ digits
 length_decimal_below digits n some below small = length-decimal-le_wide digits n some below (omega (arith, small))
 
--- and one at least
+-- at least one digit
 pub decimal_some : (n : ℕ) → n < 2 ^ 128 → 0 < length (decimal n)
 decimal_some n small =
     decimal_by_steps_wide (λ m digits. 0 < length digits) (λ m low. omega arith) (λ m digits high some. omega (arith, length-append digits ((48 + m % 10) ∷ []))) n (omega (arith, small))
@@ -41,7 +41,7 @@ quotient_of_byte n small = omega arith
 byte_from_digits : (m n : ℕ) → m / 16 ≡ n / 16 → m % 16 ≡ n % 16 → m ≡ n
 byte_from_digits m n a b = omega arith
 
--- two bytes with the same digits are one
+-- two bytes with the same digits are equal
 pub hex2_injective : (m n : ℕ) → IsByte m → IsByte n → hex2 m ≡ hex2 n → m ≡ n
 unfolding hex2
 hex2_injective m n small_m small_n same =
@@ -57,7 +57,7 @@ quotient_of_word n small = omega arith
 word_from_digits : (m n : ℕ) → m / 4096 ≡ n / 4096 → m / 256 % 16 ≡ n / 256 % 16 → m / 16 % 16 ≡ n / 16 % 16 → m % 16 ≡ n % 16 → m ≡ n
 word_from_digits m n a b c d = omega arith
 
--- two words with the same digits are one
+-- two words with the same digits are equal
 pub hex4_injective : (m n : ℕ) → IsWord m → IsWord n → hex4 m ≡ hex4 n → m ≡ n
 unfolding hex4
 hex4_injective m n small_m small_n same =

@@ -59,7 +59,7 @@ no_space : (field : List ℕ) → IsPlain field → AllByRecursion (λ b. (b == 
 no_space [] plain = tt
 no_space (b ∷ field) plain = (not_mark b 32 plain.0, no_space field plain.1)
 
--- fields are found again in the line that they make
+-- the fields of a joined line are the fields that were joined
 fields_in_join : (field : List ℕ) (fields : List (List ℕ)) → ArePlain (field ∷ fields) → fields_in (join_with_byte 32 (field ∷ fields)) ≡ field ∷ fields
 fields_in_join field [] plain = slice_split_none (λ b. b == 32) field (All-from_recursion _ field (no_space field plain.0))
 fields_in_join field (next ∷ fields) plain =
@@ -74,7 +74,7 @@ no_lf : (field : List ℕ) → IsPlain field → AllByRecursion (λ b. (b == 10)
 no_lf [] plain = tt
 no_lf (b ∷ field) plain = (not_mark b 10 (omega (arith, plain.0)), no_lf field plain.1)
 
--- and the line has no LF
+-- the joined line has no line feed
 pub no_lf_in_join : (fields : List (List ℕ)) → ArePlain fields → AllByRecursion (λ b. (b == 10) ≡ false) (join_with_byte 32 fields)
 no_lf_in_join [] plain = tt
 no_lf_in_join (field ∷ []) plain = no_lf field plain.0

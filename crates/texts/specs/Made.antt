@@ -1,6 +1,6 @@
--- A line that is made before it is written.
+-- Lines that are assembled before they are written.
 use Rattle.std.specs.Prelude.{ℕ}
 
--- the most bytes that it has
+-- the capacity in bytes
 abbrev pub MADE_LEN : ℕ
 MADE_LEN = 4096

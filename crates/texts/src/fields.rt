@@ -1,4 +1,4 @@
-// The parts of a text, as the fields of a line: what stands between the marks that part them.
+// Fields: the parts of a text between separators.
 
 ghost use Rattle.std.specs.Prelude.{◌≡◌, ◌∷◌, ◌==◌, ◌↔◌, [], ◌++◌, IsTrue, MatchOption};
 ghost use Rattle.std.specs.List.{slice_split, position};
@@ -6,23 +6,26 @@ ghost use Rattle.texts.specs.Fields.{TakesField, TakesWord, fields_in, parts_of}
 
 use std::marker::Model;
 
-/// Where the first byte of this kind stands.
+/// The index of the first byte that is `mark`.
 fn position_of(bytes: &[u8], mark: u8) -> Option<usize>
     ensures { result ≡ position (λ b. b == mark) bytes.now }
 {
     bytes.iter().position(|b| *b == mark)
 }
 
-/// What stands before the first byte of this kind, and what stands behind it.
+/// The bytes before the first `mark` and the bytes after it, or None without one.
 pub fn split_once(bytes: &[u8], mark: u8) -> Option<(&[u8], &[u8])>
-    ensures cut { MatchOption result (slice_split (λ b. b == mark) bytes.now ≡ bytes.now ∷ []) (λ x. bytes.now ≡ x.0.now ++ mark ∷ x.1.now) }
-    ensures parts { MatchOption result (slice_split (λ b. b == mark) bytes.now ≡ bytes.now ∷ []) (λ x. slice_split (λ b. b == mark) bytes.now ≡ x.0.now ∷ slice_split (λ b. b == mark) x.1.now) }
+    ensures cut { MatchOption result (slice_split (λ b. b == mark) bytes.now
+        ≡ bytes.now ∷ []) (λ x. bytes.now ≡ x.0.now ++ mark ∷ x.1.now) }
+    ensures parts { MatchOption result (slice_split (λ b. b == mark) bytes.now
+        ≡ bytes.now ∷ []) (λ x. slice_split (λ b. b == mark) bytes.now
+        ≡ x.0.now ∷ slice_split (λ b. b == mark) x.1.now) }
 {
     let at = position_of(bytes, mark)?;
     Some((&bytes[..at], &bytes[at + 1..]))
 }
 
-/// The parts of a text that are still to be read.
+/// The parts of a text that are not read yet.
 #[derive(Drop)]
 pub struct Fields<'a> {
     rest: Option<&'a [u8]>,
@@ -39,14 +42,14 @@ impl<'a> Model for Fields<'a> {
 }
 
 impl<'a> Fields<'a> {
-    /// All fields of a line: single spaces part them.
+    /// The fields of a line, separated by single spaces.
     pub fn of(line: &'a [u8]) -> Fields<'a>
         ensures { result ≡ fields_in line.now }
     {
         Fields::parted(line, b' ')
     }
 
-    /// All parts of a text that this mark parts. The text without any mark is one part, also where it is empty.
+    /// The parts of a text, separated by `mark`. A text without the mark is one part, even if it is empty.
     pub fn parted(text: &'a [u8], mark: u8) -> Fields<'a>
         ensures { result ≡ parts_of mark text.now }
     {
@@ -56,7 +59,7 @@ impl<'a> Fields<'a> {
         }
     }
 
-    /// The next field, if there is one.
+    /// Takes the next field, or None if none is left.
     pub fn next(&mut self) -> Option<&'a [u8]>
         ensures { TakesField self.old result self.new }
     {
@@ -73,7 +76,7 @@ impl<'a> Fields<'a> {
         }
     }
 
-    /// Takes off the next field, if it is this word.
+    /// Takes the next field and answers whether it is `word`.
     pub fn skip(&mut self, word: &[u8]) -> bool
         ensures { TakesWord word.now self.old result self.new }
     {

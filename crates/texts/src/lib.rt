@@ -1,5 +1,4 @@
-// Texts: the devices that they come from and go to, the fields of a line, the numbers in them, and lines
-// that are read or made.
+// Texts: devices for reading and writing, fields of a line, numbers, and lines that are read or made.
 #![tactic(auto)]
 
 mod device;

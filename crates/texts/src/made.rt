@@ -1,4 +1,4 @@
-// A line that is made before it is written.
+// Lines that are assembled before they are written.
 
 ghost use Rattle.std.specs.Prelude.{ℕ, ◌≡◌, ◌≤◌, ◌<◌, ◌+◌, ◌^◌, [], ◌∷◌, ◌++◌, length, decimal};
 ghost use Rattle.texts.specs.Made.{MADE_LEN};
@@ -9,13 +9,13 @@ use arrayvec::ArrayVec;
 use itoa::Buffer;
 use std::marker::Model;
 
-/// The most bytes that a line has while it is made.
+/// The capacity in bytes.
 const MADE_LEN: usize = 4096;
 
-// The definitions say it as a number.
+// The definitions use the number.
 const _: () = prove!(MADE_LEN == 4096);
 
-/// The bytes of one line or more, made one behind the other, so that they are written at once.
+/// The bytes of one or more lines, assembled so that they are written at once.
 #[derive(Drop)]
 pub struct MadeLine {
     bytes: ArrayVec<u8, MADE_LEN>,
@@ -42,7 +42,7 @@ impl MadeLine {
         }
     }
 
-    /// Adds these bytes.
+    /// Adds bytes. There must be room for them: 4,096 in all.
     pub fn add(&mut self, bytes: &[u8])
         requires { length self.old + length bytes.now ≤ MADE_LEN }
         ensures value { self.new ≡ self.old ++ bytes.now }
@@ -54,7 +54,7 @@ impl MadeLine {
         }
     }
 
-    /// Adds one byte.
+    /// Adds one byte, for which there must be room.
     pub fn add_byte(&mut self, byte: u8)
         requires { length self.old < MADE_LEN }
         ensures value { self.new ≡ self.old ++ byte ∷ [] }
@@ -63,7 +63,7 @@ impl MadeLine {
         self.bytes.push(byte);
     }
 
-    /// Adds a number in decimal.
+    /// Adds a number in decimal. There must be room for 39 bytes.
     pub fn add_decimal(&mut self, number: u128)
         requires { length self.old + 39 ≤ MADE_LEN }
         ensures value { self.new ≡ self.old ++ decimal number }
@@ -74,7 +74,7 @@ impl MadeLine {
         self.add(buffer.format(number).as_bytes());
     }
 
-    /// Adds a byte as two hexadecimal digits.
+    /// Adds a byte as two upper-case hexadecimal digits.
     pub fn add_hex2(&mut self, byte: u8)
         requires { length self.old + 2 ≤ MADE_LEN }
         ensures value { self.new ≡ self.old ++ hex2 byte }
@@ -83,7 +83,7 @@ impl MadeLine {
         self.add(&spell_hex2(byte));
     }
 
-    /// Adds a word as four hexadecimal digits.
+    /// Adds a word as four upper-case hexadecimal digits.
     pub fn add_hex4(&mut self, word: u16)
         requires { length self.old + 4 ≤ MADE_LEN }
         ensures value { self.new ≡ self.old ++ hex4 word }

@@ -1,10 +1,10 @@
-// Numbers in texts: how they are read from a field, and how they are spelled.
+// Numbers in texts: reading a field and spelling a number.
 
 ghost use Rattle.std.specs.Prelude.{◌≡◌, ◌<◌, ◌≤◌, ◌^◌, ◌↔◌, IsTrue};
 ghost use Rattle.std.specs.Fmt.{decimal};
 ghost use Rattle.texts.specs.Numbers.{BeginsDecimal, Reads, Always, IsByte, IsWord, hex_digit, hex2, hex4, flag_digit};
 
-/// Whether a decimal may begin so: there is a byte, it is no sign, and no other byte follows a zero.
+/// Whether the field may begin a decimal: it is not empty, has no sign, and no leading zero.
 fn begins_decimal(field: &[u8]) -> bool
     ensures { IsTrue result ↔ BeginsDecimal field.now }
 {
@@ -15,7 +15,7 @@ fn begins_decimal(field: &[u8]) -> bool
     }
 }
 
-/// A number from 0 to 4,294,967,295 in decimal, without leading zeros.
+/// A decimal from 0 to 4,294,967,295 without leading zeros; None for any other field.
 fn decimal_number(field: &[u8]) -> Option<u32>
     ensures { Reads decimal (λ n. n < 2 ^ 32) field.now result }
 {
@@ -28,7 +28,7 @@ fn decimal_number(field: &[u8]) -> Option<u32>
     text.parse::<u32>().ok()
 }
 
-/// A number from `least` to `most` in decimal, without leading zeros.
+/// A decimal from `least` to `most` without leading zeros; None for any other field.
 pub fn decimal_between(field: &[u8], least: u32, most: u32) -> Option<u32>
     ensures { Reads decimal (λ n. (least ≤ n) × (n ≤ most)) field.now result }
 {
@@ -40,7 +40,7 @@ pub fn decimal_between(field: &[u8], least: u32, most: u32) -> Option<u32>
     }
 }
 
-/// A number from 0 to 65,535 in decimal, without leading zeros.
+/// A decimal from 0 to 65,535 without leading zeros; None for any other field.
 pub fn decimal_field(field: &[u8]) -> Option<u16>
     ensures { Reads decimal IsWord field.now result }
 {
@@ -48,7 +48,7 @@ pub fn decimal_field(field: &[u8]) -> Option<u16>
     Some(number as u16)
 }
 
-/// The value of a hexadecimal digit, upper case.
+/// The value of an upper-case hexadecimal digit.
 fn hex_digit_value(byte: u8) -> Option<u16>
     ensures { Reads hex_digit (λ d. d < 16) byte result }
 {
@@ -59,7 +59,7 @@ fn hex_digit_value(byte: u8) -> Option<u16>
     }
 }
 
-/// A number from 0 to 65,535 as four hexadecimal digits, upper case.
+/// A word as four upper-case hexadecimal digits; None for any other field.
 #[tactic(auto, unfolding(crate::specs::Numbers::hex4))]
 pub fn hex4_field(field: &[u8]) -> Option<u16>
     ensures { Reads hex4 IsWord field.now result }
@@ -74,7 +74,7 @@ pub fn hex4_field(field: &[u8]) -> Option<u16>
     Some(a * 0x1000 + b * 0x100 + c * 0x10 + d)
 }
 
-/// A number from 0 to 255 as two hexadecimal digits, upper case.
+/// A byte as two upper-case hexadecimal digits; None for any other field.
 #[tactic(auto, unfolding(crate::specs::Numbers::hex2))]
 pub fn hex2_field(field: &[u8]) -> Option<u8>
     ensures { Reads hex2 IsByte field.now result }
@@ -87,7 +87,7 @@ pub fn hex2_field(field: &[u8]) -> Option<u8>
     Some((high * 0x10 + low) as u8)
 }
 
-/// A flag: `0` where it is clear, `1` where it is set.
+/// A flag, `0` or `1`; None for any other field.
 pub fn flag_field(field: &[u8]) -> Option<bool>
     ensures { Reads flag_digit Always field.now result }
 {
@@ -98,7 +98,7 @@ pub fn flag_field(field: &[u8]) -> Option<bool>
     }
 }
 
-/// A hexadecimal digit, upper case.
+/// An upper-case hexadecimal digit.
 fn hex_digit_of(value: u16) -> u8
     requires { value < 16 }
     ensures { result ≡ hex_digit value }
@@ -110,7 +110,7 @@ fn hex_digit_of(value: u16) -> u8
     }
 }
 
-/// A byte as two hexadecimal digits, upper case.
+/// A byte as two upper-case hexadecimal digits.
 #[tactic(auto, unfolding(crate::specs::Numbers::hex2))]
 pub fn spell_hex2(byte: u8) -> [u8; 2]
     ensures { result ≡ hex2 byte }
@@ -119,7 +119,7 @@ pub fn spell_hex2(byte: u8) -> [u8; 2]
     [hex_digit_of(byte / 0x10), hex_digit_of(byte % 0x10)]
 }
 
-/// A word as four hexadecimal digits, upper case.
+/// A word as four upper-case hexadecimal digits.
 #[tactic(auto, unfolding(crate::specs::Numbers::hex4))]
 pub fn spell_hex4(word: u16) -> [u8; 4]
     ensures { result ≡ hex4 word }

@@ -1,14 +1,15 @@
-// What `check` keeps, and which devices it asks, in which order.
+// What `check` keeps, and which devices it uses in which order.
 
-use crate::checks::{check, check_whole, verifies};
+use crate::checks::verifies;
 use crate::samples::{
     COUNTED, COUNTED_TABLE, COUNTING, ENABLING, JUMP, JUMP_CERTIFICATE, TABLE, said, with_routine,
 };
+use command_samples::{check_devices, check_whole};
 use memory_devices::{Bytes, Taken};
 use std::alloc::Global;
 use std::test::Fail;
 
-/// The rows of COUNTING (docs/CERTIFICATE.md).
+/// The line of the procedure in the certificate of `COUNTING` (docs/CERTIFICATE.md).
 const COUNTED_ROWS: &str = "proc nmi 0066 0 4 148\n";
 
 const COUNTED_END: &str = "\
@@ -35,11 +36,12 @@ fn the_certificate_is_kept(rt: HostRuntime) -> Result<(), Fail> {
     Ok(())
 }
 
-/// `check` of JUMP over a sink for the certificate that fails at the call behind this many.
+/// Whether `check` of `JUMP` has status 3 and prints nothing when the sink of the certificate fails after `calls`
+/// calls. What was kept has to be the start of the certificate.
 fn keep_fails(alloc: Global, piece: usize, calls: u64) -> bool {
     let (rom, annot) = (Bytes::whole(JUMP), Bytes::whole(said!("").as_bytes()));
     let keep = Taken::failing(alloc, piece, calls);
-    let after = check(alloc, rom, annot, keep, Taken::new(alloc));
+    let after = check_devices(alloc, rom, annot, keep, Taken::new(alloc));
     after.status == 3
         && after.out_asked == 0
         && JUMP_CERTIFICATE
@@ -47,7 +49,7 @@ fn keep_fails(alloc: Global, piece: usize, calls: u64) -> bool {
             .starts_with(after.kept.as_slice())
 }
 
-/// Where the certificate can't be kept whole, no table is written.
+/// If the certificate can't be kept in full, no table is written.
 #[test]
 fn the_certificate_is_kept_before_the_table(rt: HostRuntime) {
     let alloc = rt.alloc();
@@ -57,17 +59,17 @@ fn the_certificate_is_kept_before_the_table(rt: HostRuntime) {
     assert!(rt; keep_fails(alloc, 1, 143));
     let (rom, annot) = (Bytes::whole(JUMP), Bytes::whole(said!("").as_bytes()));
     let out = Taken::failing(alloc, 4096, 0);
-    let after = check(alloc, rom, annot, Taken::new(alloc), out);
+    let after = check_devices(alloc, rom, annot, Taken::new(alloc), out);
     assert!(rt; after.status == 3 && after.written.is_empty());
     assert!(rt; after.kept.as_slice() == JUMP_CERTIFICATE.as_bytes());
 }
 
-/// A ROM that fails, and annotations that fail: behind them none is asked.
+/// The ROM fails, or the annotations fail. No later device is used.
 #[test]
 fn sources_that_fail(rt: HostRuntime) {
     let alloc = rt.alloc();
     let (keep, out) = (Taken::new(alloc), Taken::new(alloc));
-    let after = check(
+    let after = check_devices(
         alloc,
         Bytes::failing(JUMP, 2, 1),
         Bytes::whole(b""),
@@ -78,22 +80,22 @@ fn sources_that_fail(rt: HostRuntime) {
     for calls in 0..4 {
         let annot = Bytes::failing(said!("").as_bytes(), 9, calls);
         let (keep, out) = (Taken::new(alloc), Taken::new(alloc));
-        let after = check(alloc, Bytes::whole(JUMP), annot, keep, out);
+        let after = check_devices(alloc, Bytes::whole(JUMP), annot, keep, out);
         assert!(rt; after.is(3, "") && after.out_asked == 0);
     }
     let annot = Bytes::failing(said!("").as_bytes(), 9, 4);
     let (keep, out) = (Taken::new(alloc), Taken::new(alloc));
-    assert!(rt; check(alloc, Bytes::whole(JUMP), annot, keep, out).is(0, TABLE));
+    assert!(rt; check_devices(alloc, Bytes::whole(JUMP), annot, keep, out).is(0, TABLE));
 }
 
-/// A refusal that can't be written.
+/// The output fails while a refusal is written.
 #[test]
 fn a_refusal_amid_which_the_output_fails(rt: HostRuntime) {
     let alloc = rt.alloc();
     for (annot, written) in [(said!("speed = 2\n"), "bad an"), (said!(""), "refuse")] {
         let out = Taken::failing(alloc, 1, 6);
         let (rom, annot) = (Bytes::whole(b"\xD3\x00"), Bytes::whole(annot.as_bytes()));
-        let after = check(alloc, rom, annot, Taken::new(alloc), out);
+        let after = check_devices(alloc, rom, annot, Taken::new(alloc), out);
         assert!(rt; after.is(3, written), "{written}");
     }
 }

@@ -1,4 +1,4 @@
-// The tests of `check` and of `migrate` over devices in memory.
+// Tests of `check` and `migrate` on devices in memory.
 #![tactic(auto)]
 
 #[cfg(test)]

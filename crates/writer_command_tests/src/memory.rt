@@ -1,12 +1,14 @@
-// Memory that is refused once, at each of the growths in turn (`tools/memory.sh writer_command_tests`): the command has status 4 and writes
-// and keeps nothing, and the next one goes as if nothing had been. A refusal is told by a line.
+// Memory is refused once, at each growth in turn (`tools/memory.sh writer_command_tests`). A command then has status 4
+// and writes and keeps nothing, a line reports it, and the next command gives the right output.
 
-use crate::checks::{Outcome, check_whole, migrated};
+use crate::checks::migrated;
 use crate::samples::{COUNTED, COUNTED_TABLE, COUNTING, ENABLING, JUMP_CERTIFICATE, with_routine};
+use command_samples::{Checked, check_whole};
 use std::test::Fail;
 
-/// Whether a command ended for want of memory and wrote nothing; with status 3 it was a sink of this test that wanted memory.
-fn wants_memory(after: &Outcome) -> bool {
+/// Whether the command ran out of memory and wrote nothing. Status 3 means that one of the test's own sinks ran out of
+/// memory.
+fn wants_memory(after: &Checked) -> bool {
     after.is(4, "") || after.status == 3
 }
 

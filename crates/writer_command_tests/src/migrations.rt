@@ -1,4 +1,4 @@
-// Certificates carried to version 2.
+// Certificates rewritten in version 2.
 
 use crate::checks::{migrated, verifies};
 use crate::samples::{JUMP, JUMP_CERTIFICATE, TABLE};
@@ -6,7 +6,7 @@ use commands::migrate_on;
 use memory_devices::{Bytes, Taken};
 use std::test::Fail;
 
-/// JUMP's certificate in version 2 (docs/CERTIFICATE.md).
+/// The certificate of `JUMP` in version 2 (docs/CERTIFICATE.md).
 const MIGRATED: &str =
     "galcert 2\nrom 6\nmap galaxian\nstack 4380 4400\nbudget -\nproc main 0000 0 0 -\n\
     row 0 0000 u 0 * * * * * * * * * * - - - -\n\
@@ -28,7 +28,7 @@ fn version_1_becomes_version_2(rt: HostRuntime) -> Result<(), Fail> {
     Ok(())
 }
 
-/// Texts that are no certificate, and what is written.
+/// Texts that are not certificates, and the output.
 const BAD: &[(&[u8], &str)] = &[
     (b"", "bad certificate line 1\n"),
     (b"galcert 3\n", "bad certificate line 1\n"),
@@ -46,7 +46,7 @@ fn what_is_no_certificate_is_told(rt: HostRuntime) -> Result<(), Fail> {
     Ok(())
 }
 
-/// A certificate that fails, and an output that does: what was written begins the text.
+/// The output fails, and then the certificate fails. The bytes written are the start of the text.
 #[test]
 fn devices_that_fail(rt: HostRuntime) {
     let alloc = rt.alloc();

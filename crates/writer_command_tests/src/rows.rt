@@ -1,13 +1,13 @@
-// ROMs of main code alone, what is said of them, and what `check` prints, to the byte.
+// ROMs with main code only, their annotations, and the exact output of `check`.
 
-use crate::checks::check_whole;
 use crate::samples::{JUMP, TABLE, said};
+use command_samples::check_whole;
 use std::test::Fail;
 
-/// A ROM, its annotations, and the text.
+/// A ROM, its annotations, and the output.
 const ROWS: &[(&[u8], &str, &str)] = &[
     (JUMP, said!(""), TABLE),
-    // LD SP,4400H; CALL 0008H; JR -2; LD (4780H),A; RET: 4780 is the cell 0380
+    // LD SP,4400H; CALL 0008H; JR -2; LD (4780H),A; RET: 4780 is a mirror of cell 0380
     (
         b"\x31\x00\x44\xCD\x08\x00\x18\xFE\x32\x80\x47\xC9",
         said!(""),
@@ -19,13 +19,13 @@ const ROWS: &[(&[u8], &str, &str)] = &[
         said!("[[fact]]\nat = 0x000E\nsum = [[\"DE\", 1], [\"BC\", 1]]\nis = 0x4400\n"),
         TABLE,
     ),
-    // The same as a procedure: the fill reaches the stack
+    // The same as a procedure: the fill overwrites the stack
     (
         b"\x31\x00\x44\xCD\x08\x00\x18\xFE\x21\x00\x40\x11\x01\x40\x01\xFF\x03\x36\x00\xED\xB0\xC9",
         said!("[[fact]]\nat = 0x0013\nsum = [[\"DE\", 1], [\"BC\", 1]]\nis = 0x4400\n"),
         "refused 0013 8 StackOverwrite\n",
     ),
-    // With LD BC,0, and no fact
+    // With LD BC,0 and no fact
     (
         b"\x31\x00\x44\x21\x00\x40\x11\x01\x40\x01\x00\x00\x36\x00\xED\xB0\x18\xFE",
         said!(""),
@@ -37,7 +37,8 @@ const ROWS: &[(&[u8], &str, &str)] = &[
         said!(""),
         "recursion 0008\n",
     ),
-    // LD SP,4400H; CALL 000CH; CALL 0010H; JR -2; NOP; 000C: CALL 0014H; RET; 0010: CALL 0014H; RET; 0014: CALL 000CH; RET
+    // LD SP,4400H; CALL 000CH; CALL 0010H; JR -2; NOP; 000C: CALL 0014H; RET; 0010: CALL 0014H; RET;
+    // 0014: CALL 000CH; RET
     (
         b"\x31\x00\x44\xCD\x0C\x00\xCD\x10\x00\x18\xFE\x00\xCD\x14\x00\xC9\xCD\x14\x00\xC9\xCD\x0C\x00\xC9",
         said!(""),
@@ -56,7 +57,8 @@ const ROWS: &[(&[u8], &str, &str)] = &[
     ),
     (b"\xD3\x00", said!(""), "refused 0000 5 IoSpace\n"),
     (b"\x31\x00\x42", said!(""), "refused 0000 20 SpWrite\n"),
-    // A jump table: LD A,(6000H); AND 1; ADD A,A; LD E,A; LD D,0; LD HL,0016H; ADD HL,DE; LD E,(HL); INC HL; LD D,(HL); EX DE,HL; JP (HL)
+    // A jump table: LD A,(6000H); AND 1; ADD A,A; LD E,A; LD D,0; LD HL,0016H; ADD HL,DE; LD E,(HL); INC HL; LD D,(HL);
+    // EX DE,HL; JP (HL)
     (
         b"\x31\x00\x44\x3A\x00\x60\xE6\x01\x87\x5F\x16\x00\x21\x16\x00\x19\x5E\x23\x56\xEB\xE9\x00\x03\x00\x1A\x00\x18\xFE",
         said!(
@@ -91,7 +93,7 @@ fn a_rom_of_16_385_bytes(rt: HostRuntime) -> Result<(), Fail> {
     Ok(())
 }
 
-/// Annotations out of form, for a ROM that is none either: of the ROM nothing is told.
+/// Bad annotations for a ROM that is refused too. Nothing is reported about the ROM.
 const BAD: &[(&str, &str)] = &[
     ("low = \n", "bad annotation text\n"),
     ("top = 0x4400\n", "bad annotation low\n"),

@@ -2,7 +2,8 @@
 
 use std::alloc::{AllocError, Global};
 
-/// Annotations: a stack of 128 bytes, with `nmi` an NMI routine that may take all the T-states there are, and more lines.
+/// Annotations with a stack of 128 bytes and further lines. With `nmi` they have an NMI routine with the largest
+/// budget.
 macro_rules! said {
     (nmi $more:literal) => {
         concat!(
@@ -20,10 +21,10 @@ pub(crate) use said;
 /// LD SP,4400H; JP 0003H
 pub const JUMP: &[u8] = &[0x31, 0x00, 0x44, 0xC3, 0x03, 0x00];
 
-/// What is printed of main's depth 0 in 128 bytes, with no NMI routine.
+/// What is printed for main with depth 0, a stack of 128 bytes and no NMI routine.
 pub const TABLE: &str = "accepted\nmain 0000 depth     0 time      -\nstack 0 of 128\nnmi none\n";
 
-/// JUMP's certificate.
+/// The certificate of `JUMP`.
 pub const JUMP_CERTIFICATE: &str =
     "galcert 1\nrom 6\nstack 4380 4400\nbudget -\nproc main 0000 0 0 -\n\
     row 0 0000 u * * * * * * * * * * - - - -\n\
@@ -41,14 +42,14 @@ pub const SWITCHING: &[u8] = &[
 /// PUSH BC; LD B,8; DJNZ 0069H; POP BC; RET
 pub const COUNTING: &[u8] = &[0xC5, 0x06, 0x08, 0x10, 0xFE, 0xC1, 0xC9];
 
-/// What is said of COUNTING.
+/// The annotations of `COUNTING`.
 pub const COUNTED: &str = said!(nmi "loop = [{ at = 0x69, counter = \"B\" }]\n");
 
-/// What is printed of COUNTING.
+/// What is printed for `COUNTING`.
 pub const COUNTED_TABLE: &str = "accepted\nmain 0000 depth     0 time      -\n\
     nmi  0066 depth     4 time    148\nstack 4 of 128\nnmi 148 of 50665\n";
 
-/// A ROM of main code from 0000 and an NMI routine from 0066, with zeros between.
+/// A ROM with main code from 0000 and an NMI routine from 0066. The bytes between them are 0.
 pub fn with_routine(alloc: Global, main: &[u8], routine: &[u8]) -> Result<Vec<u8>, AllocError> {
     let mut rom = Vec::new(alloc);
     rom.extend_from_slice(main)?;

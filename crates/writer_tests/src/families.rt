@@ -1,10 +1,10 @@
-// Families of ROMs, each member of which is accepted.
+// Families of ROMs, each of whose members is accepted.
 
 use crate::roms::{ENABLING, WITH_LOOP, Why, accepted, is_refused, plain, written};
 use std::alloc::{AllocError, Global};
 use std::test::Fail;
 
-/// LD B,n and a DJNZ of n turns in the NMI routine: 44 T-states and 13 a turn.
+/// LD B,n and a DJNZ of n turns in the NMI routine: 44 T-states, and 13 for each turn.
 #[test]
 fn turns(rt: HostRuntime) -> Result<(), Fail> {
     for turns in 1..=255u8 {
@@ -18,7 +18,7 @@ fn turns(rt: HostRuntime) -> Result<(), Fail> {
     Ok(())
 }
 
-/// A ROM of LD SP,4400, so many PUSH BC and as many POP BC, and a jump to itself.
+/// A ROM of LD SP,4400, `count` times PUSH BC, as many POP BC, and a jump to itself.
 fn pushes_and_pops(alloc: Global, count: u8) -> Result<Vec<u8>, AllocError> {
     let mut rom = Vec::from_slice(alloc, &[0x31, 0x00, 0x44])?;
     let count = usize::from(count);
@@ -28,7 +28,7 @@ fn pushes_and_pops(alloc: Global, count: u8) -> Result<Vec<u8>, AllocError> {
     Ok(rom)
 }
 
-/// Two bytes of stack each, up to 64 of them.
+/// Each push takes two bytes of stack; there may be 64 of them.
 #[test]
 fn pushes(rt: HostRuntime) -> Result<(), Fail> {
     for count in 0..=64u8 {

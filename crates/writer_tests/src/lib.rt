@@ -1,4 +1,4 @@
-// The tests of the writer: worked rows, families of ROMs, what is refused, and refused memory.
+// The tests of the writer: worked rows, families of ROMs, refusals, and refused memory.
 #![tactic(auto)]
 
 #[cfg(test)]

@@ -1,12 +1,12 @@
-// Memory that is refused once, at each of the growths in turn (`tools/memory.sh writer_tests`): the call answers `NoMemory`, and the next one as if
-// nothing had been. A refusal is told by a line.
+// Memory is refused once, at each growth in turn (`tools/memory.sh writer_tests`). The call then answers `NoMemory`, a
+// line reports it, and the next call gives the right answer.
 
 use crate::roms::{ENABLING, WITH_LOOP};
 use annotations::{AnnotationFault, Annotations};
 use cert_writer::{WriterFault, analyse};
 use std::test::Fail;
 
-/// A routine at 0066 that calls: PUSH BC; LD B,3; CALL 0070; DJNZ 0069; POP BC; RET; 0070 RET.
+/// An NMI routine with a call: PUSH BC; LD B,3; CALL 0070; DJNZ 0069; POP BC; RET; 0070 RET.
 const ROUTINE: [u8; 11] = [
     0xC5, 0x06, 0x03, 0xCD, 0x70, 0x00, 0x10, 0xFB, 0xC1, 0xC9, 0xC9,
 ];

@@ -7,7 +7,7 @@ use std::alloc::{AllocError, Global};
 use std::string::String;
 use std::test::Fail;
 
-/// Annotations: these, or plain ones with so many inline calls, from 0000 on.
+/// Annotations: these, or plain ones with this many inline calls, from 0000 on.
 #[derive(Clone, Copy)]
 enum Said {
     These(&'static str),
@@ -18,7 +18,7 @@ const PLAIN: Said = These(plain!(""));
 
 const WITH_NMI: Said = These(with_nmi!(""));
 
-/// Two procedures that call one another, and one that calls the second of them.
+/// Two procedures that call each other, and one that calls the second of them.
 const CIRCLE: [u8; 24] = [
     0x31, 0x00, 0x44, 0xCD, 0x0C, 0x00, 0xCD, 0x10, 0x00, 0x18, 0xFE, 0x00, 0xCD, 0x14, 0x00, 0xC9,
     0xCD, 0x14, 0x00, 0xC9, 0xCD, 0x0C, 0x00, 0xC9,
@@ -47,14 +47,14 @@ const REFUSED: &[(&[u8], &[u8], Said, Why)] = &[
         PLAIN,
         Refused(0x0008, 8),
     ),
-    // An enabling write before LD SP,4400.
+    // A write that enables NMIs before LD SP,4400.
     (
         &[0x3E, 0x01, 0x32, 0x01, 0x70, 0x31, 0x00, 0x44, 0x18, 0xFE],
         &[0xED, 0x45],
         WITH_NMI,
         Refused(0x0002, 15),
     ),
-    // The same behind it, and no routine.
+    // The same after it, without a routine.
     (&ENABLING, &[], PLAIN, Refused(0x0005, 16)),
     // A routine that loses A.
     (
@@ -63,7 +63,7 @@ const REFUSED: &[(&[u8], &[u8], Said, Why)] = &[
         WITH_NMI,
         Refused(0x006A, 14),
     ),
-    // Two ways that come to 000A with stacks of two lengths: the way that comes later is told.
+    // Two ways lead to 000A with stacks of two lengths; the way that comes later is reported.
     // LD SP,4400; LD A,(6000); OR A; JR Z,000A; PUSH BC; 000A: JR -2.
     (
         &[
@@ -73,7 +73,7 @@ const REFUSED: &[(&[u8], &[u8], Said, Why)] = &[
         PLAIN,
         Refused(0x0009, 12),
     ),
-    // JR Z,000C and JR 000A there: what was pushed comes first.
+    // JR Z,000C and there JR 000A: the way with the pushed word comes first.
     (
         &[
             0x31, 0x00, 0x44, 0x3A, 0x00, 0x60, 0xB7, 0x28, 0x03, 0xC5, 0x18, 0xFE, 0x18, 0xFC,
@@ -82,7 +82,8 @@ const REFUSED: &[(&[u8], &[u8], Said, Why)] = &[
         PLAIN,
         Refused(0x000C, 12),
     ),
-    // An enabling write while the cell is unarmed: no certificate could say so, the analysis does.
+    // A write that enables NMIs while the cell is unarmed: the analysis finds it, since no certificate could have such
+    // rows.
     (
         &ENABLING,
         &[0xED, 0x45, 0x00],
@@ -98,7 +99,7 @@ const REFUSED: &[(&[u8], &[u8], Said, Why)] = &[
         PLAIN,
         Recursion(&[0x0008]),
     ),
-    // The circle begins at the lowest.
+    // The cycle begins at the lowest.
     (&CIRCLE, &[], PLAIN, Recursion(&[0x000C, 0x0014])),
     (
         &ENABLING,
@@ -106,9 +107,9 @@ const REFUSED: &[(&[u8], &[u8], Said, Why)] = &[
         WITH_NMI,
         LoopUnbounded(0x0069),
     ),
-    // By a limit. SLL B is in no instruction table.
+    // By a limit. SLL B is undocumented.
     (&[0xCB, 0x30], &[], Inlines(1_024), Refused(0, 4)),
-    // The limit is told before a row's reason, and behind reasons 1 and 2.
+    // The limit is reported before a row's reason, but after reasons 1 and 2.
     (&[0xCB, 0x30], &[], Inlines(1_025), Limit),
     (&[], &[], Inlines(1_025), Refused(0, 1)),
 ];

@@ -6,14 +6,14 @@ use certificate::Certificate;
 use std::alloc::{AllocError, Global};
 use std::test::Fail;
 
-/// Annotations with a stack of 128 bytes and no NMI routine, and more.
+/// Annotations with a stack of 128 bytes and no NMI routine, and what follows.
 macro_rules! plain {
     ($more:literal) => {
         concat!("low = 0x4380\ntop = 0x4400\n", $more)
     };
 }
 
-/// The same, with an NMI routine that may take all the T-states there are, and more.
+/// The same with an NMI routine and the greatest budget, and what follows.
 macro_rules! with_nmi {
     ($more:literal) => {
         concat!("low = 0x4380\ntop = 0x4400\nnmi = true\nbudget = 50665\n", $more)
@@ -23,13 +23,13 @@ macro_rules! with_nmi {
 pub(crate) use plain;
 pub(crate) use with_nmi;
 
-/// The same, with a loop at 0069 that B counts.
+/// The same with a loop at 0069, with the counter B.
 pub const WITH_LOOP: &str = with_nmi!("loop = [{ at = 0x69, counter = \"B\" }]\n");
 
 /// LD SP,4400; LD A,1; LD (7001),A, which enables NMIs; a jump to itself.
 pub const ENABLING: [u8; 10] = [0x31, 0x00, 0x44, 0x3E, 0x01, 0x32, 0x01, 0x70, 0x18, 0xFE];
 
-/// A ROM of these bytes, and where there is an NMI routine, with it at 0066.
+/// The ROM with these bytes and, if there is one, this NMI routine at 0066.
 fn rom_of(alloc: Global, main: &[u8], routine: &[u8]) -> Result<Vec<u8>, AllocError> {
     let mut rom = Vec::from_slice(alloc, main)?;
     if !routine.is_empty() {
@@ -51,7 +51,7 @@ pub fn written(
     Ok(analyse(alloc, rom.as_slice(), &said))
 }
 
-/// The certificate of a ROM with these annotations, which is accepted.
+/// The certificate of a ROM with these annotations, which has to be accepted.
 pub fn accepted(
     alloc: Global,
     main: &[u8],
@@ -67,7 +67,7 @@ pub fn accepted(
 /// Why a ROM is refused.
 #[derive(Clone, Copy)]
 pub enum Why {
-    /// The address and the number of the reason that is told.
+    /// The address and the number of the reported reason.
     Refused(u16, u8),
     Recursion(&'static [u16]),
     LoopUnbounded(u16),

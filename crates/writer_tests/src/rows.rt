@@ -1,4 +1,4 @@
-// Worked ROMs that are accepted, with the depths and times that were worked out by hand.
+// Worked ROMs that are accepted, with depths and times worked out by hand.
 
 use crate::roms::{ENABLING, WITH_LOOP, accepted, plain, with_nmi};
 use Fact::{Address, Budget, Depth, Rows, RowsAt, Text, Time};
@@ -7,25 +7,25 @@ use memory_devices::Taken;
 use std::alloc::Global;
 use std::test::Fail;
 
-/// What holds of a certificate.
+/// A property of a certificate.
 #[derive(Clone, Copy)]
 enum Fact {
-    /// How many rows there are.
+    /// The number of rows.
     Rows(u32),
     /// The depth of a procedure.
     Depth(u16, u16),
-    /// The time of a procedure, where it has one.
+    /// The time of a procedure, or that it has none.
     Time(u16, Option<u32>),
     /// The address of a row.
     Address(u32, u16),
     Budget(Option<u16>),
-    /// How many rows of main there are at an address.
+    /// The number of main's rows at an address.
     RowsAt(u16, u32),
-    /// What is written.
+    /// The text of the certificate.
     Text(&'static str),
 }
 
-/// A routine that switches NMIs off and on: PUSH AF; XOR A; LD (7001),A; INC A; LD (7001),A; POP AF; RETN.
+/// A routine that disables and enables NMIs: PUSH AF; XOR A; LD (7001),A; INC A; LD (7001),A; POP AF; RETN.
 const SWITCHING: [u8; 12] = [
     0xF5, 0xAF, 0x32, 0x01, 0x70, 0x3C, 0x32, 0x01, 0x70, 0xF1, 0xED, 0x45,
 ];
@@ -52,7 +52,7 @@ const LOOP_TEXT: &str = "galcert 1\n\
     row 1 006C n *@AF *@BC *@DE *@HL *@IX *@IY *@AF' *@BC' *@DE' *@HL' - - - 10\n\
     end\n";
 
-/// What a case shows, a ROM's main code and its NMI routine, the annotations, and what holds of the certificate.
+/// What a case shows, a ROM's main code and its NMI routine, the annotations, and properties of the certificate.
 const ACCEPTED: &[(&str, &[u8], &[u8], &str, &[Fact])] = &[
     (
         "a jump to itself",
@@ -74,8 +74,8 @@ const ACCEPTED: &[(&str, &[u8], &[u8], &str, &[Fact])] = &[
             Budget(Some(50_665)),
         ],
     ),
-    // PUSH BC; LD B,0; DJNZ; POP BC; RET, with B of 0 told apart from others up to the POP.
-    // 11 + 11 + 7 + 7 + 255 turns of 13 + 8 + 10 + 10, less one turn's 7: B of 0 goes round 256 times.
+    // PUSH BC; LD B,0; DJNZ; POP BC; RET, with a split that separates B = 0 up to the POP.
+    // 11 + 11 + 7 + 255 * 13 + 8 + 10 + 10 T-states: from B = 0 there are 256 turns.
     (
         "a loop by parts",
         &ENABLING,
@@ -85,7 +85,7 @@ const ACCEPTED: &[(&str, &[u8], &[u8], &str, &[Fact])] = &[
         ),
         &[Time(1, Some(3_372))],
     ),
-    // The ten from 0008 to 0014 stand in two parts; 0003 in one, and 001A in one.
+    // The ten addresses from 0008 to 0014 have two rows each, one for each part; 0003 and 001A have one.
     (
         "a jump table",
         &TABLE,
@@ -102,7 +102,7 @@ const ACCEPTED: &[(&str, &[u8], &[u8], &str, &[Fact])] = &[
     ),
 ];
 
-/// How many rows of main there are at an address.
+/// The number of main's rows at an address.
 fn rows_at(certificate: &Certificate, address: u16) -> u32 {
     let rows = certificate.rows_at(0, address);
     rows.end.saturating_sub(rows.start)

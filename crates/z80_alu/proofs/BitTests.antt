@@ -1,4 +1,4 @@
--- One bit of a number, tested by a mask, and a byte put together of its bits.
+-- One bit of a number, tested by a mask; a byte assembled from its bits.
 use Rattle.std.proofs.Common.{◌≡◌, ℕ, zero, suc, ◌+◌, ◌*◌, ◌%◌, ◌^◌, ◌<◌, ◌≤◌, Bool, leb, true, false, not, ◌&&◌, eqb, bit_and, bit_or, refl, ap, zero-mul, arith}
 use Rattle.std.specs.Int.{bit_at, from_bool}
 use Rattle.std.proofs.lemmas.Nat.Bits.{and_pow, bit_at-lt}
@@ -9,7 +9,7 @@ use Rattle.std.specs.Cmp.{booleans_Decides}
 use Rattle.std.proofs.lemmas.Bool.Decides.{nat_tests}
 use Rattle.z80_alu.specs.Flags.{has_bit}
 
--- a bit times its weight is not 0 just where the bit is set
+-- a bit times its weight is not 0 exactly if the bit is set
 weighed : (b w : ℕ) → b < 2 → 0 < w → not (eqb (b * w) 0) ≡ eqb b 1
 weighed zero w small heavy = rw (zero-mul w) refl
 weighed (suc zero) w small heavy = ap not (ne_eqb (1 * w) 0 (λ e. absurd (omega arith)))
@@ -18,7 +18,7 @@ weighed (suc (suc b)) w small heavy = absurd (omega arith)
 pub has_bit-masked : (n k : ℕ) → not (eqb (bit_and n (2 ^ k)) 0) ≡ has_bit n k
 has_bit-masked n k = rw (and_pow n k) (weighed (bit_at n k) (2 ^ k) (bit_at-lt n k) (pow_pos k))
 
--- ---- a test of the eight flags, made at all 256 of their values
+-- ---- a test of the eight flags at all 256 of their values
 
 both : (Bool → Bool) → Bool
 both p = p true && p false
@@ -44,7 +44,7 @@ abbrev pub weights : (s z y h x p n c : Bool) → ℕ
 weights s z y h x p n c =
     128 * from_bool s + 64 * from_bool z + 32 * from_bool y + 16 * from_bool h + 8 * from_bool x + 4 * from_bool p + 2 * from_bool n + from_bool c
 
--- the byte that the code puts together
+-- the byte as the code assembles it
 abbrev pub joined_bits : (s z y h x p n c : Bool) → ℕ
 joined_bits s z y h x p n c =
     bit_or (bit_or (bit_or (bit_or (bit_or (bit_or (bit_or (from_bool s * 128 % 256) (from_bool z * 64 % 256)) (from_bool y * 32 % 256)) (from_bool h * 16 % 256)) (from_bool x * 8 % 256)) (from_bool p * 4 % 256)) (from_bool n * 2 % 256)) (from_bool c)
@@ -98,7 +98,7 @@ pub bit_0_of_weights : (s z y h x p n c : Bool) → has_bit (weights s z y h x p
 unfolding passes_always both
 bit_0_of_weights = bit_is 0 (λ s z y h x p n c. c) refl
 
--- ---- the sign of a byte, and a truth as a number
+-- ---- the sign of a byte, and a boolean as a number
 
 pub sign_of_byte : (n : ℕ) → n < 256 → not (eqb (bit_and n 128) 0) ≡ leb 128 n
 sign_of_byte n small = rw (has_bit-masked n 7) (grind (arith, nat_tests))

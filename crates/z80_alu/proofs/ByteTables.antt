@@ -1,4 +1,4 @@
--- Facts on a byte that are computed at each of its 256 values.
+-- Facts about a byte, computed at each of its 256 values.
 use Rattle.std.proofs.Common.{◌≡◌, ℕ, ◌+◌, ◌-◌, ◌*◌, ◌/◌, ◌%◌, ◌^◌, ◌<◌, Bool, true, false, not, eqb, bit_and, bit_or, refl, ap, ◌∙◌, arith}
 use Rattle.std.specs.Int.{from_bool}
 use Rattle.std.proofs.lemmas.Nat.{or_shifted, and_mask}
@@ -8,7 +8,7 @@ use Rattle.z80_alu.specs.declared.shift.Shift.TheVariants.{Rlc, Rrc, Rl, Rr, Sla
 use Rattle.z80_alu.specs.Shift.{shifted}
 use Rattle.z80_alu.specs.Bits.{bit_set, bit_reset}
 
--- two functions that are seen to agree at each number below n
+-- two functions agree at each number below n
 unfoldable pub agrees : (ℕ → ℕ) → (ℕ → ℕ) → ℕ → Bool
 agrees f g n = agree_below (λ k. eqb (f k) (g k)) (λ _. true) n
 
@@ -16,7 +16,7 @@ pub agrees_at : (f g : ℕ → ℕ) (n k : ℕ) → agrees f g n ≡ true → k 
 unfolding agrees
 agrees_at f g n k h below = eqb-true (f k) (g k) (agree_below_at (λ j. eqb (f j) (g j)) (λ _. true) n k h below)
 
--- ---- the shifts, as the code puts them together
+-- ---- the shifts, as the code assembles them
 
 pub shifted-Rlc : (v : ℕ) (c : Bool) → v < 256 → bit_or (v * 2 % 256) (from_bool (not (eqb (bit_and v 128) 0))) ≡ shifted Rlc v c
 unfolding agrees shifted

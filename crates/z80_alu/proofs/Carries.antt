@@ -1,4 +1,4 @@
--- The carries and overflows of sums and differences of bytes, read from the bits of the operands and of the value.
+-- Carries and overflows of sums and differences of bytes, read from the bits of the operands and of the value.
 use Rattle.std.proofs.Common.{◌≡◌, ℕ, suc, ◌+◌, ◌-◌, ◌%◌, ◌<◌, ◌≤◌, not, ◌&&◌, eqb, leb, ltb, bit_and, bit_xor, sym, ap, ◌∙◌, inl, inr, arith, ℤ, pos, negsuc, ◌+ℤ◌, ◌-ℤ◌}
 use Rattle.std.specs.Int.{cast_signed, w8}
 use Rattle.std.proofs.lemmas.Int.{ints, to_z_pos}
@@ -8,7 +8,7 @@ use Rattle.std.proofs.lemmas.Bool.Decides.{nat_tests}
 use Rattle.z80_alu.specs.Signed.{overflows_byte}
 use Rattle.z80_alu.proofs.BitTests.{has_bit-masked}
 
--- a bit that is 1 just where a bound is reached
+-- a bit that is 1 exactly from a bound on
 pub bit_as_bound : (x m n : ℕ) → (m ≤ n → x ≡ 1) → (n < m → x ≡ 0) → eqb x 1 ≡ leb m n
 bit_as_bound x m n above below =
     elim (cases_lt n m) [ inl h ↦ ne_eqb x 1 (λ e. absurd (omega (arith, below h))) ∙ sym (lt-leb m n h) | inr h ↦ eq-eqb x 1 (above h) ∙ sym (le-leb m n h) ]
@@ -25,7 +25,7 @@ half_carry_of_difference8 a b c v k small is =
     rw (has_bit-masked (bit_xor (bit_xor a b) v) 4, bit_at_xor (bit_xor a b) v 4, bit_at_xor a b 4)
     (bit_as_bound _ _ _ (λ h. omega arith) (λ h. omega arith))
 
--- a difference above 256 stays below it where it borrows
+-- a difference computed 256 higher is below 256 if it borrows
 pub borrow_of_difference8 : (a b c : ℕ) → b < 256 → c ≤ 1 → ltb (256 + a - b - c) 256 ≡ ltb a (b + c)
 borrow_of_difference8 a b c k small = grind (arith, nat_tests)
 

@@ -1,5 +1,5 @@
--- What the crates above need of the flag table: a byte F and its flags lead to one another, and when an
--- operation sets Z and C.
+-- What the crates above need of the flags: a byte F and its flags determine one another, and when an operation sets Z
+-- and C.
 use Rattle.std.proofs.Common.{◌≡◌, ℕ, ◌<◌, Bool, false, nat_eq, nat_lt, refl, ap, arith, bit_and, bit_or, bit_xor}
 use Rattle.std.proofs.lemmas.Bool.Decides.{nat_tests}
 use Rattle.z80_alu.specs.declared.flags.Flags.{Flags}
@@ -33,7 +33,7 @@ unfolding flags_byte
 flags_byte-lt f =
     omega (arith, from_bool_le f.sign, from_bool_le f.zero, from_bool_le f.bit5, from_bool_le f.half_carry, from_bool_le f.bit3, from_bool_le f.parity_overflow, from_bool_le f.subtract, from_bool_le f.carry)
 
--- ---- Z says that the result is 0
+-- ---- Z means that the result is 0
 
 pub zero_of_sum8 : (a b : ℕ) (carry : Bool) (noise : ℕ) → (sum8_flags a b carry noise).zero ≡ nat_eq (sum8 a b carry) 0
 unfolding sum8_flags
@@ -63,7 +63,7 @@ pub zero_of_xor8 : (a b noise : ℕ) → (xor8_flags a b noise).zero ≡ nat_eq 
 unfolding xor8_flags
 zero_of_xor8 a b noise = refl
 
--- ---- after CP, C says that A is below the operand, and Z that it is the operand
+-- ---- after CP, C means that A is below the operand, and Z that it equals the operand
 
 pub carry_of_compare8 : (a b noise : ℕ) → (difference8_flags a b false noise).carry ≡ nat_lt a b
 unfolding difference8_flags

@@ -1,4 +1,4 @@
--- The values of the operations on bytes are bytes.
+-- The operations on bytes have bytes as values.
 use Rattle.std.proofs.Common.{ℕ, ◌+◌, ◌-◌, ◌%◌, ◌^◌, ◌<◌, Bool, true, ltb, refl, arith}
 use Rattle.std.proofs.lemmas.Bool.{agree_below, agree_below_at, cond_both, ltb-true}
 use Rattle.z80_alu.specs.declared.flags.Flags.{Flags}

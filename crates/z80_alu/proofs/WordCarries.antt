@@ -1,4 +1,4 @@
--- The carries and overflows of sums and differences of words, read from the bits of the operands and of the value.
+-- Carries and overflows of sums and differences of words, read from the bits of the operands and of the value.
 use Rattle.std.proofs.Common.{◌≡◌, ℕ, suc, ◌+◌, ◌-◌, ◌%◌, ◌<◌, ◌≤◌, not, ◌&&◌, eqb, leb, ltb, bit_and, bit_xor, sym, ap, ◌∙◌, inl, inr, arith, ℤ, pos, negsuc, ◌+ℤ◌, ◌-ℤ◌}
 use Rattle.std.specs.Int.{cast_signed, w16}
 use Rattle.std.proofs.lemmas.Int.{ints, to_z_pos}
@@ -26,7 +26,7 @@ half_carry_of_difference16 a b c v k small is =
     rw (has_bit-masked (bit_xor (bit_xor a b) v) 12, bit_at_xor (bit_xor a b) v 12, bit_at_xor a b 12)
     (bit_as_bound _ _ _ (λ h. omega arith) (λ h. omega arith))
 
--- a difference above 65536 stays below it where it borrows
+-- a difference computed 65,536 higher is below 65,536 if it borrows
 pub borrow_of_difference16 : (a b c : ℕ) → b < 65536 → c ≤ 1 → ltb (65536 + a - b - c) 65536 ≡ ltb a (b + c)
 borrow_of_difference16 a b c k small = grind (arith, nat_tests)
 

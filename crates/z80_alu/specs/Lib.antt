@@ -1,4 +1,4 @@
--- The definitions: the flag table by its lines, and what stands under them.
+-- The definitions: the flags of each operation, and what they are made of.
 pub mod Add
 pub mod Bits
 pub mod Block

@@ -5,8 +5,8 @@ ghost use Rattle.z80_alu.specs.Add.{sum8, sum8_flags, difference8, difference8_f
 
 use crate::flags::Flags;
 
-// Bit k of `a ^ b ^ value` is the carry into bit k. The sum overflows where both operands have the sign
-// that the value does not have.
+// Bit k of `a ^ b ^ value` is the carry into bit k. The sum overflows if both operands have the sign that the value has
+// not.
 #[inline(always)]
 fn sum(a: u8, b: u8, carry: bool, noise: u8) -> (u8, Flags)
     ensures value { result.0 ≡ sum8 a b carry }
@@ -27,8 +27,8 @@ fn sum(a: u8, b: u8, carry: bool, noise: u8) -> (u8, Flags)
     (value, flags)
 }
 
-// Bit k of `a ^ b ^ value` is the borrow from bit k. The difference overflows where the operands' signs
-// differ, and the value has not the sign of the first.
+// Bit k of `a ^ b ^ value` is the borrow from bit k. The difference overflows if the signs of the operands differ and
+// the value has not the sign of the first.
 #[inline(always)]
 pub(crate) fn difference(a: u8, b: u8, carry: bool, noise: u8) -> (u8, Flags)
     ensures value { result.0 ≡ difference8 a b carry }
@@ -49,8 +49,8 @@ pub(crate) fn difference(a: u8, b: u8, carry: bool, noise: u8) -> (u8, Flags)
     (value, flags)
 }
 
-/// `a + b + carry` and its flags: ADD without a carry, ADC with C (UM0080, "8-Bit Arithmetic
-/// Group"). Bits 5 and 3 of the flags are those of `noise`.
+/// `a + b + carry` and its flags: ADD without a carry, ADC with C (UM0080, "8-Bit Arithmetic Group"). Flag bits 5 and 3
+/// come from `noise`.
 #[inline(always)]
 pub fn add8(a: u8, b: u8, carry: bool, noise: u8) -> (u8, u8)
     ensures value { result.0 ≡ sum8 a b carry }
@@ -60,8 +60,8 @@ pub fn add8(a: u8, b: u8, carry: bool, noise: u8) -> (u8, u8)
     (value, flags.byte())
 }
 
-/// `a - b - carry` and its flags: SUB without a carry, SBC with C, CP for the flags alone, and NEG
-/// as `0 - a` (UM0080, "8-Bit Arithmetic Group"). Bits 5 and 3 of the flags are those of `noise`.
+/// `a - b - carry` and its flags: SUB without a carry, SBC with C, CP for the flags alone, and NEG as `0 - a` (UM0080,
+/// "8-Bit Arithmetic Group"). Flag bits 5 and 3 come from `noise`.
 #[inline(always)]
 pub fn sub8(a: u8, b: u8, carry: bool, noise: u8) -> (u8, u8)
     ensures value { result.0 ≡ difference8 a b carry }
@@ -71,7 +71,7 @@ pub fn sub8(a: u8, b: u8, carry: bool, noise: u8) -> (u8, u8)
     (value, flags.byte())
 }
 
-/// `a + 1` and its flags, INC: as ADD, but C is that of `f` (UM0080, "INC r").
+/// `a + 1` and its flags, for INC: as ADD, but C stays as in `f` (UM0080, "INC r").
 #[inline(always)]
 #[tactic(auto, unfolding(crate::specs::Add::increment8_flags))]
 pub fn inc8(a: u8, f: u8, noise: u8) -> (u8, u8)
@@ -83,7 +83,7 @@ pub fn inc8(a: u8, f: u8, noise: u8) -> (u8, u8)
     (value, Flags { carry, ..flags }.byte())
 }
 
-/// `a - 1` and its flags, DEC: as SUB, but C is that of `f` (UM0080, "DEC m").
+/// `a - 1` and its flags, for DEC: as SUB, but C stays as in `f` (UM0080, "DEC m").
 #[inline(always)]
 #[tactic(auto, unfolding(crate::specs::Add::decrement8_flags))]
 pub fn dec8(a: u8, f: u8, noise: u8) -> (u8, u8)

@@ -1,4 +1,4 @@
-// The flags of the block instructions LDI and CPI, and of their kin.
+// The flags of the block instructions: LDI, CPI and the like.
 ghost use Rattle.std.specs.Prelude.{◌≡◌};
 ghost use Rattle.z80_alu.specs.Flags.{flags_byte};
 ghost use Rattle.z80_alu.specs.Block.{block_load_flags, block_compare_flags};
@@ -6,8 +6,8 @@ ghost use Rattle.z80_alu.specs.Block.{block_load_flags, block_compare_flags};
 use crate::add::difference;
 use crate::flags::Flags;
 
-/// The flags of one turn of LDI, LDD, LDIR or LDDR: P/V is `more`, that BC is not 0 after it, and S, Z
-/// and C are those of `f` (UM0080, "LDI"). Bits 5 and 3 are those of `noise`.
+/// The flags of one turn of LDI, LDD, LDIR or LDDR. `more` says that BC is not 0 after it and becomes P/V; S, Z and C
+/// stay as in `f` (UM0080, "LDI"). Bits 5 and 3 come from `noise`.
 #[inline]
 #[tactic(auto, unfolding(crate::specs::Block::block_load_flags))]
 pub fn block_load_flags(f: u8, more: bool, noise: u8) -> u8
@@ -22,8 +22,8 @@ pub fn block_load_flags(f: u8, more: bool, noise: u8) -> u8
     flags.byte()
 }
 
-/// The flags of one turn of CPI, CPD, CPIR or CPDR: S, Z, H and N of `a - byte`, P/V is `more`, that
-/// BC is not 0 after it, and C is that of `f` (UM0080, "CPI"). Bits 5 and 3 are those of `noise`.
+/// The flags of one turn of CPI, CPD, CPIR or CPDR. S, Z, H and N are those of `a - byte`. `more` says that BC is not 0
+/// after it and becomes P/V; C stays as in `f` (UM0080, "CPI"). Bits 5 and 3 come from `noise`.
 #[inline]
 #[tactic(auto, unfolding(crate::specs::Block::block_compare_flags))]
 pub fn block_compare_flags(a: u8, byte: u8, more: bool, f: u8, noise: u8) -> u8

@@ -5,7 +5,7 @@ ghost use Rattle.z80_alu.specs.Digits.{decimal_correction, decimal_adjusted, daa
 
 use crate::flags::Flags;
 
-// What DAA adds to A or subtracts from it.
+// What DAA adds to A, or subtracts after a subtraction.
 #[inline]
 #[tactic(auto, unfolding(crate::specs::Digits::decimal_correction))]
 fn correction(a: u8, before: Flags) -> u8
@@ -20,9 +20,8 @@ fn correction(a: u8, before: Flags) -> u8
     low + high
 }
 
-/// A after DAA, and the flags: P/V is parity, N is that of `f`, and C is set where it was or A was
-/// above 99h (UM0080, "DAA"; docs/INSTRUCTIONS.md, "Flags"). H, and bits 5 and 3, are those of
-/// `noise`.
+/// A after DAA, and the flags. P/V is parity, N stays as in `f`, and C is set if it was set or A was above 99h (UM0080,
+/// "DAA"; docs/INSTRUCTIONS.md, "Flags"). H and bits 5 and 3 come from `noise`.
 #[inline]
 #[tactic(auto, unfolding(crate::specs::Digits::daa_flags, crate::specs::Digits::decimal_adjusted))]
 pub fn daa(a: u8, f: u8, noise: u8) -> (u8, u8)
@@ -44,7 +43,7 @@ pub fn daa(a: u8, f: u8, noise: u8) -> (u8, u8)
     (value, flags.byte())
 }
 
-// The flags of RLD and RRD, by A after them.
+// The flags of RLD and RRD, from A after them.
 #[inline]
 #[tactic(auto, unfolding(crate::specs::Digits::rotate_digit_flags))]
 fn digit_flags(a: u8, f: u8, noise: u8) -> u8
@@ -59,8 +58,8 @@ fn digit_flags(a: u8, f: u8, noise: u8) -> u8
     flags.byte()
 }
 
-/// A and the byte at HL after RLD, and the flags, with parity of A and the C of `f` (UM0080,
-/// "RLD"). Bits 5 and 3 of the flags are those of `noise`.
+/// A and the byte at HL after RLD, and the flags: parity of A; C stays as in `f` (UM0080, "RLD"). Bits 5 and 3 come
+/// from `noise`.
 #[inline]
 pub fn rld(a: u8, byte: u8, f: u8, noise: u8) -> (u8, u8, u8)
     ensures a { result.0 ≡ rld_a a byte }
@@ -72,8 +71,8 @@ pub fn rld(a: u8, byte: u8, f: u8, noise: u8) -> (u8, u8, u8)
     (new_a, new_byte, digit_flags(new_a, f, noise))
 }
 
-/// A and the byte at HL after RRD, and the flags, with parity of A and the C of `f` (UM0080,
-/// "RRD"). Bits 5 and 3 of the flags are those of `noise`.
+/// A and the byte at HL after RRD, and the flags: parity of A; C stays as in `f` (UM0080, "RRD"). Bits 5 and 3 come
+/// from `noise`.
 #[inline]
 pub fn rrd(a: u8, byte: u8, f: u8, noise: u8) -> (u8, u8, u8)
     ensures a { result.0 ≡ rrd_a a byte }

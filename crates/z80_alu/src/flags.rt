@@ -1,18 +1,18 @@
 // The byte F and its eight flags.
 ghost use Rattle.std.specs.Prelude.{◌≡◌};
 
-/// The eight flags of the byte F, each as a truth (UM0080, "Status Indicator Flags").
+/// The eight flags of the byte F (UM0080, "Status Indicator Flags").
 #[derive(Clone, Copy)]
 pub struct Flags {
-    /// S, bit 7: the result's highest bit.
+    /// S, bit 7: the highest bit of the result.
     pub sign: bool,
     /// Z, bit 6: the result is 0.
     pub zero: bool,
-    /// Bit 5, which the manual leaves open.
+    /// Bit 5, which the manual leaves undefined.
     pub bit5: bool,
     /// H, bit 4: a carry or a borrow between the low and the high digit.
     pub half_carry: bool,
-    /// Bit 3, which the manual leaves open.
+    /// Bit 3, which the manual leaves undefined.
     pub bit3: bool,
     /// P/V, bit 2: an even number of ones, or a signed overflow.
     pub parity_overflow: bool,
@@ -43,7 +43,7 @@ impl Flags {
         }
     }
 
-    /// The byte F that holds these flags.
+    /// The byte F with these flags.
     #[inline(always)]
     #[tactic(auto, unfolding(crate::specs::Flags::flags_byte))]
     pub fn byte(self) -> u8
@@ -59,7 +59,7 @@ impl Flags {
             | u8::from(self.carry)
     }
 
-    // The six flags of `f`, with bits 5 and 3 of the noise.
+    // The six flags of `f`; bits 5 and 3 from the noise.
     #[inline]
     pub(crate) fn kept(f: u8, noise: u8) -> Flags
         ensures { result ≡ kept_flags f noise }
@@ -72,7 +72,7 @@ impl Flags {
         }
     }
 
-    // S, Z and the parity of a byte, with the other bits of the noise.
+    // S, Z and the parity of a byte; the other bits from the noise.
     #[inline]
     pub(crate) fn of_result(value: u8, noise: u8) -> Flags
         ensures { result ≡ result_flags value noise }

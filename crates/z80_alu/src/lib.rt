@@ -1,8 +1,7 @@
-// The registers, the arithmetic and the flags of the Z80 (Zilog UM0080). It stands on no other crate.
+// The registers, the arithmetic and the flags of the Z80 (Zilog UM0080).
 //
-// Every operation is total: any byte or word will do for each argument. `f` is F before, with its flags in their
-// places; `noise` is any byte, whose bit k stands for bit k of F where the manual leaves that bit open
-// (docs/INSTRUCTIONS.md, "Flags").
+// Every operation is total. `f` is the byte F before the operation. `noise` is any byte: bit k of it is bit k of F
+// wherever the manual leaves that flag undefined (docs/INSTRUCTIONS.md, "Flags").
 #![tactic(auto)]
 
 mod add;

@@ -5,8 +5,8 @@ ghost use Rattle.z80_alu.specs.Load.{load_a_flags};
 
 use crate::flags::Flags;
 
-/// The flags of LD A,I and LD A,R, of the byte `value` that A receives: C is that of `f` (UM0080,
-/// "LD A,I"). P/V, and bits 5 and 3, are those of `noise` (docs/INSTRUCTIONS.md, "Flags").
+/// The flags of LD A,I and LD A,R, where A receives `value`. C stays as in `f` (UM0080, "LD A,I"). P/V and bits 5 and 3
+/// come from `noise` (docs/INSTRUCTIONS.md, "Flags").
 #[inline]
 #[tactic(auto, unfolding(crate::specs::Load::load_a_flags))]
 pub fn load_a_flags(value: u8, f: u8, noise: u8) -> u8

@@ -5,7 +5,7 @@ ghost use Rattle.z80_alu.specs.Logic.{and8_flags, or8_flags, xor8_flags, cpl_fla
 
 use crate::flags::Flags;
 
-/// `a & b` and its flags, AND (UM0080, "AND s"). Bits 5 and 3 of the flags are those of `noise`.
+/// `a & b` and its flags, for AND (UM0080, "AND s"). Flag bits 5 and 3 come from `noise`.
 #[inline]
 #[tactic(auto, unfolding(crate::specs::Logic::and8_flags))]
 pub fn and8(a: u8, b: u8, noise: u8) -> (u8, u8)
@@ -22,7 +22,7 @@ pub fn and8(a: u8, b: u8, noise: u8) -> (u8, u8)
     (value, flags.byte())
 }
 
-/// `a | b` and its flags, OR (UM0080, "OR s"). Bits 5 and 3 of the flags are those of `noise`.
+/// `a | b` and its flags, for OR (UM0080, "OR s"). Flag bits 5 and 3 come from `noise`.
 #[inline]
 #[tactic(auto, unfolding(crate::specs::Logic::or8_flags))]
 pub fn or8(a: u8, b: u8, noise: u8) -> (u8, u8)
@@ -39,7 +39,7 @@ pub fn or8(a: u8, b: u8, noise: u8) -> (u8, u8)
     (value, flags.byte())
 }
 
-/// `a ^ b` and its flags, XOR (UM0080, "XOR s"). Bits 5 and 3 of the flags are those of `noise`.
+/// `a ^ b` and its flags, for XOR (UM0080, "XOR s"). Flag bits 5 and 3 come from `noise`.
 #[inline]
 #[tactic(auto, unfolding(crate::specs::Logic::xor8_flags))]
 pub fn xor8(a: u8, b: u8, noise: u8) -> (u8, u8)
@@ -56,8 +56,8 @@ pub fn xor8(a: u8, b: u8, noise: u8) -> (u8, u8)
     (value, flags.byte())
 }
 
-/// `!a` and its flags, CPL: H and N are set, the others are those of `f` (UM0080, "CPL"). Bits 5 and
-/// 3 of the flags are those of `noise`.
+/// `!a` and its flags, for CPL: H and N are set, the others stay as in `f` (UM0080, "CPL"). Flag bits 5 and 3 come from
+/// `noise`.
 #[inline]
 #[tactic(auto, unfolding(crate::specs::Logic::cpl_flags))]
 pub fn cpl(a: u8, f: u8, noise: u8) -> (u8, u8)
@@ -72,8 +72,7 @@ pub fn cpl(a: u8, f: u8, noise: u8) -> (u8, u8)
     (!a, flags.byte())
 }
 
-/// The flags of SCF: C is set, S, Z and P/V are those of `f` (UM0080, "SCF"). Bits 5 and 3 are those
-/// of `noise`.
+/// The flags of SCF: C is set; S, Z and P/V stay as in `f` (UM0080, "SCF"). Bits 5 and 3 come from `noise`.
 #[inline]
 #[tactic(auto, unfolding(crate::specs::Logic::scf_flags))]
 pub fn scf(f: u8, noise: u8) -> u8
@@ -88,8 +87,8 @@ pub fn scf(f: u8, noise: u8) -> u8
     flags.byte()
 }
 
-/// The flags of CCF: C is inverted, H is the C before, S, Z and P/V are those of `f` (UM0080,
-/// "CCF"). Bits 5 and 3 are those of `noise`.
+/// The flags of CCF: C is inverted, H is the old C; S, Z and P/V stay as in `f` (UM0080, "CCF"). Bits 5 and 3 come from
+/// `noise`.
 #[inline]
 #[tactic(auto, unfolding(crate::specs::Logic::ccf_flags))]
 pub fn ccf(f: u8, noise: u8) -> u8

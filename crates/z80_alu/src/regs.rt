@@ -1,4 +1,4 @@
-// The register file, and its pairs as words.
+// The registers, and their pairs as words.
 ghost use Rattle.std.specs.Prelude.{◌≡◌};
 ghost use Rattle.z80_alu.specs.Word.{word_of, high_of, low_of};
 
@@ -17,8 +17,8 @@ pub struct RegisterSet {
     pub l: u8,
 }
 
-/// The register file of the Z80 (UM0080, "CPU Registers"): the main set, the alternate set that
-/// EX AF,AF' and EXX exchange it with, the index registers, and the registers of special purpose.
+/// The registers of the Z80 (UM0080, "CPU Registers"): the main set, the alternate set for EX AF,AF' and EXX, the index
+/// registers, and the special registers.
 #[derive(Clone, Copy, PartialEq, Eq, Default)]
 pub struct Regs {
     pub main: RegisterSet,
@@ -34,7 +34,7 @@ pub struct Regs {
 }
 
 impl RegisterSet {
-    /// The pair AF, 0 to 65,535.
+    /// The pair AF.
     pub fn af(&self) -> u16
         ensures { result ≡ word_of self.now.a self.now.f }
     {
@@ -45,7 +45,7 @@ impl RegisterSet {
         word.value()
     }
 
-    /// The pair BC, 0 to 65,535.
+    /// The pair BC.
     pub fn bc(&self) -> u16
         ensures { result ≡ word_of self.now.b self.now.c }
     {
@@ -56,7 +56,7 @@ impl RegisterSet {
         word.value()
     }
 
-    /// The pair DE, 0 to 65,535.
+    /// The pair DE.
     pub fn de(&self) -> u16
         ensures { result ≡ word_of self.now.d self.now.e }
     {
@@ -67,7 +67,7 @@ impl RegisterSet {
         word.value()
     }
 
-    /// The pair HL, 0 to 65,535.
+    /// The pair HL.
     pub fn hl(&self) -> u16
         ensures { result ≡ word_of self.now.h self.now.l }
     {
@@ -78,7 +78,7 @@ impl RegisterSet {
         word.value()
     }
 
-    /// Sets the pair AF to a number from 0 to 65,535.
+    /// Sets the pair AF.
     pub fn set_af(&mut self, value: u16)
         ensures { self.new ≡ record self.old { a = high_of value; f = low_of value } }
     {
@@ -87,7 +87,7 @@ impl RegisterSet {
         self.f = word.low;
     }
 
-    /// Sets the pair BC to a number from 0 to 65,535.
+    /// Sets the pair BC.
     pub fn set_bc(&mut self, value: u16)
         ensures { self.new ≡ record self.old { b = high_of value; c = low_of value } }
     {
@@ -96,7 +96,7 @@ impl RegisterSet {
         self.c = word.low;
     }
 
-    /// Sets the pair DE to a number from 0 to 65,535.
+    /// Sets the pair DE.
     pub fn set_de(&mut self, value: u16)
         ensures { self.new ≡ record self.old { d = high_of value; e = low_of value } }
     {
@@ -105,7 +105,7 @@ impl RegisterSet {
         self.e = word.low;
     }
 
-    /// Sets the pair HL to a number from 0 to 65,535.
+    /// Sets the pair HL.
     pub fn set_hl(&mut self, value: u16)
         ensures { self.new ≡ record self.old { h = high_of value; l = low_of value } }
     {

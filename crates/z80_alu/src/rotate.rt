@@ -8,9 +8,8 @@ ghost use Rattle.z80_alu.specs.Shift.{shifted};
 use crate::flags::Flags;
 use crate::shift::Shift;
 
-/// The byte after a shift or rotate of a register or of memory, and its flags; RL and RR take `carry`,
-/// the C before, in (UM0080, "Rotate and Shift Group"). Bits 5 and 3 of the flags are those of
-/// `noise`.
+/// The byte after a shift or rotate of a register or of memory, and its flags. RL and RR take `carry`, the old C, in
+/// (UM0080, "Rotate and Shift Group"). Flag bits 5 and 3 come from `noise`.
 #[inline]
 #[tactic(auto, unfolding(crate::specs::Rotate::shift8_flags))]
 pub fn shift8(shift: Shift, value: u8, carry: bool, noise: u8) -> (u8, u8)
@@ -44,8 +43,7 @@ fn rotate_a(shift: Shift, a: u8, f: u8, noise: u8) -> (u8, u8)
     (value, flags.byte())
 }
 
-/// A after RLCA, and the flags: S, Z and P/V are those of `f` (UM0080, "RLCA"). Bits 5 and 3 are
-/// those of `noise`.
+/// A after RLCA, and the flags: S, Z and P/V stay as in `f` (UM0080, "RLCA"). Bits 5 and 3 come from `noise`.
 #[inline]
 pub fn rlca(a: u8, f: u8, noise: u8) -> (u8, u8)
     ensures value { result.0 ≡ shifted Rlc a (flags_of f).carry }
@@ -54,8 +52,7 @@ pub fn rlca(a: u8, f: u8, noise: u8) -> (u8, u8)
     rotate_a(Shift::Rlc, a, f, noise)
 }
 
-/// A after RRCA, and the flags: S, Z and P/V are those of `f` (UM0080, "RRCA"). Bits 5 and 3 are
-/// those of `noise`.
+/// A after RRCA, and the flags: S, Z and P/V stay as in `f` (UM0080, "RRCA"). Bits 5 and 3 come from `noise`.
 #[inline]
 pub fn rrca(a: u8, f: u8, noise: u8) -> (u8, u8)
     ensures value { result.0 ≡ shifted Rrc a (flags_of f).carry }
@@ -64,8 +61,7 @@ pub fn rrca(a: u8, f: u8, noise: u8) -> (u8, u8)
     rotate_a(Shift::Rrc, a, f, noise)
 }
 
-/// A after RLA, and the flags: S, Z and P/V are those of `f` (UM0080, "RLA"). Bits 5 and 3 are those
-/// of `noise`.
+/// A after RLA, and the flags: S, Z and P/V stay as in `f` (UM0080, "RLA"). Bits 5 and 3 come from `noise`.
 #[inline]
 pub fn rla(a: u8, f: u8, noise: u8) -> (u8, u8)
     ensures value { result.0 ≡ shifted Rl a (flags_of f).carry }
@@ -74,8 +70,7 @@ pub fn rla(a: u8, f: u8, noise: u8) -> (u8, u8)
     rotate_a(Shift::Rl, a, f, noise)
 }
 
-/// A after RRA, and the flags: S, Z and P/V are those of `f` (UM0080, "RRA"). Bits 5 and 3 are those
-/// of `noise`.
+/// A after RRA, and the flags: S, Z and P/V stay as in `f` (UM0080, "RRA"). Bits 5 and 3 come from `noise`.
 #[inline]
 pub fn rra(a: u8, f: u8, noise: u8) -> (u8, u8)
     ensures value { result.0 ≡ shifted Rr a (flags_of f).carry }

@@ -1,7 +1,7 @@
-// The kinds of shift and rotate, and what each makes of a byte.
+// Shifts and rotates of a byte, without flags.
 ghost use Rattle.std.specs.Prelude.{◌≡◌};
 
-/// The shifts and rotates of a byte (UM0080, "Rotate and Shift Group").
+/// A shift or rotate of a byte (UM0080, "Rotate and Shift Group").
 #[derive(Clone, Copy)]
 pub enum Shift {
     /// Rotates left; bit 7 goes to bit 0 and C.
@@ -23,7 +23,7 @@ pub enum Shift {
 impl Shift {
     ghost use Rattle.z80_alu.specs.Shift.{shifted, shifted_out};
 
-    // The byte after the shift, and the bit that goes out.
+    // The byte after the shift, and the bit shifted out.
     #[inline]
     pub(crate) fn applied(self, value: u8, carry: bool) -> (u8, bool)
         ensures value { result.0 ≡ shifted self value carry }

@@ -2,7 +2,7 @@
 ghost use Rattle.std.specs.Prelude.{◌≡◌};
 ghost use Rattle.z80_alu.specs.Word.{word_of, high_of, low_of};
 
-/// A word of 16 bits as the two bytes that it is stored as (UM0080, "CPU Registers").
+/// A word as its two bytes (UM0080, "CPU Registers").
 #[derive(Clone, Copy)]
 pub struct Word {
     pub high: u8,
@@ -10,7 +10,7 @@ pub struct Word {
 }
 
 impl Word {
-    /// The two bytes of a number from 0 to 65,535.
+    /// The two bytes of a word.
     pub fn of(value: u16) -> Word
         ensures high { result.high ≡ high_of value }
         ensures low { result.low ≡ low_of value }
@@ -19,7 +19,7 @@ impl Word {
         Word { high, low }
     }
 
-    /// The number that the two bytes make, 0 to 65,535.
+    /// The word made of the two bytes.
     pub fn value(self) -> u16
         ensures { result ≡ word_of self.high self.low }
     {

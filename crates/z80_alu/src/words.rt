@@ -5,8 +5,8 @@ ghost use Rattle.z80_alu.specs.Words.{sum16, sum16_flags, carried_sum16_flags, d
 
 use crate::flags::Flags;
 
-/// `a + b` and the flags of ADD HL,ss, ADD IX,pp and ADD IY,rr: S, Z and P/V are those of `f`
-/// (UM0080, "16-Bit Arithmetic Group"). Bits 5 and 3 of the flags are those of `noise`.
+/// `a + b` and the flags of ADD HL,ss, ADD IX,pp and ADD IY,rr: S, Z and P/V stay as in `f` (UM0080, "16-Bit Arithmetic
+/// Group"). Flag bits 5 and 3 come from `noise`.
 #[inline]
 pub fn add16(a: u16, b: u16, f: u8, noise: u8) -> (u16, u8)
     ensures value { result.0 ≡ sum16 a b false }
@@ -24,8 +24,7 @@ pub fn add16(a: u16, b: u16, f: u8, noise: u8) -> (u16, u8)
     (value, flags.byte())
 }
 
-/// `a + b + carry` and the flags of ADC HL,ss (UM0080, "16-Bit Arithmetic Group"). Bits 5 and 3 of
-/// the flags are those of `noise`.
+/// `a + b + carry` and the flags of ADC HL,ss (UM0080, "16-Bit Arithmetic Group"). Flag bits 5 and 3 come from `noise`.
 #[inline]
 pub fn adc16(a: u16, b: u16, carry: bool, noise: u8) -> (u16, u8)
     ensures value { result.0 ≡ sum16 a b carry }
@@ -46,8 +45,7 @@ pub fn adc16(a: u16, b: u16, carry: bool, noise: u8) -> (u16, u8)
     (value, flags.byte())
 }
 
-/// `a - b - carry` and the flags of SBC HL,ss (UM0080, "16-Bit Arithmetic Group"). Bits 5 and 3 of
-/// the flags are those of `noise`.
+/// `a - b - carry` and the flags of SBC HL,ss (UM0080, "16-Bit Arithmetic Group"). Flag bits 5 and 3 come from `noise`.
 #[inline]
 pub fn sbc16(a: u16, b: u16, carry: bool, noise: u8) -> (u16, u8)
     ensures value { result.0 ≡ difference16 a b carry }
@@ -68,7 +66,7 @@ pub fn sbc16(a: u16, b: u16, carry: bool, noise: u8) -> (u16, u8)
     (value, flags.byte())
 }
 
-/// `a + 1`, modulo 65,536: INC ss, which changes no flag (UM0080, "16-Bit Arithmetic Group").
+/// `a + 1` modulo 65,536, for INC ss (UM0080, "16-Bit Arithmetic Group"). No flag changes.
 #[inline]
 pub fn inc16(a: u16) -> u16
     ensures { result ≡ sum16 a 1 false }
@@ -76,7 +74,7 @@ pub fn inc16(a: u16) -> u16
     a.wrapping_add(1)
 }
 
-/// `a - 1`, modulo 65,536: DEC ss, which changes no flag (UM0080, "16-Bit Arithmetic Group").
+/// `a - 1` modulo 65,536, for DEC ss (UM0080, "16-Bit Arithmetic Group"). No flag changes.
 #[inline]
 pub fn dec16(a: u16) -> u16
     ensures { result ≡ difference16 a 1 false }

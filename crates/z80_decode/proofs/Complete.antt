@@ -1,4 +1,5 @@
--- The decoder finds each instruction at the front of its spelling, whatever follows it, and finds some instruction at the front of each beginning of a spelling.
+-- The decoder finds each instruction at the front of its spelling, whatever follows. It finds some instruction at the
+-- front of each beginning of a spelling.
 use Rattle.std.proofs.Common.{◌≡◌, ℕ, ◌/◌, ◌%◌, List, [], ◌++◌, length, take, refl, ◌∙◌, ap, arith, Option, Some, Bool, true, ◌&&◌, map, is_some}
 use Rattle.std.specs.Prelude.{nat_le}
 use Rattle.z80_decode.specs.declared.operands.Operand.TheVariants as operands
@@ -9,26 +10,27 @@ use Rattle.z80_decode.specs.Spelling.{spelling}
 use Rattle.z80_decode.specs.Decoding.{word_from, first_instr}
 use Rattle.z80_decode.proofs.EachOperand.{each_register, registers_all, each_word_pair, each_stack_pair, each_pair, each_index_pair, index_pairs_all, each_pointer, each_index, each_special, each_condition, each_short_condition, each_operation, operations_all, each_shift, shifts_all, each_rotate, each_block, each_bit, bits_all, each_restart, each_mode, each_memory, each_place, each_direct}
 
--- whether the first bytes, as many as there are, have an instruction at their front
+-- whether there is an instruction at the front of these bytes
 abbrev pub has_some : List ℕ → Bool
 has_some bytes = is_some (first_instr bytes)
 
--- what the decoder makes of a spelling and what follows it; whether each beginning has some instruction; whether the spelling has at most four bytes
+-- what the decoder finds in a spelling with more bytes after it; whether each beginning has some instruction; whether
+-- the spelling has at most four bytes
 abbrev pub readings : List ℕ → Instr → Option Instr × Bool × Bool
 readings rest i = (first_instr (spelling i ++ rest), has_some [] && has_some (take 1 (spelling i)) && has_some (take 2 (spelling i)) && has_some (take 3 (spelling i)), nat_le (length (spelling i)) 4)
 
--- the readings that an instruction is to have
+-- the readings that an instruction should have
 abbrev pub good : Instr → Option Instr × Bool × Bool
 good i = (Some i, true, true)
 
--- a word is read as what its two bytes make
+-- a word read from its two bytes
 abbrev read_again : ℕ → ℕ
 read_again n = word_from (n % 256) (n / 256)
 
 read_again_lem : (n : ℕ) → read_again n ≡ n
 read_again_lem n = omega arith
 
--- the same, of an instruction with a word that was read again
+-- the same for an instruction whose word was read from its bytes
 with_word : (instr_with : ℕ → Instr) (rest : List ℕ) (n : ℕ) → readings rest (instr_with n) ≡ good (instr_with (read_again n)) → readings rest (instr_with n) ≡ good (instr_with n)
 with_word instr_with rest n same = same ∙ ap (λ m. good (instr_with m)) (read_again_lem n)
 

@@ -1,4 +1,4 @@
--- Two functions that agree at each value of an operand type, as one table shows, are equal.
+-- Two functions with equal tables over an operand type are equal.
 use Rattle.std.proofs.Common.{◌≡◌, ℕ, List, [], ◌∷◌, ap, map, get_or}
 use Rattle.z80_decode.specs.declared.operands.Register8.{Register8}
 use Rattle.z80_decode.specs.declared.operands.Register8.TheVariants as registers

@@ -1,4 +1,4 @@
--- The lemmas: tables of all operands, and that the decoder finds what is spelled.
+-- The lemmas: tables of all operands, and that the decoder finds what the bytes spell.
 pub mod Tables
 pub mod EachOperand
 pub mod Sound

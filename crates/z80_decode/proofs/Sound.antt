@@ -1,4 +1,4 @@
--- What the decoder finds in a window is spelled by the first bytes of the window.
+-- What the decoder finds in a window is spelled by the window's first bytes.
 use Rattle.std.proofs.Common.{◌≡◌, ℕ, ◌/◌, ◌%◌, ◌<◌, List, [], ◌∷◌, length, take, refl, sym, arith, Option, Some, None, Bool, true, false, cond, subst, nat_eq}
 use Rattle.std.proofs.lemmas.Bool.{eqb-true}
 use Rattle.z80_decode.specs.declared.operands.Index.{Index}
@@ -14,7 +14,7 @@ use Rattle.z80_decode.specs.IndexPage.{behind_index}
 use Rattle.z80_decode.specs.Decoding.{decoded, indexed, word_from}
 use Rattle.z80_decode.proofs.Tables.{each_below}
 
--- what the instruction is spelled as, and as many bytes of the window
+-- the spelling of what was found, and as many bytes of the window
 abbrev pub spelled : Option Instr → List ℕ
 spelled None = []
 spelled (Some i) = spelling i
@@ -53,7 +53,7 @@ low_of-word_from low high h = omega arith
 high_of-word_from : (low high : ℕ) → low < 256 → word_from low high / 256 ≡ high
 high_of-word_from low high h = omega arith
 
--- what holds of the bytes of a word holds of the bytes that it was made from
+-- what holds of the bytes of a word holds of the bytes that make it
 at_word : (P : ℕ → ℕ → Type 0) (low high : ℕ) → low < 256 → P (word_from low high % 256) (word_from low high / 256) → P low high
 at_word P low high h p = subst (λ x. P x high) (low_of-word_from low high h) (subst (λ y. P (word_from low high % 256) y) (high_of-word_from low high h) p)
 

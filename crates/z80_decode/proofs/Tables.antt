@@ -1,4 +1,4 @@
--- Two functions that give equal tables are equal at each entry.
+-- Two functions with equal tables are equal at each entry.
 use Rattle.std.proofs.Common.{◌≡◌, ℕ, ◌<◌, sym, ◌∙◌, ap, map, get_or, arith}
 use Rattle.std.specs.List.{range_with_len}
 use Rattle.std.proofs.lemmas.List.FromFn.{get_or-map-range_with_len}

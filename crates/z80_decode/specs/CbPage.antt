@@ -1,4 +1,4 @@
--- Helper: what the decoder makes of an opcode behind the prefix CB, by its fields xx yyy zzz.
+-- Helper: the decoder's step for an opcode after the prefix CB, by its fields xx yyy zzz.
 use Rattle.std.specs.Prelude.{ℕ, ◌/◌, ◌%◌, Option, Some, None, if◌then◌else◌, ◌==◌}
 use Rattle.z80_decode.specs.declared.operands.Place.{Place}
 use Rattle.z80_decode.specs.declared.kinds.ShiftKind.{ShiftKind}
@@ -10,7 +10,7 @@ abbrev pub shift_at : Place → Option ShiftKind → Option Instr
 shift_at place (Some kind) = Some (instrs.Shift kind place)
 shift_at place None = None
 
--- the instruction of an opcode on a place; the place that the field zzz names is the caller's
+-- the instruction of an opcode with a place, which the caller read from the field zzz
 abbrev pub behind_cb : ℕ → Place → Option Instr
 behind_cb code place =
     if code / 64 == 0 then shift_at place (shift_of (code / 8 % 8)) else (

@@ -1,4 +1,5 @@
--- Helper: what the decoder makes of a window of four bytes. The definitions here and of the pages are the steps of the code: what `decode` promises is said by `spelling` alone.
+-- Helper: the decoder's step for a window of four bytes. These definitions and those of the pages follow the code; what
+-- `decode` promises depends on `spelling` only.
 use Rattle.std.specs.Prelude.{ℕ, ◌+◌, ◌*◌, ◌%◌, List, Option, None, if◌then◌else◌, ◌==◌, slice_index_or}
 use Rattle.z80_decode.specs.declared.operands.Index.{Index}
 use Rattle.z80_decode.specs.declared.operands.Index.TheVariants as indexes
@@ -11,11 +12,11 @@ use Rattle.z80_decode.specs.CbPage.{behind_cb}
 use Rattle.z80_decode.specs.EdPage.{behind_ed}
 use Rattle.z80_decode.specs.IndexPage.{behind_index}
 
--- a word is spelled with its low byte first
+-- the low byte of a word comes first
 abbrev pub word_from : ℕ → ℕ → ℕ
 word_from low high = low + 256 * high
 
--- behind DD or FD: an opcode, or CB, d and an opcode that names memory
+-- after DD or FD: an opcode, or CB, d and an opcode whose operand is memory
 abbrev pub indexed : Index → ℕ → ℕ → ℕ → Option Instr
 indexed index second third fourth =
     if second == 0xCB then (if fourth % 8 == 6 then behind_cb fourth (places.Memory (memories.At index third)) else None) else
@@ -29,7 +30,7 @@ decoded first second third fourth =
     if first == 0xFD then indexed indexes.Iy second third fourth else
     unprefixed first second (word_from second third))))
 
--- the byte at a place; behind the end 46h, which completes each proper beginning of a spelling
+-- The byte at a place. Past the end it is 46h, which completes each proper beginning of a spelling.
 abbrev pub byte_at : List ℕ → ℕ → ℕ
 byte_at bytes place = slice_index_or bytes place 0x46
 

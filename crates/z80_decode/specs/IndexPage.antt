@@ -1,4 +1,4 @@
--- Helper: what the decoder makes of an opcode behind the prefix DD or FD.
+-- Helper: the decoder's step for an opcode after the prefix DD or FD.
 use Rattle.std.specs.Prelude.{ℕ, ◌/◌, ◌%◌, Option, Some, None, if◌then◌else◌, ◌==◌}
 use Rattle.std.specs.Option.{option_or}
 use Rattle.z80_decode.specs.declared.operands.Register8.{Register8}
@@ -18,8 +18,7 @@ use Rattle.z80_decode.specs.declared.operands.Operand.TheVariants as operands
 use Rattle.z80_decode.specs.declared.operands.Direct.TheVariants as directs
 use Rattle.z80_decode.specs.declared.instr.Instr.{Instr}
 use Rattle.z80_decode.specs.declared.instr.Instr.TheVariants as instrs
-use Rattle.z80_decode.specs.Codes.{register_of}
-use Rattle.z80_decode.specs.Codes.{operation_of}
+use Rattle.z80_decode.specs.Codes.{register_of, operation_of}
 
 abbrev pub as_word : Index → Register16
 as_word indexes.Ix = words.Ix
@@ -33,7 +32,7 @@ abbrev pub as_pointer : Index → Pointer
 as_pointer indexes.Ix = pointers.Ix
 as_pointer indexes.Iy = pointers.Iy
 
--- the opcodes that work on the index register as a word
+-- the opcodes for the index register itself
 abbrev pub on_index : Index → ℕ → ℕ → Option Instr
 on_index index code word =
     if code == 0x09 then Some (instrs.AddIndex index index_pairs.Bc) else (
@@ -52,14 +51,14 @@ on_index index code word =
     if code == 0xF9 then Some (instrs.LoadSp (as_pointer index)) else
     None)))))))))))))
 
--- 01 yyy zzz, where one of the fields is 110
+-- 01 yyy zzz, where exactly one field is 110
 abbrev pub load_at : Memory → Option Register8 → Option Register8 → Option Instr
 load_at memory (Some r) (Some s) = None
 load_at memory (Some r) None = Some (instrs.LoadRegister r (places.Memory memory))
 load_at memory None (Some s) = Some (instrs.Store memory s)
 load_at memory None None = None
 
--- the opcodes that work on the byte at (IX+d)
+-- the opcodes for the byte at (IX+d)
 abbrev pub on_memory : Memory → ℕ → ℕ → Option Instr
 on_memory memory code number =
     if code == 0x34 then Some (instrs.Increment (places.Memory memory)) else (
@@ -69,6 +68,6 @@ on_memory memory code number =
     if code / 64 == 2 then (if code % 8 == 6 then Some (instrs.Arithmetic (operation_of (code / 8 % 8)) (operands.Place (places.Memory memory))) else None) else
     None))))
 
--- the instruction of an opcode, with the bytes that follow it and the word that they make
+-- the instruction of an opcode, given the bytes after it and their word
 abbrev pub behind_index : Index → ℕ → ℕ → ℕ → ℕ → Option Instr
 behind_index index code byte number word = option_or (on_index index code word) (on_memory (memories.At index byte) code number)

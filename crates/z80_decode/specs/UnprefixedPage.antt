@@ -1,4 +1,4 @@
--- Helper: what the decoder makes of an opcode without a prefix, by its fields xx yyy zzz.
+-- Helper: the decoder's step for an opcode without a prefix, by its fields xx yyy zzz.
 use Rattle.std.specs.Prelude.{ℕ, ◌/◌, ◌%◌, Option, Some, None, if◌then◌else◌, ◌==◌}
 use Rattle.z80_decode.specs.declared.operands.Place.{Place}
 use Rattle.z80_decode.specs.declared.operands.Place.TheVariants as places
@@ -9,8 +9,7 @@ use Rattle.z80_decode.specs.declared.operands.Pointer.TheVariants as pointers
 use Rattle.z80_decode.specs.declared.kinds.AccumulatorRotate.TheVariants as rotates
 use Rattle.z80_decode.specs.declared.instr.Instr.{Instr}
 use Rattle.z80_decode.specs.declared.instr.Instr.TheVariants as instrs
-use Rattle.z80_decode.specs.Codes.{place_coded, word_of, stack_pair_of, pair_of}
-use Rattle.z80_decode.specs.Codes.{condition_of, short_condition_of, operation_of, restart_of}
+use Rattle.z80_decode.specs.Codes.{place_coded, register_of_code, stack_pair_of, operand_pair_of, condition_of, short_condition_of, operation_of, restart_of}
 
 -- 00 yyy 000
 abbrev pub relative_jump : ℕ → ℕ → Instr
@@ -49,9 +48,9 @@ on_accumulator y =
 abbrev pub first_quarter : ℕ → ℕ → ℕ → ℕ → Instr
 first_quarter y z byte word =
     if z == 0 then relative_jump y byte else (
-    if z == 1 then (if y % 2 == 0 then instrs.LoadPair (word_of (y / 2)) word else instrs.AddHl (pair_of (y / 2))) else (
+    if z == 1 then (if y % 2 == 0 then instrs.LoadPair (register_of_code (y / 2)) word else instrs.AddHl (operand_pair_of (y / 2))) else (
     if z == 2 then indirect_load y word else (
-    if z == 3 then (if y % 2 == 0 then instrs.IncrementPair (word_of (y / 2)) else instrs.DecrementPair (word_of (y / 2))) else (
+    if z == 3 then (if y % 2 == 0 then instrs.IncrementPair (register_of_code (y / 2)) else instrs.DecrementPair (register_of_code (y / 2))) else (
     if z == 4 then instrs.Increment (place_coded y) else (
     if z == 5 then instrs.Decrement (place_coded y) else (
     if z == 6 then instrs.LoadImmediate (place_coded y) byte else
@@ -103,7 +102,7 @@ last_quarter y z byte word =
     if z == 6 then Some (instrs.Arithmetic (operation_of y) (operands.Immediate byte)) else
     Some (instrs.Restart (restart_of y))))))))
 
--- the instruction of an opcode, with the byte and the word that follow it; None at the four prefixes
+-- the instruction of an opcode, given the byte and the word after it; None for the four prefixes
 abbrev pub unprefixed : ℕ → ℕ → ℕ → Option Instr
 unprefixed code byte word =
     if code / 64 == 0 then Some (first_quarter (code / 8 % 8) (code % 8) byte word) else (

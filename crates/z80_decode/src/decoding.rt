@@ -1,7 +1,8 @@
-// The decoder: the instruction that bytes begin with.
+// The decoder: the instruction at the beginning of a byte string.
 ghost use Rattle.std.specs.Prelude.{◌≡◌, ◌≤◌, ◌↔◌, ℕ, List, ◌++◌, length, take, IfOk};
 ghost use Rattle.z80_decode.specs.declared.instr.Instr.{Instr};
-ghost use Rattle.z80_decode.specs.Spelling.{spelling, IsProperBeginning, IsUndocumented};
+ghost use Rattle.z80_decode.specs.Spelling.{spelling, IsProperBeginning};
+ghost use Rattle.z80_decode.specs.Undocumented.{IsUndocumented};
 ghost use Rattle.z80_decode.specs.Decoding.{byte_at, first_instr, decoded, indexed, word_from};
 
 use crate::cb_page::behind_cb;
@@ -12,17 +13,19 @@ use crate::instr::Instr;
 use crate::operands::{Index, Memory, Place};
 use crate::unprefixed_page::unprefixed;
 
-/// The instruction that the bytes begin with, and its length in bytes, 1 to 4. Bytes after the
-/// instruction don't matter.
+/// The instruction at the beginning of the bytes, with its length in bytes, 1 to 4. Later bytes are ignored. The
+/// documented spellings are the table of docs/INSTRUCTIONS.md, "Codes" (UM0080, "Z80 Instruction Description").
 ///
-/// Truncated: the bytes, which may be none, are a proper beginning of a documented spelling.
-/// Undocumented: they neither begin with a documented spelling nor are a beginning of one. What is
-/// documented is the table in docs/INSTRUCTIONS.md, section "Codes" (UM0080, "Z80 Instruction
-/// Description").
+/// # Errors
+///
+/// Truncated: the bytes, or none at all, are a proper beginning of a documented spelling.
+/// Undocumented: they neither begin with a documented spelling nor are the beginning of one.
 pub fn decode(bytes: &[u8]) -> Result<(Instr, u8), DecodeFault>
     // As many bytes as the length says spell the instruction.
-    ensures found { IfOk result (λ x. (x.1 ≤ length bytes.now) × (take x.1 bytes.now ≡ spelling x.0)) }
-    ensures only { (i : Instr) (rest : List ℕ) → bytes.now ≡ spelling i ++ rest → result ≡ Ok (i, length (spelling i)) }
+    ensures found { IfOk result (λ x. (x.1 ≤ length bytes.now)
+        × (take x.1 bytes.now ≡ spelling x.0)) }
+    ensures only { (i : Instr) (rest : List ℕ) → bytes.now ≡ spelling i ++ rest
+        → result ≡ Ok (i, length (spelling i)) }
     ensures truncated { (result ≡ Err DecodeFault.Truncated) ↔ IsProperBeginning bytes.now }
     ensures undocumented { (result ≡ Err DecodeFault.Undocumented) ↔ IsUndocumented bytes.now }
     ensures short { IfOk result (λ x. (1 ≤ x.1) × (x.1 ≤ 4)) }
@@ -37,9 +40,8 @@ pub fn decode(bytes: &[u8]) -> Result<(Instr, u8), DecodeFault>
     Ok((instr, length))
 }
 
-/// The instruction that the bytes begin with, if they are enough for it. Where they end too early,
-/// 46h stands for each byte that is missing: it completes each proper beginning of a spelling, as
-/// LD B,(HL), IM 0, LD B,(IX+d) and BIT 0,(IX+d) show.
+/// The instruction at the beginning of the bytes, if the bytes suffice. A missing byte counts as 46h, which completes
+/// each proper beginning of a spelling: see LD B,(HL), IM 0, LD B,(IX+d) and BIT 0,(IX+d).
 fn first_instr(bytes: &[u8]) -> Option<Instr>
     ensures { result ≡ first_instr bytes.now }
 {
@@ -57,14 +59,13 @@ fn byte_at(bytes: &[u8], place: usize) -> u8
     bytes.get(place).copied().unwrap_or(0x46)
 }
 
-/// The word that is spelled with its low byte first.
 fn word_from(low: u8, high: u8) -> u16
     ensures { result ≡ word_from low high }
 {
     u16::from(low) + 256 * u16::from(high)
 }
 
-/// The instruction that begins a window of four bytes, if one does.
+/// The instruction at the beginning of a window of four bytes, if there is one.
 fn decoded(first: u8, second: u8, third: u8, fourth: u8) -> Option<Instr>
     ensures { result ≡ decoded first second third fourth }
 {
@@ -77,8 +78,8 @@ fn decoded(first: u8, second: u8, third: u8, fourth: u8) -> Option<Instr>
     }
 }
 
-/// The instruction behind the prefix of an index register. With CB, d stands before the opcode.
-// Out of line, its result would go through memory, and with it that of every other instruction.
+/// The instruction after the prefix of an index register. With CB, d comes before the opcode.
+// A call out of line would pass its result through memory, and with it that of every other instruction.
 #[inline(always)]
 fn indexed(index: Index, second: u8, third: u8, fourth: u8) -> Option<Instr>
     ensures { result ≡ indexed index second third fourth }

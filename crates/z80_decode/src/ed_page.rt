@@ -1,17 +1,17 @@
-// The opcodes behind the prefix ED.
+// Opcodes after the prefix ED.
 ghost use Rattle.std.specs.Prelude.{◌≡◌};
-ghost use Rattle.z80_decode.specs.EdPage.{behind_ed, port_or_pair, block_instr, single};
+ghost use Rattle.z80_decode.specs.EdPage.{behind_ed, port_or_pair, block_instr, single_code};
 
-use crate::fields::Fields;
+use crate::fields::OpcodeFields;
 use crate::instr::Instr;
 use crate::kinds::{BlockKind, MaskableMode};
 use crate::operands::{Direct, OperandPair, Register8, Register16, Special};
 
-/// The instruction of an opcode behind the prefix ED, with the word that follows it.
+/// The instruction of an opcode after the prefix ED, given the word after it.
 pub(crate) fn behind_ed(opcode: u8, word: u16) -> Option<Instr>
     ensures { result ≡ behind_ed opcode word }
 {
-    let Fields { x, y, z } = Fields::of(opcode);
+    let OpcodeFields { x, y, z } = OpcodeFields::of(opcode);
     match x {
         1 if z < 4 => port_or_pair(y, z, word),
         1 => single(opcode),
@@ -34,9 +34,9 @@ fn port_or_pair(y: u8, z: u8, word: u16) -> Option<Instr>
     }
 }
 
-/// 01 yyy 1zz: the opcodes that have no operand in them.
+/// 01 yyy 1zz: the opcodes without an operand.
 fn single(opcode: u8) -> Option<Instr>
-    ensures { result ≡ single opcode }
+    ensures { result ≡ single_code opcode }
 {
     match opcode {
         0x44 => Some(Instr::Negate),
@@ -55,7 +55,7 @@ fn single(opcode: u8) -> Option<Instr>
     }
 }
 
-/// 10 yyy zzz, of which 10 1yy 0zz are documented.
+/// 10 yyy zzz; only 10 1yy 0zz is documented.
 fn block_instr(y: u8, z: u8) -> Option<Instr>
     ensures { result ≡ block_instr y z }
 {

@@ -1,8 +1,8 @@
-// The opcodes behind the prefixes DD and FD, of the index registers.
+// Opcodes after the prefixes DD and FD of the index registers.
 ghost use Rattle.std.specs.Prelude.{◌≡◌};
 ghost use Rattle.z80_decode.specs.IndexPage.{behind_index, on_index, on_memory, load_at, as_word, as_stack_pair, as_pointer};
 
-use crate::fields::Fields;
+use crate::fields::OpcodeFields;
 use crate::instr::Instr;
 use crate::kinds::ArithmeticKind;
 use crate::operands::{
@@ -38,8 +38,7 @@ impl Index {
     }
 }
 
-/// The instruction of an opcode behind the prefix of an index register, with the two bytes that
-/// follow it, and the word that they make.
+/// The instruction of an opcode after the prefix of an index register, given the two bytes after it and their word.
 pub(crate) fn behind_index(
     index: Index,
     opcode: u8,
@@ -52,7 +51,7 @@ pub(crate) fn behind_index(
     on_index(index, opcode, word).or(on_memory(Memory::At(index, byte), opcode, number))
 }
 
-/// The opcodes that work on the index register itself.
+/// Opcodes for the index register itself.
 fn on_index(index: Index, opcode: u8, word: u16) -> Option<Instr>
     ensures { result ≡ on_index index opcode word }
 {
@@ -75,11 +74,11 @@ fn on_index(index: Index, opcode: u8, word: u16) -> Option<Instr>
     }
 }
 
-/// The opcodes that work on the byte at (IX+d); a number of LD (IX+d),n stands behind d.
+/// Opcodes for the byte at (IX+d). The number of LD (IX+d),n comes after d.
 fn on_memory(memory: Memory, opcode: u8, number: u8) -> Option<Instr>
     ensures { result ≡ on_memory memory opcode number }
 {
-    let Fields { x, y, z } = Fields::of(opcode);
+    let OpcodeFields { x, y, z } = OpcodeFields::of(opcode);
     let place = Place::Memory(memory);
     match opcode {
         0x34 => Some(Instr::Increment(place)),
@@ -94,7 +93,7 @@ fn on_memory(memory: Memory, opcode: u8, number: u8) -> Option<Instr>
     }
 }
 
-/// 01 yyy zzz, of which those are documented that have the code of memory in one field.
+/// 01 yyy zzz, documented only if exactly one field is the code of memory.
 fn load_at(memory: Memory, target: Option<Register8>, source: Option<Register8>) -> Option<Instr>
     ensures { result ≡ load_at memory target source }
 {

@@ -10,11 +10,9 @@ use crate::operands::{
 
 /// A documented instruction of the Z80 with its operands (UM0080, "Z80 Instruction Description").
 ///
-/// Each value has exactly one spelling, and no two have the same: where the manual has two
-/// spellings of one effect, as 2A nn and ED 6B nn for LD HL,(nn), they are two values. A number of
-/// eight bits is 0 to 255 and one of sixteen bits 0 to 65,535. The displacement of a relative jump
-/// is the byte as it is spelled: from 128 on it stands for that number less 256, and it counts from
-/// the address of the next instruction.
+/// Each value has exactly one spelling, and no two values have the same. Where the manual has two spellings of one
+/// effect, such as 2A nn and ED 6B nn for LD HL,(nn), they are two values. The displacement of a relative jump is the
+/// byte as it is spelled: from 128 on it stands for 256 less. It counts from the address of the next instruction.
 #[derive(Clone, Copy)]
 pub enum Instr {
     /// NOP

@@ -1,8 +1,8 @@
-// The kinds that an instruction has in its opcode: conditions, operations, bits.
+// The kinds that an opcode encodes: conditions, operations, bits.
 ghost use Rattle.std.specs.Prelude.{◌≡◌};
 ghost use Rattle.z80_decode.specs.Codes.{condition_of, short_condition_of, operation_of, shift_of, block_of, bit_of, restart_of};
 
-/// A condition of JP, CALL and RET: `cc` of the manual.
+/// A condition of JP, CALL and RET: `cc` in the manual.
 #[derive(Clone, Copy)]
 pub enum Condition {
     NotZero,
@@ -24,7 +24,7 @@ pub enum ShortCondition {
     Carry,
 }
 
-/// An operation of eight-bit arithmetic or logic on A; `Compare` is CP.
+/// An operation of 8-bit arithmetic or logic on A. `Compare` is CP.
 #[derive(Clone, Copy)]
 pub enum ArithmeticKind {
     Add,
@@ -37,7 +37,7 @@ pub enum ArithmeticKind {
     Compare,
 }
 
-/// A shift or rotation behind the prefix CB.
+/// A shift or rotate after the prefix CB.
 #[derive(Clone, Copy)]
 pub enum ShiftKind {
     Rlc,
@@ -49,7 +49,7 @@ pub enum ShiftKind {
     Srl,
 }
 
-/// A rotation of A that has a code of one byte.
+/// A rotate of A with an opcode of one byte.
 #[derive(Clone, Copy)]
 pub enum AccumulatorRotate {
     Rlca,
@@ -58,8 +58,7 @@ pub enum AccumulatorRotate {
     Rra,
 }
 
-/// Which way a block instruction moves its addresses, and whether it repeats: of the loads LDI,
-/// LDD, LDIR and LDDR.
+/// The direction of a block instruction, and whether it repeats. For the loads: LDI, LDD, LDIR and LDDR.
 #[derive(Clone, Copy)]
 pub enum BlockKind {
     Increment,
@@ -103,7 +102,7 @@ pub enum MaskableMode {
 }
 
 impl Condition {
-    /// The condition with a code of three bits.
+    /// The condition with this code, 0 to 7.
     pub(crate) fn of(code: u8) -> Condition
         ensures { result ≡ condition_of code }
     {
@@ -121,7 +120,7 @@ impl Condition {
 }
 
 impl ShortCondition {
-    /// The condition with a code of three bits, 4 to 7.
+    /// The condition with this code, 4 to 7.
     pub(crate) fn of(code: u8) -> ShortCondition
         ensures { result ≡ short_condition_of code }
     {
@@ -135,7 +134,7 @@ impl ShortCondition {
 }
 
 impl ArithmeticKind {
-    /// The operation with a code of three bits.
+    /// The operation with this code, 0 to 7.
     pub(crate) fn of(code: u8) -> ArithmeticKind
         ensures { result ≡ operation_of code }
     {
@@ -153,7 +152,7 @@ impl ArithmeticKind {
 }
 
 impl ShiftKind {
-    /// The shift with a code of three bits; none at 6, which is undocumented.
+    /// The shift with this code, 0 to 7; None for 6, which is undocumented.
     pub(crate) fn of(code: u8) -> Option<ShiftKind>
         ensures { result ≡ shift_of code }
     {
@@ -171,7 +170,7 @@ impl ShiftKind {
 }
 
 impl BlockKind {
-    /// The kind with a code of three bits, 4 to 7.
+    /// The kind with this code, 4 to 7.
     pub(crate) fn of(code: u8) -> BlockKind
         ensures { result ≡ block_of code }
     {
@@ -185,7 +184,7 @@ impl BlockKind {
 }
 
 impl Bit {
-    /// The bit with a code of three bits.
+    /// The bit with this code, 0 to 7.
     pub(crate) fn of(code: u8) -> Bit
         ensures { result ≡ bit_of code }
     {
@@ -203,7 +202,7 @@ impl Bit {
 }
 
 impl RestartAddress {
-    /// The address with a code of three bits, which is the address divided by 8.
+    /// The address with this code, 0 to 7, which is the address divided by 8.
     pub(crate) fn of(code: u8) -> RestartAddress
         ensures { result ≡ restart_of code }
     {

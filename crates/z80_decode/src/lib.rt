@@ -1,4 +1,4 @@
-// The documented instructions of the Z80 (Zilog UM0080), how they are spelled, and the decoder.
+// The documented instructions of the Z80 (Zilog UM0080), their spellings, and the decoder.
 #![tactic(auto)]
 
 mod cb_page;

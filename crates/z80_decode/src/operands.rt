@@ -1,8 +1,8 @@
-// The operands of instructions: registers, pairs, places in memory.
+// Operands of instructions: registers, pairs, places in memory.
 ghost use Rattle.std.specs.Prelude.{◌≡◌};
-ghost use Rattle.z80_decode.specs.Codes.{register_of, place_coded, word_of, stack_pair_of, pair_of};
+ghost use Rattle.z80_decode.specs.Codes.{register_of, place_coded, register_of_code, stack_pair_of, operand_pair_of};
 
-/// A general register of eight bits (UM0080, "Z80 Register Configuration").
+/// An 8-bit general register (UM0080, "Z80 Register Configuration").
 #[derive(Clone, Copy)]
 pub enum Register8 {
     B,
@@ -14,8 +14,8 @@ pub enum Register8 {
     A,
 }
 
-/// A pair of sixteen bits that is loaded, stored, counted up or down: `dd` and `ss` of the
-/// manual, and the two index registers.
+/// A 16-bit register that is loaded, stored, incremented or decremented: `dd` and `ss` in the manual, and the index
+/// registers.
 #[derive(Clone, Copy)]
 pub enum Register16 {
     Bc,
@@ -26,7 +26,7 @@ pub enum Register16 {
     Iy,
 }
 
-/// A pair that is pushed and popped: `qq` of the manual, and the two index registers.
+/// A pair that is pushed and popped: `qq` in the manual, and the index registers.
 #[derive(Clone, Copy)]
 pub enum StackPair {
     Bc,
@@ -37,7 +37,7 @@ pub enum StackPair {
     Iy,
 }
 
-/// The second operand of ADD HL,ss, ADC HL,ss and SBC HL,ss: `ss` of the manual.
+/// The second operand of ADD HL,ss, ADC HL,ss and SBC HL,ss: `ss` in the manual.
 #[derive(Clone, Copy)]
 pub enum OperandPair {
     Bc,
@@ -46,8 +46,7 @@ pub enum OperandPair {
     Sp,
 }
 
-/// The second operand of ADD IX,pp and ADD IY,rr: `pp` and `rr` of the manual. `Own` is the index
-/// register itself.
+/// The second operand of ADD IX,pp and ADD IY,rr: `pp` and `rr` in the manual. `Own` is the index register itself.
 #[derive(Clone, Copy)]
 pub enum IndexPair {
     Bc,
@@ -56,7 +55,7 @@ pub enum IndexPair {
     Sp,
 }
 
-/// What JP (HL), EX (SP),HL and LD SP,HL work on: HL, or an index register in its place.
+/// The register of JP (HL), EX (SP),HL and LD SP,HL: HL or an index register.
 #[derive(Clone, Copy)]
 pub enum Pointer {
     Hl,
@@ -71,30 +70,29 @@ pub enum Index {
     Iy,
 }
 
-/// The byte in memory that an instruction works on: (HL), or (IX+d) and (IY+d). The displacement
-/// is the byte as it is spelled, 0 to 255; from 128 on it stands for that number less 256.
+/// A byte in memory as an operand: (HL), (IX+d) or (IY+d). The displacement is the byte as it is spelled; from 128 on
+/// it stands for 256 less.
 #[derive(Clone, Copy)]
 pub enum Memory {
     AtHl,
     At(Index, u8),
 }
 
-/// A register or a byte in memory: `r` and `m` of the manual, or `s` without its number.
+/// A register or a byte in memory: `r` and `m` in the manual.
 #[derive(Clone, Copy)]
 pub enum Place {
     Register(Register8),
     Memory(Memory),
 }
 
-/// The operand of eight-bit arithmetic and logic: `s` of the manual. A number is 0 to 255.
+/// The operand of 8-bit arithmetic and logic: `s` in the manual.
 #[derive(Clone, Copy)]
 pub enum Operand {
     Place(Place),
     Immediate(u8),
 }
 
-/// Where LD A,(BC), LD A,(DE) and LD A,(nn) load from, and LD (BC),A and the like store to.
-/// An address is 0 to 65,535.
+/// The address of LD A,(BC), LD A,(DE) and LD A,(nn), and of the stores of A.
 #[derive(Clone, Copy)]
 pub enum Address {
     Bc,
@@ -102,15 +100,14 @@ pub enum Address {
     Direct(u16),
 }
 
-/// The pair of a load from (nn) or a store to it. HL has two spellings there: `ShortHl` is the
-/// one without a prefix, and the others have one.
+/// The register of a load from (nn) or a store to it. HL has two spellings: `ShortHl` is the one without a prefix.
 #[derive(Clone, Copy)]
 pub enum Direct {
     ShortHl,
     Pair(Register16),
 }
 
-/// A register of special purpose that is loaded from A and into it.
+/// A special register that A is loaded from and stored to.
 #[derive(Clone, Copy)]
 pub enum Special {
     I,
@@ -118,7 +115,7 @@ pub enum Special {
 }
 
 impl Register8 {
-    /// The register with a code of three bits; none at 6, the code of memory.
+    /// The register with this code, 0 to 7; None for 6, the code of memory.
     pub(crate) fn of(code: u8) -> Option<Register8>
         ensures { result ≡ register_of code }
     {
@@ -136,7 +133,7 @@ impl Register8 {
 }
 
 impl Place {
-    /// The register with a code of three bits, or (HL).
+    /// The register with this code, 0 to 7, or (HL) for 6.
     pub(crate) fn of(code: u8) -> Place
         ensures { result ≡ place_coded code }
     {
@@ -148,9 +145,9 @@ impl Place {
 }
 
 impl Register16 {
-    /// The pair with a code of two bits.
+    /// The register with this code, 0 to 3.
     pub(crate) fn of(code: u8) -> Register16
-        ensures { result ≡ word_of code }
+        ensures { result ≡ register_of_code code }
     {
         match code {
             0 => Register16::Bc,
@@ -162,7 +159,7 @@ impl Register16 {
 }
 
 impl StackPair {
-    /// The pair with a code of two bits.
+    /// The pair with this code, 0 to 3.
     pub(crate) fn of(code: u8) -> StackPair
         ensures { result ≡ stack_pair_of code }
     {
@@ -176,9 +173,9 @@ impl StackPair {
 }
 
 impl OperandPair {
-    /// The pair with a code of two bits.
+    /// The pair with this code, 0 to 3.
     pub(crate) fn of(code: u8) -> OperandPair
-        ensures { result ≡ pair_of code }
+        ensures { result ≡ operand_pair_of code }
     {
         match code {
             0 => OperandPair::Bc,

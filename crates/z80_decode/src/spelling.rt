@@ -1,21 +1,21 @@
-// How many bytes spell an instruction, and that no two are spelled alike.
+// The lengths of spellings, and the law that spellings are unique.
 ghost use Rattle.std.specs.Prelude.{◌≡◌, ◌≤◌, ℕ, List, [], ◌++◌, length};
 ghost use Rattle.z80_decode.specs.declared.instr.Instr.{Instr};
-ghost use Rattle.z80_decode.specs.Spelling.{spelling, at, at_behind_cb, at_memory, at_pair, at_direct};
+ghost use Rattle.z80_decode.specs.Spelling.{spelling, at, at_behind_cb, spelled_at_memory, at_pair, at_direct};
 
 use crate::instr::Instr;
 use crate::operands::{Address, Direct, Memory, Operand, Place, Pointer, Register16, StackPair};
 
-/// No two instructions are spelled alike, nor is the spelling of one the beginning of another's. A
-/// law: it does nothing when it is called.
+/// A law: no two instructions have the same spelling, and no spelling begins another. A call does nothing.
 pub fn one_spelling()
     ensures alike { (i j : Instr) → spelling i ≡ spelling j → i ≡ j }
-    ensures no_beginning { (i j : Instr) (rest : List ℕ) → spelling i ++ rest ≡ spelling j → rest ≡ [] }
+    ensures no_beginning { (i j : Instr) (rest : List ℕ) → spelling i ++ rest ≡ spelling j
+        → rest ≡ [] }
 {}
 
 impl Memory {
     fn length(self) -> u8
-        ensures exact { (op : ℕ) → result ≡ length (at_memory self op) }
+        ensures exact { (op : ℕ) → result ≡ length (spelled_at_memory self op) }
         ensures short { (1 ≤ result) × (result ≤ 3) }
     {
         match self {
@@ -72,7 +72,7 @@ impl Direct {
 }
 
 impl Instr {
-    /// How many bytes spell the instruction, 1 to 4.
+    /// The length of the spelling in bytes, 1 to 4.
     pub(crate) fn length(&self) -> u8
         ensures exact { result ≡ length (spelling self.now) }
         ensures short { (1 ≤ result) × (result ≤ 4) }

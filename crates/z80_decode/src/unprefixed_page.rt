@@ -1,20 +1,19 @@
-// The opcodes without a prefix.
+// Opcodes without a prefix.
 ghost use Rattle.std.specs.Prelude.{◌≡◌};
 ghost use Rattle.z80_decode.specs.UnprefixedPage.{unprefixed, first_quarter, relative_jump, indirect_load, on_accumulator, load, last_quarter, pop_or_return, jump_or_exchange, push_or_call};
 
-use crate::fields::Fields;
+use crate::fields::OpcodeFields;
 use crate::instr::Instr;
 use crate::kinds::{AccumulatorRotate, ArithmeticKind, Condition, RestartAddress, ShortCondition};
 use crate::operands::{
     Address, Direct, Operand, OperandPair, Place, Pointer, Register16, StackPair,
 };
 
-/// The instruction of an opcode without a prefix, with the byte and the word that follow it. None
-/// at the four prefixes.
+/// The instruction of an opcode without a prefix, given the byte and the word after it. None for the four prefixes.
 pub(crate) fn unprefixed(opcode: u8, byte: u8, word: u16) -> Option<Instr>
     ensures { result ≡ unprefixed opcode byte word }
 {
-    let Fields { x, y, z } = Fields::of(opcode);
+    let OpcodeFields { x, y, z } = OpcodeFields::of(opcode);
     match x {
         0 => Some(first_quarter(y, z, byte, word)),
         1 => Some(load(Place::of(y), Place::of(z))),
@@ -86,7 +85,7 @@ fn on_accumulator(y: u8) -> Instr
     }
 }
 
-/// 01 yyy zzz. What would load memory from memory is HALT.
+/// 01 yyy zzz. HALT has the code of a load from memory to memory.
 fn load(target: Place, source: Place) -> Instr
     ensures { result ≡ load target source }
 {

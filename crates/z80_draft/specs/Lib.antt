@@ -1,4 +1,4 @@
--- The definitions of drafts. The first line of each file says whether the word "safe" reaches it (Trusted) or not (Helper).
+-- The definitions of drafts. The first line of each file says whether `Safe` depends on it (Trusted) or not (Helper).
 pub mod Outside
 pub mod Registers
 pub mod Arithmetic

@@ -1,13 +1,13 @@
-// The accesses that an event makes.
+// Accesses of an event.
 
-/// One data write: the byte that goes to an address.
+/// One data write of a byte.
 #[derive(Clone, Copy, PartialEq, Eq, Default)]
 pub struct Write {
     pub at: u16,
     pub byte: u8,
 }
 
-/// One stack access: an address, and the byte that goes there where it is a write.
+/// One stack access: the address, and the byte if it is a write.
 #[derive(Clone, Copy, PartialEq, Eq, Default)]
 pub struct StackAccess {
     pub at: u16,

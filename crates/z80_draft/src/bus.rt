@@ -1,4 +1,4 @@
-// What an event finds outside the processor.
+// The bus: what an event finds outside the processor.
 
 ghost use Rattle.std.specs.Prelude.{◌≡◌};
 
@@ -8,16 +8,15 @@ pub trait Bus {
 
     ghost outside: { Self → Outside };
 
-    /// The byte that a data read of an address, 0 to 65,535, finds. `is_later` tells whether the event has
-    /// read a data byte before.
+    /// The byte that a data read finds at `at`. `is_later` is false for the first data byte that the event reads.
     fn read(&self, is_later: bool, at: u16) -> u8
         ensures { result ≡ (outside self.now).read is_later at };
 
-    /// The byte whose bit k stands for bit k of F where the manual leaves that flag open.
+    /// The noise byte: bit k of it is bit k of F wherever the manual leaves that flag undefined.
     fn noise(&self) -> u8
         ensures { result ≡ (outside self.now).noise };
 
-    /// The byte that LD A,R gives.
+    /// The byte that LD A,R loads.
     fn r(&self) -> u8
         ensures { result ≡ (outside self.now).r };
 }

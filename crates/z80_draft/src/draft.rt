@@ -1,7 +1,7 @@
-// What an event has done so far.
+// Drafts: the effects of an event before they reach the board.
 
 ghost use Rattle.std.specs.Prelude.{◌≡◌};
-ghost use Rattle.z80_draft.specs.Draft.{draft_on, byte_in, with_byte, word_in, with_word, flags_in};
+ghost use Rattle.z80_draft.specs.Draft.{draft_on, draft_byte, with_byte, draft_word, with_word, flags_in};
 
 mod direct;
 mod memory;
@@ -15,7 +15,7 @@ use std::marker::Model;
 use z80_alu::{Flags, Regs};
 use z80_moves::{ByteRegister, WordRegister};
 
-/// What an event has done so far, before anything of it reaches the board.
+/// What an event does to the registers, with its writes and stack accesses, before any of it reaches the board.
 #[derive(Drop)]
 pub struct Draft {
     regs: Regs,
@@ -29,15 +29,15 @@ pub struct Draft {
 }
 
 impl Model for Draft {
-    ghost use Rattle.z80_draft.specs.Draft.{Draft as Done};
+    ghost use Rattle.z80_draft.specs.Draft.{DraftView};
 
-    ghost Value = { Done };
+    ghost Value = { DraftView };
 
     ghost view = { λ d. record { regs = d.regs; operand = d.operand; pointer = d.pointer; has_read = d.has_read; writes = d.writes.items; stack = d.stack.items; taken = d.taken; halts = d.halts } };
 }
 
 impl Draft {
-    /// Nothing but the registers.
+    /// A draft that has only registers.
     pub fn new(regs: Regs) -> Draft
         ensures { result ≡ draft_on regs }
     {
@@ -53,36 +53,36 @@ impl Draft {
         }
     }
 
-    /// The registers that the event leaves.
+    /// The registers after the moves so far.
     pub fn regs(&self) -> Regs
         ensures { result ≡ self.now.regs }
     {
         self.regs
     }
 
-    /// The data writes, in order.
+    /// The data writes, in order, at most two.
     pub fn writes(&self) -> &[Write]
         ensures { result.now ≡ self.now.writes }
     {
         self.writes.as_slice()
     }
 
-    /// The stack accesses, in order.
+    /// The stack accesses, in order, at most two.
     pub fn stack(&self) -> &[StackAccess]
         ensures { result.now ≡ self.now.stack }
     {
         self.stack.as_slice()
     }
 
-    /// Whether the test of the instruction held: a conditional jump, call or return is taken, or a
-    /// block instruction goes on.
+    /// Whether the test of the instruction held: a conditional jump, call or return is taken, or a block instruction
+    /// repeats.
     pub fn taken(&self) -> bool
         ensures { result ≡ self.now.taken }
     {
         self.taken
     }
 
-    /// Whether the machine halts.
+    /// Whether the event halts the machine.
     pub fn halts(&self) -> bool
         ensures { result ≡ self.now.halts }
     {
@@ -90,7 +90,7 @@ impl Draft {
     }
 
     fn byte(&self, register: ByteRegister) -> u8
-        ensures { result ≡ byte_in register self.now }
+        ensures { result ≡ draft_byte register self.now }
     {
         match register {
             ByteRegister::A => self.regs.main.a,
@@ -124,7 +124,7 @@ impl Draft {
     }
 
     fn word(&self, register: WordRegister) -> u16
-        ensures { result ≡ word_in register self.now }
+        ensures { result ≡ draft_word register self.now }
     {
         match register {
             WordRegister::Af => self.regs.main.af(),

@@ -1,5 +1,5 @@
-// What an event does to the registers, and the accesses to memory and to the stack that it makes, before anything of it
-// reaches a board (docs/BOARD.md, "Step"). It knows the processor, and nothing of the board but what reads find.
+// Drafts: what an event does to the registers, with its data writes and stack accesses, before any of it reaches the
+// board (docs/BOARD.md, "Step"). Of the board a draft knows only what reads find.
 #![tactic(auto)]
 
 mod access;

@@ -1,4 +1,4 @@
--- The constants of an instruction are in range, since its bytes are.
+-- The constants of an instruction are in range because its bytes are.
 use Rattle.std.proofs.Common.{◌<◌, ◌*◌, ◌/◌, ℕ, List, [], ◌∷◌, arith, lit<}
 use Rattle.z80_decode.specs.Kinds.{restart}
 use Rattle.z80_decode.specs.Spelling.{spelling}

@@ -1,4 +1,4 @@
-// The lists of the instructions that work on an operand.
+// The moves of instructions that work on an operand.
 
 ghost use Rattle.std.specs.Prelude.{◌≡◌};
 ghost use Rattle.z80_decode.specs.declared.instr.Instr.TheVariants.{Arithmetic};
@@ -10,7 +10,7 @@ use crate::operands::worked_at;
 use crate::registers::{ByteRegister, WordRegister};
 use z80_decode::{ArithmeticKind, Operand, Place};
 
-// A move that reads an operand, behind those that bring it.
+// A move that reads an operand, after those that fetch it.
 pub(crate) fn reading(place: Place, step: Move) -> Moves
     ensures { result ≡ reading place step }
 {
@@ -26,7 +26,7 @@ pub(crate) fn reading(place: Place, step: Move) -> Moves
     }
 }
 
-// A move that changes an operand, between those that bring it and write it back.
+// A move that changes an operand, between those that fetch it and write it back.
 pub(crate) fn changing(place: Place, step: Move) -> Moves
     ensures { result ≡ changing place step }
 {

@@ -1,4 +1,4 @@
-// The lists of the block instructions.
+// The moves of the block instructions.
 
 ghost use Rattle.std.specs.Prelude.{◌≡◌};
 ghost use Rattle.z80_moves.specs.Moves.{block_load, block_compare};
@@ -7,7 +7,7 @@ use crate::moves::{Move, Moves, Test};
 use crate::registers::{ByteRegister, WordRegister};
 use z80_decode::BlockKind;
 
-// What a turn of LDI or LDIR does, whether it repeats or not.
+// One turn of LDI or LDIR, without the repetition.
 const LOAD_UP: [Move; 6] = [
     Move::ReadByte(ByteRegister::Operand, WordRegister::Hl),
     Move::WriteByte(WordRegister::De, ByteRegister::Operand),
@@ -17,7 +17,7 @@ const LOAD_UP: [Move; 6] = [
     Move::BlockLoadFlags,
 ];
 
-// What a turn of LDD or LDDR does.
+// One turn of LDD or LDDR, without the repetition.
 const LOAD_DOWN: [Move; 6] = [
     Move::ReadByte(ByteRegister::Operand, WordRegister::Hl),
     Move::WriteByte(WordRegister::De, ByteRegister::Operand),
@@ -27,7 +27,7 @@ const LOAD_DOWN: [Move; 6] = [
     Move::BlockLoadFlags,
 ];
 
-// What a turn of CPI or CPIR does.
+// One turn of CPI or CPIR, without the repetition.
 const COMPARE_UP: [Move; 4] = [
     Move::ReadByte(ByteRegister::Operand, WordRegister::Hl),
     Move::IncrementWord(WordRegister::Hl),
@@ -35,7 +35,7 @@ const COMPARE_UP: [Move; 4] = [
     Move::BlockCompareFlags,
 ];
 
-// What a turn of CPD or CPDR does.
+// One turn of CPD or CPDR, without the repetition.
 const COMPARE_DOWN: [Move; 4] = [
     Move::ReadByte(ByteRegister::Operand, WordRegister::Hl),
     Move::DecrementWord(WordRegister::Hl),
@@ -43,7 +43,7 @@ const COMPARE_DOWN: [Move; 4] = [
     Move::BlockCompareFlags,
 ];
 
-// Where the instruction goes on, the program counter goes back to it: by 2, which FEh stands for.
+// A repetition sets PC back by 2 (FEh is -2), to the instruction itself.
 const BACK: Move = Move::Displace(WordRegister::Pc, 0xFE);
 
 // One turn of LDI, LDD, LDIR or LDDR.

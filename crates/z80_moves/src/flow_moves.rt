@@ -1,4 +1,4 @@
-// The lists of jumps, calls and returns.
+// The moves of jumps, calls and returns.
 
 ghost use Rattle.std.specs.Prelude.{◌≡◌, ◌*◌};
 ghost use Rattle.z80_decode.specs.Kinds.{restart};

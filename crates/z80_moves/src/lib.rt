@@ -1,5 +1,5 @@
-// What each instruction does, as a list of moves of few kinds (docs/INSTRUCTIONS.md, "Moves"): the machine runs these
-// lists, and so does whoever reasons about a program.
+// Each instruction as a short list of moves (micro-operations) of few kinds (docs/INSTRUCTIONS.md, "Moves"). The
+// machine executes these lists, and the abstract step follows them.
 #![tactic(auto)]
 
 mod arithmetic_moves;
@@ -14,4 +14,4 @@ mod table;
 pub use moves::{Move, Moves, Test};
 pub use operands::{byte_register, index_register, word_register};
 pub use registers::{ByteRegister, WordRegister};
-pub use table::{moves_for, moves_of_acceptance};
+pub use table::{NMI_ADDRESS, moves_for, moves_of_acceptance};

@@ -1,4 +1,4 @@
-// The lists of the loads.
+// The moves of the loads.
 
 ghost use Rattle.std.specs.Prelude.{◌≡◌, ◌≤◌, length};
 ghost use Rattle.z80_decode.specs.declared.instr.Instr.TheVariants.{LoadRegister, LoadImmediate, Store, LoadA, StoreA, StoreASpecial, LoadPairDirect, StorePairDirect};
@@ -9,7 +9,7 @@ use crate::operands::{byte_register, direct_register, index_register};
 use crate::registers::{ByteRegister, WordRegister};
 use z80_decode::{Address, Direct, Memory, Place, Register8, Special};
 
-// Moves that work at a byte in memory, behind those that reach it.
+// Moves on a byte in memory, after those that set the pointer.
 pub(crate) fn at_memory(memory: Memory, then: &[Move]) -> Moves
     requires { length then.now ≤ 6 }
     ensures { result ≡ at_memory memory then.now }
@@ -88,7 +88,7 @@ pub(crate) fn store_a(address: Address) -> Moves
     }
 }
 
-// R counts what isn't followed here: it stays 0.
+// R counts the processor's own reads, which are not modelled; it stays 0.
 pub(crate) fn store_special(special: Special) -> Moves
     ensures { result ≡ moves_of (StoreASpecial special) }
 {

@@ -1,4 +1,4 @@
-// The kinds of move, and lists of them.
+// Kinds of move, and lists of moves.
 
 ghost use Rattle.std.specs.Prelude.{◌≡◌, ◌+◌, ◌≤◌, [], ◌∷◌, ◌++◌, length};
 ghost use Rattle.z80_moves.specs.declared.moves.Move.TheVariants.{Halt};
@@ -8,25 +8,25 @@ use arrayvec::ArrayVec;
 use std::marker::Model;
 use z80_decode::{AccumulatorRotate, ArithmeticKind, Bit, Condition, ShiftKind, Special};
 
-/// What an instruction asks before the moves behind it are made.
+/// The test of an instruction, on which its later moves depend.
 #[derive(Clone, Copy)]
 pub enum Test {
-    /// The condition of JP cc, JR cc, CALL cc and RET cc.
+    /// The condition of JP cc, JR cc, CALL cc or RET cc.
     Flag(Condition),
     /// B is not 0: DJNZ jumps.
     BNotZero,
-    /// BC is not 0: LDIR and LDDR go on.
+    /// BC is not 0: LDIR and LDDR repeat.
     BcNotZero,
-    /// BC is not 0 and A differs from the byte in work: CPIR and CPDR go on.
+    /// BC is not 0 and A differs from the byte in work: CPIR and CPDR repeat.
     SearchGoesOn,
 }
 
-/// One of the few kinds of move that instructions are made of (docs/INSTRUCTIONS.md, "Moves").
+/// A move: one elementary operation of an instruction (docs/INSTRUCTIONS.md, "Moves").
 #[derive(Clone, Copy)]
 pub enum Move {
-    /// Sets a byte to a constant, 0 to 255.
+    /// Sets a byte to a constant.
     SetByte(ByteRegister, u8),
-    /// Sets a word to a constant, 0 to 65,535.
+    /// Sets a word to a constant.
     SetWord(WordRegister, u16),
     /// Copies to the first byte from the second.
     CopyByte(ByteRegister, ByteRegister),
@@ -34,27 +34,27 @@ pub enum Move {
     CopyWord(WordRegister, WordRegister),
     /// Adds a signed displacement, given as its byte, to a word.
     Displace(WordRegister, u8),
-    /// Reads a byte from the address in a word, as data.
+    /// Reads the byte at the address in a word, as data.
     ReadByte(ByteRegister, WordRegister),
-    /// Writes a byte to the address in the word, as data.
+    /// Writes a byte to the address in a word, as data.
     WriteByte(WordRegister, ByteRegister),
-    /// Reads a word from the address in the second word and the next, low byte first.
+    /// Reads a word at the address in the second word and the next address, low byte first.
     ReadWord(WordRegister, WordRegister),
-    /// Writes the second word to the address in the first and the next, low byte first.
+    /// Writes the second word to the address in the first and the next address, low byte first.
     WriteWord(WordRegister, WordRegister),
     /// Pushes a word: the high byte at SP - 1, the low byte at SP - 2.
     Push(WordRegister),
     /// Pops a word: the low byte at SP, the high byte at SP + 1.
     Pop(WordRegister),
-    /// Exchanges a word with the one at SP.
+    /// Exchanges a word with the word at SP.
     ExchangeStack(WordRegister),
     /// Exchanges DE and HL.
     ExchangeDeHl,
-    /// Exchanges AF with that of the alternate set.
+    /// Exchanges AF and AF'.
     ExchangeAf,
-    /// Exchanges BC, DE and HL with those of the alternate set.
+    /// Exchanges BC, DE and HL with BC', DE' and HL'.
     ExchangeSets,
-    /// An operation of A and a byte, with its flags.
+    /// An operation on A and a byte, with flags.
     Arithmetic(ArithmeticKind, ByteRegister),
     /// Adds 1 to a byte, with flags.
     Increment(ByteRegister),
@@ -64,7 +64,7 @@ pub enum Move {
     CountDown(ByteRegister),
     /// Shifts or rotates a byte, with flags.
     Shift(ShiftKind, ByteRegister),
-    /// Rotates A, with the flags of RLCA and its kin.
+    /// Rotates A, with the flags of RLCA, RRCA, RLA and RRA.
     RotateA(AccumulatorRotate),
     /// DAA.
     DecimalAdjust,
@@ -78,31 +78,31 @@ pub enum Move {
     ComplementCarry,
     /// Adds the second word to the first, with the flags of ADD HL,ss.
     AddWord(WordRegister, WordRegister),
-    /// Adds the second word and C to the first, with flags.
+    /// Adds the second word and the carry to the first, with flags.
     AddCarryWord(WordRegister, WordRegister),
-    /// Subtracts the second word and C from the first, with flags.
+    /// Subtracts the second word and the carry from the first, with flags.
     SubtractCarryWord(WordRegister, WordRegister),
     /// Adds 1 to a word, without flags.
     IncrementWord(WordRegister),
     /// Subtracts 1 from a word, without flags.
     DecrementWord(WordRegister),
-    /// Tests a bit of a byte: flags alone.
+    /// Tests a bit of a byte; only the flags change.
     TestBit(Bit, ByteRegister),
     /// Sets a bit of a byte.
     SetBit(Bit, ByteRegister),
     /// Resets a bit of a byte.
     ResetBit(Bit, ByteRegister),
-    /// RLD, of A and the byte in work.
+    /// RLD, on A and the byte in work.
     RotateDigitsLeft,
-    /// RRD, of A and the byte in work.
+    /// RRD, on A and the byte in work.
     RotateDigitsRight,
-    /// The flags of a turn of LDI and its kin, by BC after it.
+    /// The flags of one turn of LDI, LDD, LDIR or LDDR, from BC after it.
     BlockLoadFlags,
-    /// The flags of a turn of CPI and its kin, by A, the byte in work, and BC after it.
+    /// The flags of one turn of CPI, CPD, CPIR or CPDR, from A, the byte in work, and BC after it.
     BlockCompareFlags,
     /// Loads A from I or R, with flags.
     LoadASpecial(Special),
-    /// Sets or clears IFF1 and IFF2.
+    /// Sets IFF1 and IFF2, or clears both.
     SetInterrupts(bool),
     /// Clears IFF1.
     ClearIff1,
@@ -110,7 +110,7 @@ pub enum Move {
     RestoreIff1,
     /// Halts the machine.
     Halt,
-    /// Makes the moves behind it only if a test holds.
+    /// Makes the moves after it only if a test holds.
     OnlyIf(Test),
 }
 
@@ -156,7 +156,7 @@ impl Moves {
         Moves { items }
     }
 
-    /// These moves, of which there are at most eight.
+    /// A list of these moves, at most eight.
     pub fn of(moves: &[Move]) -> Moves
         requires { length moves.now ≤ 8 }
         ensures { result ≡ moves.now }
@@ -164,7 +164,7 @@ impl Moves {
         Moves::none().then(moves)
     }
 
-    /// The list with these behind it, of at most eight together.
+    /// The list with more moves at its end; at most eight together.
     pub fn then(mut self, moves: &[Move]) -> Moves
         requires { length self + length moves.now ≤ 8 }
         ensures { result ≡ self ++ moves.now }

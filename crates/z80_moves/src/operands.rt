@@ -1,4 +1,4 @@
-// The registers that the operands of instructions name.
+// The registers that operands name.
 
 ghost use Rattle.std.specs.Prelude.{◌≡◌};
 ghost use Rattle.z80_moves.specs.Operands.{byte_register, word_register, stack_register, pair_register, index_register, index_pair_register, pointer_register, direct_register, worked_at, long_condition};
@@ -9,7 +9,7 @@ use z80_decode::{
     ShortCondition, StackPair,
 };
 
-/// The register that an operand names, as a byte that a move takes or sets.
+/// The register that an operand names, as the byte of a move.
 pub fn byte_register(register: Register8) -> ByteRegister
     ensures { result ≡ byte_register register }
 {
@@ -24,7 +24,7 @@ pub fn byte_register(register: Register8) -> ByteRegister
     }
 }
 
-/// The register that an operand names, as a word that a move takes or sets.
+/// The register that an operand names, as the word of a move.
 pub fn word_register(pair: Register16) -> WordRegister
     ensures { result ≡ word_register pair }
 {
@@ -62,7 +62,7 @@ pub(crate) fn pair_register(pair: OperandPair) -> WordRegister
     }
 }
 
-/// The index register that an operand names, as a word that a move takes or sets.
+/// The index register that an operand names, as the word of a move.
 pub fn index_register(index: Index) -> WordRegister
     ensures { result ≡ index_register index }
 {
@@ -112,7 +112,7 @@ pub(crate) fn worked_at(place: Place) -> ByteRegister
     }
 }
 
-// A condition of JR is one of JP, CALL and RET.
+// The condition of JR as one of JP, CALL and RET.
 pub(crate) fn long_condition(condition: ShortCondition) -> Condition
     ensures { result ≡ long_condition condition }
 {

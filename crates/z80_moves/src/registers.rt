@@ -1,7 +1,7 @@
-// The registers that moves take and set.
+// The registers of moves.
 
-/// A byte that a move takes or sets: a register of the main set, I, or the byte in work, which holds
-/// the operand of an instruction that is not in a register.
+/// A byte that a move reads or sets: a register of the main set, I, or the byte in work (`Operand`), which holds an
+/// operand that is not in a register.
 #[derive(Clone, Copy)]
 pub enum ByteRegister {
     A,
@@ -16,8 +16,8 @@ pub enum ByteRegister {
     Operand,
 }
 
-/// A word that a move takes or sets: a pair of the main set, another register of sixteen bits, or the
-/// address that the instruction works at.
+/// A word that a move reads or sets: a pair of the main set, another 16-bit register, or the pointer, the address that
+/// the instruction works at.
 #[derive(Clone, Copy)]
 pub enum WordRegister {
     Af,

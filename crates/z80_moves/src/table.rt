@@ -1,4 +1,4 @@
-// The list of each instruction, and that of the acceptance of an NMI.
+// The moves of each instruction, and of the acceptance of an NMI.
 
 ghost use Rattle.std.specs.Prelude.{◌≡◌};
 ghost use Rattle.z80_moves.specs.Moves.{moves_of, acceptance_moves};
@@ -21,8 +21,8 @@ use crate::operands::{
 use crate::registers::WordRegister;
 use z80_decode::{Instr, Memory, Place};
 
-/// What an instruction does, move by move, once the program counter stands behind it: the table in
-/// docs/INSTRUCTIONS.md, section "Moves". Instructions of input and output have no moves.
+/// The moves of an instruction, which start with PC after the instruction: the table of docs/INSTRUCTIONS.md, "Moves".
+/// Instructions of the I/O group have none.
 pub fn moves_for(instr: &Instr) -> Moves
     ensures { result ≡ moves_of instr.now }
 {
@@ -96,13 +96,16 @@ pub fn moves_for(instr: &Instr) -> Moves
     }
 }
 
-/// What accepting an NMI does (UM0080, "Non-Maskable Interrupt").
+/// The address to which the acceptance of an NMI goes (UM0080, "Non-Maskable Interrupt").
+pub const NMI_ADDRESS: u16 = 0x0066;
+
+/// The moves of the acceptance of an NMI (UM0080, "Non-Maskable Interrupt").
 pub fn moves_of_acceptance() -> Moves
     ensures { result ≡ acceptance_moves }
 {
     Moves::of(&[
         Move::Push(WordRegister::Pc),
         Move::ClearIff1,
-        Move::SetWord(WordRegister::Pc, 0x0066),
+        Move::SetWord(WordRegister::Pc, NMI_ADDRESS),
     ])
 }

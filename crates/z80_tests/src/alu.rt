@@ -1,5 +1,5 @@
-// The operations on bytes, words and flags, against vectors. What the manual leaves open is masked out of them: bits 5
-// and 3, H after DAA, S and P/V after BIT, and P/V after LD A,I. With the noise 0 those bits are 0.
+// The operations on bytes, words and flags, against vectors. Flags that the manual leaves undefined are masked out:
+// bits 5 and 3, H after DAA, S and P/V after BIT, and P/V after LD A,I. With the noise 0 these bits are 0.
 use z80_alu::{
     Flags, RegisterSet, Regs, Shift, Word, adc16, add8, add16, and8, block_compare_flags,
     block_load_flags, ccf, cpl, daa, dec8, dec16, inc8, inc16, load_a_flags, or8, reset_bit, rla,
@@ -49,7 +49,7 @@ enum DigitOp {
     Rrd,
 }
 
-// A and F after one instruction on A, an operand and F.
+// A and F after an operation on A, an operand and F.
 fn run(op: Op, a: u8, operand: u8, f: u8) -> (u8, u8) {
     let carry = Flags::of(f).carry;
     match op {
@@ -82,7 +82,7 @@ fn run(op: Op, a: u8, operand: u8, f: u8) -> (u8, u8) {
     }
 }
 
-// HL and F after one instruction on HL, an operand and F.
+// HL and F after an operation on HL, an operand and F.
 fn run_word(op: WordOp, hl: u16, operand: u16, f: u8) -> (u16, u8) {
     let carry = Flags::of(f).carry;
     match op {
@@ -100,7 +100,7 @@ fn run_digits(op: DigitOp, a: u8, byte: u8, f: u8) -> (u8, u8, u8) {
     }
 }
 
-// Worked out by hand from the manual's descriptions: A, operand and F before, A and F after.
+// Worked by hand from the manual's descriptions. Columns: A, operand and F before; A and F after.
 #[test]
 fn agrees_with_the_manual(rt: HostRuntime) {
     let rows: &[(Op, u8, u8, u8, u8, u8)] = &[
@@ -123,7 +123,7 @@ fn agrees_with_the_manual(rt: HostRuntime) {
     assert!(rt; add8(0x7F, 0x01, false, 0xFF) == (0x80, 0xBC));
 }
 
-// From Debian's libz80ex 1.1.21-2, run once by hand: A, operand and F before, A and F after.
+// From Debian's libz80ex 1.1.21-2, run once by hand. Columns: A, operand and F before; A and F after.
 #[test]
 fn agrees_with_z80ex(rt: HostRuntime) {
     let vectors: &[(Op, u8, u8, u8, u8, u8)] = &[
@@ -239,7 +239,7 @@ fn agrees_with_z80ex(rt: HostRuntime) {
     }
 }
 
-// From the same: HL, operand and F before, HL and F after.
+// From the same. Columns: HL, operand and F before; HL and F after.
 #[test]
 fn agrees_with_z80ex_on_words(rt: HostRuntime) {
     let vectors: &[(WordOp, u16, u16, u8, u16, u8)] = &[
@@ -260,7 +260,7 @@ fn agrees_with_z80ex_on_words(rt: HostRuntime) {
     }
 }
 
-// From the same: A, byte and F before, A, byte and F after.
+// From the same. Columns: A, byte and F before; A, byte and F after.
 #[test]
 fn agrees_with_z80ex_on_digits(rt: HostRuntime) {
     let vectors: &[(DigitOp, u8, u8, u8, u8, u8, u8)] = &[
@@ -279,7 +279,7 @@ fn agrees_with_z80ex_on_digits(rt: HostRuntime) {
     }
 }
 
-// A word and its two bytes, and the pairs of a set, each set to a word of its own.
+// A word and its two bytes; the pairs of a set, each set to a different word.
 #[test]
 fn pairs_hold_their_words(rt: HostRuntime) {
     let word = Word::of(0x1234);

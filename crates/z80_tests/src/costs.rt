@@ -1,11 +1,10 @@
-// T-states and ports against UM0080: each table was written from the manual's T-states, not from the code.
+// T-states and ports against UM0080. Each table was written from the manual's T-states, not from the code.
 use crate::pages::with_code;
-use frame_times::{FRAME, IDLE_COST, MAX_BUDGET, NMI_COST, fixed_numbers};
-use t_states::{cost, cost_range, is_io};
+use t_states::{FRAME, IDLE_COST, MAX_BUDGET, NMI_COST, cost, cost_range, fixed_numbers, is_io};
 use z80_decode::decode;
 
-/// The T-states behind each first byte, with zeros after it, where no condition holds and nothing
-/// repeats, sixteen codes a line. A digit is itself, A to N are 10 to 23, and '-' is undocumented.
+/// The T-states for each first byte, followed by zeros, not taken; sixteen codes a line. A digit is itself, A to N are
+/// 10 to 23, and '-' is undocumented.
 const UNPREFIXED: &[u8; 256] = b"\
     4A7644744B764474\
     8A764474CB764474\
@@ -24,7 +23,7 @@ const UNPREFIXED: &[u8; 256] = b"\
     5AAJAB7B54A4A-7B\
     5AA4AB7B56A4A-7B";
 
-/// Behind CB.
+/// The same after CB.
 const BEHIND_CB: &[u8; 256] = b"\
     888888F8888888F8\
     888888F8888888F8\
@@ -43,7 +42,7 @@ const BEHIND_CB: &[u8; 256] = b"\
     888888F8888888F8\
     888888F8888888F8";
 
-/// Behind ED.
+/// The same after ED.
 const BEHIND_ED: &[u8; 256] = b"\
     ----------------\
     ----------------\
@@ -62,7 +61,7 @@ const BEHIND_ED: &[u8; 256] = b"\
     ----------------\
     ----------------";
 
-/// Behind DD, and behind FD.
+/// The same after DD and after FD.
 const BEHIND_INDEX: &[u8; 256] = b"\
     ---------F------\
     ---------F------\
@@ -81,7 +80,7 @@ const BEHIND_INDEX: &[u8; 256] = b"\
     -E-N-F---8------\
     ---------A------";
 
-/// Each last byte of DD CB 05 and FD CB 05.
+/// The same for each last byte of DD CB 05 and FD CB 05.
 const BEHIND_INDEX_CB: &[u8; 256] = b"\
     ------N-------N-\
     ------N-------N-\
@@ -100,7 +99,7 @@ const BEHIND_INDEX_CB: &[u8; 256] = b"\
     ------N-------N-\
     ------N-------N-";
 
-/// The T-states where the condition holds, of each first byte; '.' where that makes no difference.
+/// The T-states for each first byte, taken; '.' where that makes no difference.
 const UNPREFIXED_TAKEN: &[u8; 256] = b"\
     ................\
     D...............\
@@ -119,7 +118,7 @@ const UNPREFIXED_TAKEN: &[u8; 256] = b"\
     B...H...B...H...\
     B...H...B...H...";
 
-/// The T-states of a block instruction that goes on, behind ED; '.' where there is one cost.
+/// The T-states after ED of a block instruction that repeats; '.' where there is one cost.
 const BEHIND_ED_TAKEN: &[u8; 256] = b"\
     ................\
     ................\
@@ -138,7 +137,7 @@ const BEHIND_ED_TAKEN: &[u8; 256] = b"\
     ................\
     ................";
 
-/// The instructions of input and output behind ED.
+/// The I/O group after ED.
 const PORTS_BEHIND_ED: &[u8; 256] = b"\
     ................\
     ................\
@@ -157,10 +156,10 @@ const PORTS_BEHIND_ED: &[u8; 256] = b"\
     ................\
     ................";
 
-/// The digits of the tables, by their T-states.
+/// The digits of the tables, indexed by T-states.
 const DIGITS: &[u8; 24] = b"0123456789ABCDEFGHIJKLMN";
 
-/// The T-states as a digit or a letter, or '-' where no instruction was decoded.
+/// The T-states as a digit or a letter, or '-' for no instruction.
 fn mark_of(bytes: &[u8], taken: bool) -> u8 {
     let Ok((instr, _)) = decode(bytes) else {
         return b'-';
@@ -169,7 +168,7 @@ fn mark_of(bytes: &[u8], taken: bool) -> u8 {
     DIGITS[usize::from(states)]
 }
 
-/// What a table of the second cost gives, or the first where that makes no difference.
+/// The entry of a table of taken costs, or the first cost for '.'.
 fn or_same(taken: u8, first: u8) -> u8 {
     if taken == b'.' { first } else { taken }
 }
@@ -181,8 +180,7 @@ fn uses_port(bytes: &[u8]) -> bool {
     }
 }
 
-/// A page's name, its bytes, the place among them where each code stands in turn, the T-states of all codes, and those
-/// where a condition holds or the instruction repeats.
+/// The name of a page, its bytes, the index of the varying byte, the T-states not taken, and those taken.
 const PAGES: &[(&str, [u8; 4], usize, &[u8; 256], &[u8; 256])] = &[
     ("", [0, 0, 0, 0], 0, UNPREFIXED, UNPREFIXED_TAKEN),
     ("CB", [0xCB, 0, 0, 0], 1, BEHIND_CB, BEHIND_CB),
@@ -234,7 +232,7 @@ fn tells_ports(rt: HostRuntime) {
     }
 }
 
-/// The manual's T-states of what no instruction costs, and the board's frame of 264 lines of 192.
+/// The T-states of an acceptance and of an idle turn, and the frame of 264 lines of 192.
 #[test]
 fn frame_has_its_numbers(rt: HostRuntime) {
     assert!(rt; NMI_COST == 11 && IDLE_COST == 4);

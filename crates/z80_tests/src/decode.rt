@@ -1,4 +1,4 @@
-// The decoder against UM0080: each table was written from the manual's list of codes, not from the code.
+// The decoder against UM0080. Each table was written from the manual's list of codes, not from the code.
 use crate::pages::with_code;
 use z80_decode::{
     AccumulatorRotate, Address, ArithmeticKind, Bit, BlockKind, Condition, DecodeFault, Direct,
@@ -7,8 +7,7 @@ use z80_decode::{
     one_spelling,
 };
 
-/// How many bytes the instruction takes behind each first byte, with zeros after it, sixteen codes
-/// a line; '-' is undocumented.
+/// The length of the instruction for each first byte, followed by zeros; sixteen codes a line. '-' is undocumented.
 const UNPREFIXED: &[u8; 256] = b"\
     1311112111111121\
     2311112121111121\
@@ -27,7 +26,7 @@ const UNPREFIXED: &[u8; 256] = b"\
     1131312111313-21\
     1131312111313-21";
 
-/// The same for each second byte behind CB.
+/// The same for each second byte after CB.
 const BEHIND_CB: &[u8; 256] = b"\
     2222222222222222\
     2222222222222222\
@@ -46,7 +45,7 @@ const BEHIND_CB: &[u8; 256] = b"\
     2222222222222222\
     2222222222222222";
 
-/// Behind ED.
+/// The same after ED.
 const BEHIND_ED: &[u8; 256] = b"\
     ----------------\
     ----------------\
@@ -65,7 +64,7 @@ const BEHIND_ED: &[u8; 256] = b"\
     ----------------\
     ----------------";
 
-/// Behind DD, and behind FD.
+/// The same after DD and after FD.
 const BEHIND_INDEX: &[u8; 256] = b"\
     ---------2------\
     ---------2------\
@@ -84,7 +83,7 @@ const BEHIND_INDEX: &[u8; 256] = b"\
     -2-2-2---2------\
     ---------2------";
 
-/// Each last byte of DD CB 05 and FD CB 05.
+/// The same for each last byte of DD CB 05 and FD CB 05.
 const BEHIND_INDEX_CB: &[u8; 256] = b"\
     ------4-------4-\
     ------4-------4-\
@@ -103,7 +102,7 @@ const BEHIND_INDEX_CB: &[u8; 256] = b"\
     ------4-------4-\
     ------4-------4-";
 
-/// The length as a digit, or '-' for Undocumented, or 't' for Truncated.
+/// The length as a digit, '-' for Undocumented, or 't' for Truncated.
 fn mark_of(bytes: &[u8]) -> u8 {
     match decode(bytes) {
         Ok((_, length)) => b'0' + length,
@@ -112,7 +111,7 @@ fn mark_of(bytes: &[u8]) -> u8 {
     }
 }
 
-/// A page's name, its bytes, the place among them where each code stands in turn, and the marks of all codes.
+/// The name of a page, its bytes, the index of the varying byte, and the marks of all codes.
 const PAGES: &[(&str, [u8; 4], usize, &[u8; 256])] = &[
     ("", [0, 0, 0, 0], 0, UNPREFIXED),
     ("CB", [0xCB, 0, 0, 0], 1, BEHIND_CB),
@@ -155,7 +154,7 @@ fn tells_truncated_from_undocumented(rt: HostRuntime) {
     one_spelling();
 }
 
-/// The instruction that these bytes spell, all of them.
+/// The instruction that exactly these bytes spell.
 fn whole(bytes: &[u8]) -> Option<Instr> {
     match decode(bytes) {
         Ok((instr, length)) if usize::from(length) == bytes.len() => Some(instr),
@@ -163,7 +162,7 @@ fn whole(bytes: &[u8]) -> Option<Instr> {
     }
 }
 
-/// Loads: one instruction a family, with its code from the manual's description of it.
+/// Loads: one instruction per family, with its code from the manual's description.
 #[test]
 fn decodes_loads(rt: HostRuntime) {
     assert!(rt;
@@ -219,7 +218,7 @@ fn decodes_loads(rt: HostRuntime) {
     );
 }
 
-/// The stack and the block instructions: one instruction a family, with its code from the manual's description of it.
+/// The stack and block instructions: one instruction per family, with its code from the manual's description.
 #[test]
 fn decodes_stack_and_blocks(rt: HostRuntime) {
     assert!(rt; matches!(whole(&[0xF5]), Some(Instr::Push(StackPair::Af))));
@@ -244,7 +243,7 @@ fn decodes_stack_and_blocks(rt: HostRuntime) {
     );
 }
 
-/// Arithmetic: one instruction a family, with its code from the manual's description of it.
+/// Arithmetic: one instruction per family, with its code from the manual's description.
 #[test]
 fn decodes_arithmetic(rt: HostRuntime) {
     assert!(rt;
@@ -264,7 +263,7 @@ fn decodes_arithmetic(rt: HostRuntime) {
     assert!(rt; matches!(whole(&[0x0B]), Some(Instr::DecrementPair(Register16::Bc))));
 }
 
-/// Shifts, rotates and bits: one instruction a family, with its code from the manual's description of it.
+/// Shifts, rotates and bits: one instruction per family, with its code from the manual's description.
 #[test]
 fn decodes_shifts_and_bits(rt: HostRuntime) {
     assert!(rt;
@@ -293,7 +292,7 @@ fn decodes_shifts_and_bits(rt: HostRuntime) {
     );
 }
 
-/// Jumps, calls and returns: one instruction a family, with its code from the manual's description of it.
+/// Jumps, calls and returns: one instruction per family, with its code from the manual's description.
 #[test]
 fn decodes_jumps(rt: HostRuntime) {
     assert!(rt;
@@ -318,7 +317,7 @@ fn decodes_jumps(rt: HostRuntime) {
     assert!(rt; matches!(whole(&[0xFF]), Some(Instr::Restart(RestartAddress::At38))));
 }
 
-/// Control and ports: one instruction a family, with its code from the manual's description of it.
+/// Control and ports: one instruction per family, with its code from the manual's description.
 #[test]
 fn decodes_control_and_ports(rt: HostRuntime) {
     assert!(rt;

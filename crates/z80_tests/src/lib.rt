@@ -1,4 +1,4 @@
-// The tests of the crates below the board: z80_alu, z80_decode, t_states and frame_times.
+// The tests of z80_alu, z80_decode and t_states.
 #![tactic(auto)]
 
 #[cfg(test)]

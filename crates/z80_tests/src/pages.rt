@@ -1,6 +1,6 @@
-// The bytes of a page of codes.
+// Pages of opcodes.
 
-/// A page's bytes with a code in its place.
+/// The bytes of a page with `code` at `place`.
 pub fn with_code(page: [u8; 4], place: usize, code: u8) -> [u8; 4] {
     let mut bytes = page;
     if let Some(byte) = bytes.get_mut(place) {

@@ -1,7 +1,7 @@
-// The moves that read and write memory and the stack.
+// Moves that access memory and the stack.
 
 ghost use Rattle.std.specs.Prelude.{◌≡◌, ◌≤◌, length};
-ghost use Rattle.z80_draft.specs.Draft.{displaced, read_byte, read_word, word_read, written, word_written, pushed, popped, exchanged, stack_read, stack_written};
+ghost use Rattle.z80_draft.specs.Draft.{displaced, read_byte, read_word, word_read, written, word_written, word_pushed, popped, exchanged, stack_read, stack_written};
 
 use crate::access::{StackAccess, Write};
 use crate::bus::Bus;
@@ -69,7 +69,7 @@ impl Draft {
 
     pub(crate) fn push(&mut self, word: u16)
         requires { length self.old.stack ≤ 0 }
-        ensures { self.new ≡ pushed word self.old }
+        ensures { self.new ≡ word_pushed word self.old }
     {
         let Word { high, low } = Word::of(word);
         let sp = self.regs.sp;
@@ -101,7 +101,7 @@ impl Draft {
     }
 }
 
-/// A word plus the signed number, -128 to 127, that a byte stands for, modulo 65,536.
+/// A word plus a signed displacement, -128 to 127, given as its byte; modulo 65,536.
 pub fn displace(word: u16, displacement: u8) -> u16
     ensures { result ≡ displaced word displacement }
 {

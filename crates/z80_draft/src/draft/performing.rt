@@ -1,4 +1,4 @@
-// Lists of moves, one move after another.
+// Lists of moves, and one move.
 
 ghost use Rattle.std.specs.Prelude.{◌≡◌, ◌+◌, ◌≤◌, length};
 ghost use Rattle.z80_draft.specs.Draft.{moved, drafted, goes_on};
@@ -11,7 +11,7 @@ use z80_alu::{ccf, dec16, inc16, scf};
 use z80_moves::{Move, Moves};
 
 impl Draft {
-    /// The moves, one after another, where there is room for their accesses.
+    /// Makes moves one after another. The draft must have room for their accesses.
     #[tactic(auto, unfolding(crate::specs::Draft::drafted))]
     pub fn make_all<B: Bus>(&mut self, bus: &B, moves: &Moves)
         requires writes { length self.old.writes + writes_in moves.now ≤ 2 }
@@ -35,7 +35,7 @@ impl Draft {
         }
     }
 
-    /// One move, where there is room for its accesses.
+    /// Makes one move. The draft must have room for its accesses.
     #[tactic(auto, unfolding(crate::specs::Draft::moved))]
     pub fn make<B: Bus>(&mut self, bus: &B, step: Move)
         requires writes { length self.old.writes + writes_by step ≤ 2 }

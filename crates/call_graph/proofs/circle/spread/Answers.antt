@@ -3,8 +3,8 @@ use Rattle.std.proofs.lemmas.Bool.{cases_eq}
 use Rattle.std.proofs.Math.ListN.{get_or-append}
 use Rattle.std.proofs.Math.Seq.{get_or-append_seam}
 use Rattle.call_graph.specs.declared.circle.Step.{Step}
-use Rattle.call_graph.specs.Walk.{caller_at, callee_at}
-use Rattle.call_graph.specs.Circle.{Place, step_proc, step_from, step_far, seen_at}
+use Rattle.call_graph.specs.Walk.{caller_at, callee_of_edge}
+use Rattle.call_graph.specs.Circle.{PlaceInCircle, step_proc, step_from, step_far, seen_at}
 use Rattle.call_graph.proofs.CallLemmas.{calls_at}
 use Rattle.call_graph.proofs.CircleLemmas.{search_more, search_passed, place_more, place_new, left_more}
 use Rattle.call_graph.proofs.circle.spread.Goals as goal
@@ -49,7 +49,7 @@ loop-number-preserved c =
     let at : ℕ = c.args.at in
     let old = c.loop-number.steps.items in
     let seen = c.loop-number.seen in
-    let p : ℕ = callee_at calls number in
+    let p : ℕ = callee_of_edge calls number in
     let inside : at < length old = kept.inside in
     let here : number < length calls = c.loop-number-test.true in
     let other : p ≢ c.args.start = c.if-edge-start.false in
@@ -66,8 +66,8 @@ loop-number-preserved c =
           let unseen : seen_at seen p ≡ false = ap (seen_at seen) (sym c.from.ensures) ∙ w.if-not-seen-from.true in
           let others : (j : ℕ) → 0 < j → j < length old → step_from old j ≡ at → step_proc old j < p = λ j some l from.
           let z = kept.others j some l from in
-          let up : callee_at calls z.0 ≤ p = c.requires.rising.by_callee z.0 number (omega arith) here (z.3 ∙ sym c.if-edge-step.false) in
-          let same : callee_at calls z.0 ≡ step_proc old j = z.4 in
+          let up : callee_of_edge calls z.0 ≤ p = c.requires.rising.by_callee z.0 number (omega arith) here (z.3 ∙ sym c.if-edge-step.false) in
+          let same : callee_of_edge calls z.0 ≡ step_proc old j = z.4 in
           let marked = kept.searched.marked j l in
           let apart : step_proc old j ≢ p = λ e. let x : seen_at seen p ≡ true = ap (seen_at seen) (sym e) ∙ marked in cc in
           omega arith in
@@ -80,7 +80,7 @@ loop-number-preserved c =
             far_is = same_far ∙ kept.far_is;
             so_far = λ i l h e. elim (cases_eq i number) [
               | inl x ↦ rw (x, same_far) (other, place_new old p at)
-              | inr ne ↦ let z = kept.so_far i (omega arith) h e in rw same_far (z.0, place_more old p at (callee_at calls i) (step_far old at + 1) at z.1)
+              | inr ne ↦ let z = kept.so_far i (omega arith) h e in rw same_far (z.0, place_more old p at (callee_of_edge calls i) (step_far old at + 1) at z.1)
             ];
             others = λ j some l from. elim (cases_eq j (length old)) [
               | inl e ↦
@@ -97,7 +97,7 @@ loop-number-preserved c =
       | else-not-seen-from w ↦
           let seen_there : seen_at seen p ≡ true = ap (seen_at seen) (sym c.from.ensures) ∙ w.if-not-seen-from.false in
           let z = kept.searched.placed p seen_there in
-          let place : Place old p (step_far old at + 1) at = record { at = z.0; inside = z.1; is = z.2; near = kept.searched.within z.0 z.1 inside; from = kept.searched.behind z.0 z.1 } in
+          let place : PlaceInCircle old p (step_far old at + 1) at = record { at = z.0; inside = z.1; is = z.2; near = kept.searched.within z.0 z.1 inside; from = kept.searched.behind z.0 z.1 } in
           rw (w.seen-is, w.steps-is) (record {
             searched = kept.searched;
             inside = inside;

@@ -12,7 +12,7 @@ pub order_by_caller-requires : goal.order_by_caller-requires
 order_by_caller-requires c =
     rw c.deref.ensures.value (sorted_calls c.sort_unstable.new.self.items c.sort_unstable.ensures.sorted)
 
--- what the sorted calls say, the calls say
+-- what holds for the sorted calls holds for the calls
 outcome : (edges sorted : List Edge) → IsPermutation edges sorted → (result : Result (Vec ℕ Global) GraphFault) → IfOk result (λ list. IsCallOrder sorted list.items) → IfErr result (IsFaultOf sorted) →
     IfOk result (λ list. IsCallOrder edges list.items) × OnOk result ((list : List ℕ) → IsCycle edges list → ⊥) × IfErr result (IsFaultOf edges)
 outcome edges sorted moved (Ok list) order fault =

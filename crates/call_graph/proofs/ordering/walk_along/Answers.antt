@@ -1,12 +1,12 @@
 use Rattle.std.proofs.Common.{rules, arith, ◌≡◌, ◌<◌, length, inl, refl}
-use Rattle.call_graph.specs.Walk.{callee_at}
+use Rattle.call_graph.specs.Walk.{callee_of_edge}
 use Rattle.call_graph.proofs.CallLemmas.{calls_at}
 use Rattle.call_graph.proofs.ordering.walk_along.Goals as goal
 
 pub visit-requires-clause-known : goal.visit-requires-clause-known
 visit-requires-clause-known c =
     let inside : c.loop-edge.edge-index < length c.args.calls.now = search rules in
-    (callee_at c.args.calls.now c.loop-edge.edge-index, inl (calls_at c.args.calls.now c.loop-edge.edge-index _ _ inside refl refl))
+    (callee_of_edge c.args.calls.now c.loop-edge.edge-index, inl (calls_at c.args.calls.now c.loop-edge.edge-index _ _ inside refl refl))
 
 pub returns : goal.returns
 returns c =

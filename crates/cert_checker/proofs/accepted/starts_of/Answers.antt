@@ -1,7 +1,7 @@
 use Rattle.std.proofs.Common.{ap, sym, ◌∙◌}
 use Rattle.address_map.specs.Starts.{is_start}
 use Rattle.cert_lines.specs.declared.row.Row.{Row}
-use Rattle.safety.specs.Profile.{has_row}
+use Rattle.check_laws.specs.Profile.{has_row}
 use Rattle.cert_checker.proofs.StartLemmas.{more_starts, none_taken}
 use Rattle.cert_checker.proofs.accepted.starts_of.Goals as goal
 use Rattle.cert_checker.proofs.accepted.starts_of.Goals.{in-Some, in_default}

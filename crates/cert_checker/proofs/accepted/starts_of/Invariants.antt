@@ -1,6 +1,6 @@
 use Rattle.std.proofs.Common.{◌≡◌, ℕ, take}
 use Rattle.address_map.specs.Starts.{is_start}
-use Rattle.safety.specs.Profile.{has_row}
+use Rattle.check_laws.specs.Profile.{has_row}
 use Rattle.cert_checker.proofs.accepted.starts_of.Given as goal
 
 -- the starts are the addresses of the rows so far

@@ -1,5 +1,6 @@
 use Rattle.std.proofs.Common.{sym, ap, subst, ◌∙◌}
-use Rattle.cert_order.specs.Contents.{IsInForm, migrated}
+use Rattle.cert_form.specs.Migrated.{migrated}
+use Rattle.cert_form.specs.Form.{IsInForm}
 use Rattle.cert_contents.proofs.MigratingLemmas.{in_version_two, two_in_form, two_is_migrated}
 use Rattle.cert_contents.proofs.migrating.migrate.Goals as goal
 

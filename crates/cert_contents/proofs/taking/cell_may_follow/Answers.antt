@@ -1,5 +1,5 @@
 use Rattle.std.proofs.Common.{sym, rules, tests}
-use Rattle.cert_order.specs.Contents.{IsCell}
+use Rattle.cert_form.specs.Form.{IsCell}
 use Rattle.cert_contents.proofs.NextLemmas.{cell_stands}
 use Rattle.cert_contents.proofs.taking.cell_may_follow.Goals as goal
 

@@ -1,5 +1,5 @@
 use Rattle.std.proofs.Common.{◌≡◌, ap, ◌∙◌, rules, tests}
-use Rattle.cert_order.specs.Contents.{place_number}
+use Rattle.cert_form.specs.Form.{place_number}
 use Rattle.cert_contents.proofs.LastLemmas.{bounds_all}
 use Rattle.cert_contents.proofs.RowPlaces.{row_place_number}
 use Rattle.cert_contents.proofs.taking.place_may_follow.Goals as goal

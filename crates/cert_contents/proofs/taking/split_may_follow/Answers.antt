@@ -1,5 +1,5 @@
 use Rattle.std.proofs.Common.{sym, rules, tests}
-use Rattle.cert_order.specs.Contents.{IsSplit}
+use Rattle.cert_form.specs.Form.{IsSplit}
 use Rattle.cert_contents.proofs.NextLemmas.{split_stands}
 use Rattle.cert_contents.proofs.taking.split_may_follow.Goals as goal
 

@@ -3,8 +3,8 @@ use Rattle.std.proofs.lemmas.Bool.{false≢true}
 use Rattle.cert_lines.proofs.FieldLemmas.{more}
 use Rattle.cert_lines.proofs.RowLemmas.{count_is, counted_value, facts_is, none_left, potential_is, shape_is, slots_value}
 use Rattle.cert_lines.specs.Row.{Last}
-use Rattle.row_fields.specs.Facts.{AreFacts, AreFewFacts, facts_text}
-use Rattle.linear_fields.specs.Linear.{IsPotential, IsShortPotential, potential_text}
+use Rattle.cert_fields.specs.Facts.{AreFacts, AreFewFacts, facts_text}
+use Rattle.cert_fields.specs.Linear.{IsPotential, IsShortPotential, potential_text}
 use Rattle.cert_lines.proofs.row_reading.read_last.Goals as goal
 use Rattle.cert_lines.proofs.row_reading.read_last.Goals.{then-not-is_empty-via-then-not-is_empty, then-not-is_empty-via-else-not-is_empty+then-count-ge-SLOT_BOUND}
 

@@ -1,7 +1,7 @@
 use Rattle.std.proofs.Common.{◌≡◌, ◌≢◌, [], Err, arith}
 use Rattle.std.proofs.lemmas.Result.{err_from_is_err_and}
-use Rattle.cert_order.proofs.BadLines.{long_from_line}
-use Rattle.cert_order.proofs.Texts.{HasLine, stands_first, stands_next}
+use Rattle.cert_form.proofs.BadLines.{long_from_line}
+use Rattle.cert_form.proofs.Texts.{HasLine, stands_first, stands_next}
 use Rattle.certificate.proofs.ReadingLemmas.{answer_found, answer_limit, answer_line, answer_memory, answer_only, bytes_left, ended, no_bytes_left, refused, too_long, unended}
 use Rattle.certificate.proofs.reading.read.Goals as goal
 

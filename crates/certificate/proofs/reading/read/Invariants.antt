@@ -1,5 +1,5 @@
 use Rattle.std.proofs.Common.{length}
-use Rattle.cert_order.proofs.Texts.{Stands}
+use Rattle.cert_form.proofs.Texts.{Stands}
 use Rattle.certificate.proofs.reading.read.Given as goal
 
 -- the bytes are the text of the lines that were read, and the rest

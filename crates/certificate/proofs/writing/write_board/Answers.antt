@@ -2,7 +2,7 @@ use Rattle.std.proofs.Common.{ap, subst, ◌∙◌}
 use Rattle.cert_lines.specs.Line.{fed_line}
 use Rattle.cert_lines.specs.declared.line.Line.TheVariants as lines
 use Rattle.cert_lines.specs.declared.version.Version.TheVariants.{Two}
-use Rattle.cert_order.specs.Text.{board_lines, text_of_lines}
+use Rattle.cert_form.specs.Text.{board_lines, text_of_lines}
 use Rattle.texts.specs.Device.{Puts, Takes}
 use Rattle.certificate.proofs.WritingLemmas.{no_board_line, puts_line, puts_nothing, same_text}
 use Rattle.certificate.proofs.writing.write_board.Goals as goal

@@ -33,7 +33,7 @@ returns-clause-input_next g c =
 pub returns-clause-out_last : goal.returns-clause-out_last
 returns-clause-out_last g c = elim c.play_on.ensures.last [
   | inl quiet ↦ inl quiet
-  | inr part ↦ inr (tells_part Takes g.W.Sink.state _ _ _ _ _ _ _ _ _ _ (lent_first _ _ _ c.as_slice.ensures.value c.in-Ok.ensures.first)
+  | inr part ↦ inr (tells_part Takes g.W.Sink.state _ _ _ _ _ _ _ _ _ _ _ (lent_first _ _ _ c.as_slice.ensures.value c.in-Ok.ensures.first)
       c.in-Ok-judge.ensures.accepted.1 c.in-Ok-judge.ensures.accepted.0 c.in-Ok-judge.ensures.kept part)
 ]
 
@@ -51,10 +51,10 @@ returns-clause-device g c = λ e. elim (c.in-Err-play_on.ensures.device (cc (c.s
 
 pub returns-clause-part : goal.returns-clause-part
 returns-clause-part g c = λ e. elim (c.in-Err-play_on.ensures.part (cc (c.status-in-Err-play_on.ensures.device e))) [
-  | inl part ↦ inr (inr (inl (tells_part Takes g.W.Sink.state _ _ _ _ _ _ _ _ _ _ (lent_first _ _ _ c.as_slice.ensures.value c.in-Ok.ensures.first)
+  | inl part ↦ inr (inr (inl (tells_part Takes g.W.Sink.state _ _ _ _ _ _ _ _ _ _ _ (lent_first _ _ _ c.as_slice.ensures.value c.in-Ok.ensures.first)
       c.in-Ok-judge.ensures.accepted.1 c.in-Ok-judge.ensures.accepted.0 c.in-Ok-judge.ensures.kept part)))
   | inr amid ↦ elim amid [
-    | inl part ↦ inr (inr (inr (inl (tells_part FailsAmid g.W.Sink.state _ _ _ _ _ _ _ _ _ _ (lent_first _ _ _ c.as_slice.ensures.value c.in-Ok.ensures.first)
+    | inl part ↦ inr (inr (inr (inl (tells_part FailsAmid g.W.Sink.state _ _ _ _ _ _ _ _ _ _ _ (lent_first _ _ _ c.as_slice.ensures.value c.in-Ok.ensures.first)
         c.in-Ok-judge.ensures.accepted.1 c.in-Ok-judge.ensures.accepted.0 c.in-Ok-judge.ensures.kept part))))
     | inr ends ↦ elim ends [
       | inl plays ↦ inr (inr (inr (inr (inl (tells_run FailsAmid g.W.Sink.state _ _ _ _ _ _ _ _ _ _ (lent_first _ _ _ c.as_slice.ensures.value c.in-Ok.ensures.first)

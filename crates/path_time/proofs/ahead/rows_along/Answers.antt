@@ -1,7 +1,7 @@
 use Rattle.std.proofs.Common.{◌<◌, ◌∙◌, ℕ, List, [], Some, ap, subst, sym}
 use Rattle.std.proofs.lemmas.List.{append-nil}
 use Rattle.std.proofs.lemmas.Option.{same_Some}
-use Rattle.path_time.specs.Table.{Follows, ahead_at}
+use Rattle.path_time.specs.Table.{FollowsTable, ahead_at}
 use Rattle.path_time.proofs.WalkLemmas.{none_if, there_within}
 use Rattle.path_time.proofs.ahead.rows_along.Goals as goal
 
@@ -25,4 +25,4 @@ loop-ahead-smaller c =
 pub returns : goal.returns
 returns c =
     let all = c.loop-ahead.invariant.follows [] (none_if c.loop-ahead.ahead.next c.in_default.not-Some) in
-    subst (λ (rows : List ℕ). Follows c.args.table.now (Some c.args.first) rows) (append-nil c.loop-ahead.rows.items) all
+    subst (λ (rows : List ℕ). FollowsTable c.args.table.now (Some c.args.first) rows) (append-nil c.loop-ahead.rows.items) all

@@ -1,6 +1,6 @@
 use Rattle.std.proofs.Common.{◌≡◌, ◌<◌, ◌∙◌, ℕ, List, None, Option, length, map, slice_index, arith, rules, subst, sym}
 use Rattle.std.proofs.lemmas.List.{get_or_default}
-use Rattle.path_time.specs.Links.{edge_of}
+use Rattle.path_time.specs.Links.{edge_of_link}
 use Rattle.path_time.specs.Table.{AreLinksFrom, IsBest, ahead_at}
 use Rattle.path_time.specs.declared.ahead.Ahead.{Ahead}
 use Rattle.path_time.proofs.EdgeLemmas.{link_belongs, order_belongs}
@@ -29,7 +29,7 @@ best_by-requires-clause-within c = λ link listed.
 pub best_by-requires-clause-small : goal.best_by-requires-clause-small
 best_by-requires-clause-small c =
     let fits : (k : ℕ) → k < length c.args.order.now → slice_index c.args.order.now k < 65536 = λ k within. search (rules, c.type_inv.order k) in
-    let few = few_rows (map edge_of c.args.links.now) c.args.order.now c.requires.order fits in
+    let few = few_rows (map edge_of_link c.args.links.now) c.args.order.now c.requires.order fits in
     rw c.deref.ensures.value
     (small_so_far c.args.rom.now c.args.certificate.now c.args.proc c.args.order.now c.loop-row.row-index c.loop-row.table.items
     (omega (arith, few, c.loop-row-test.true)) c.loop-row.invariant)
@@ -56,6 +56,6 @@ loop-row-preserved c =
 pub returns : goal.returns
 returns c =
     let fits : (k : ℕ) → k < length c.args.order.now → slice_index c.args.order.now k < 65536 = λ k within. search (rules, c.type_inv.order k) in
-    let few = few_rows (map edge_of c.args.links.now) c.args.order.now c.requires.order fits in
+    let few = few_rows (map edge_of_link c.args.links.now) c.args.order.now c.requires.order fits in
     fill_all c.args.rom.now c.args.certificate.now c.args.proc c.args.links.now c.args.order.now c.loop-row.table.items c.loop-row.row-index c.requires.links
     c.requires.order few (search rules) c.loop-row.invariant

@@ -1,5 +1,5 @@
 use Rattle.std.proofs.Common.{ℕ, List, None, Option, Some, arith, subst, sym}
-use Rattle.path_time.specs.Table.{Ends, Follows, IsAheadOfEntry}
+use Rattle.path_time.specs.Table.{Ends, FollowsTable, IsAheadOfEntry}
 use Rattle.path_time.specs.Walks.{IsLongest}
 use Rattle.path_time.specs.declared.ahead.Ahead.{Ahead}
 use Rattle.path_time.proofs.WalkLemmas.{entry_ends, if_ok_both, longest_walk, no_walk}
@@ -34,7 +34,7 @@ returns-in-Some-ahead_of_entry-clause-longest c =
     (λ found told follows.
     longest_walk c.args.rom.now c.args.certificate.now c.args.proc procedure table start end ahead found.0 found.1.items (sym (c.in-Some.ensures {u = tt}))
     (c.in_ok-table.ensures {u = tt}).table c.rows_at-entries.ensures.within c.rows_at-entries.ensures.at entry told
-    (subst (λ (t : List (Option Ahead)). Follows t (Some ahead) found.1.items) c.deref-in-Some-ahead_of_entry.ensures.value follows))
+    (subst (λ (t : List (Option Ahead)). FollowsTable t (Some ahead) found.1.items) c.deref-in-Some-ahead_of_entry.ensures.value follows))
     c.walk_along.ensures.sum c.walk_along.ensures.rows
 
 pub returns-clause-longest : goal.returns-clause-longest

@@ -2,7 +2,7 @@ use Rattle.std.proofs.Common.{◌≡◌, ◌++◌, ℕ, List, length}
 use Rattle.texts.specs.Device.{Takes}
 use Rattle.texts.proofs.device.put.Given as goal
 
--- what was written is what the rest lacks
+-- what was written and the rest are all the bytes
 abbrev pub invariant-loop-rest : goal.invariant-loop-rest
 invariant-loop-rest g l = record {
   done : List ℕ;

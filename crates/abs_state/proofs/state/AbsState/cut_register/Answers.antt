@@ -1,5 +1,4 @@
-use Rattle.std.proofs.Common.{◌≡◌, sym, ◌∙◌}
-use Rattle.std.proofs.Common.{subst, Option, Some, None}
+use Rattle.std.proofs.Common.{◌≡◌, sym, ◌∙◌, subst, Option, Some, None}
 use Rattle.std.specs.Prelude.{MatchBool}
 use Rattle.intervals.specs.Range.{intersection}
 use Rattle.abs_state.specs.Registers.{byte_of}

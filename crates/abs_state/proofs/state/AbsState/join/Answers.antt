@@ -1,5 +1,4 @@
-use Rattle.std.proofs.Common.{◌≡◌, sym}
-use Rattle.std.proofs.Common.{Some}
+use Rattle.std.proofs.Common.{◌≡◌, sym, Some}
 use Rattle.abs_state.specs.Mode.{hull_of_modes}
 use Rattle.abs_state.proofs.CoverLemmas.{join_covers, join_holds}
 use Rattle.abs_state.proofs.state.AbsState.join.Goals as goal

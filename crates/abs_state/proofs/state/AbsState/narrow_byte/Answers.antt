@@ -1,10 +1,9 @@
-use Rattle.std.proofs.Common.{arith, ◌≡◌, sym, ◌∙◌}
+use Rattle.std.proofs.Common.{arith, ◌≡◌, sym, ◌∙◌, false}
 use Rattle.abs_state.specs.Holds.{Holds}
 use Rattle.abs_state.specs.declared.state.AbsState.{AbsState}
 use Rattle.abs_state.proofs.Told.{told}
 use Rattle.abs_state.specs.Fact.{byte_in}
 use Rattle.abs_state.specs.CutLaws.{byte_known}
-use Rattle.std.proofs.Common.{false}
 use Rattle.std.proofs.lemmas.Bool.{eqb-true}
 use Rattle.abs_state.proofs.state.AbsState.narrow_byte.Goals as goal
 

@@ -1,4 +1,4 @@
-use Rattle.std.proofs.Common.{arith, ◌≡◌, sym, ◌∙◌}
+use Rattle.std.proofs.Common.{arith, ◌≡◌, sym, ◌∙◌, false, subst, Option, Some, None}
 use Rattle.abs_state.specs.Holds.{Holds}
 use Rattle.abs_state.specs.declared.state.AbsState.{AbsState}
 use Rattle.abs_state.proofs.Told.{told}
@@ -7,7 +7,6 @@ use Rattle.abs_state.specs.CutLaws.{pair_put, word_known}
 use Rattle.abs_state.specs.Narrowing.{with_cut_pair}
 use Rattle.intervals.specs.declared.pair.Pair.{Pair}
 use Rattle.std.specs.Prelude.{MatchBool}
-use Rattle.std.proofs.Common.{false, subst, Option, Some, None}
 use Rattle.std.proofs.lemmas.Bool.{eqb-true}
 use Rattle.abs_state.proofs.state.AbsState.narrow_word.Goals as goal
 

@@ -1,6 +1,6 @@
 use Rattle.std.proofs.Common.{refl, ap, ◌∙◌}
 use Rattle.address_map.proofs.BoardLemmas.{galaxian_is_map}
-use Rattle.address_map.specs.AddressMap.{AddressMap}
+use Rattle.address_map.specs.AddressMap.{MapView}
 use Rattle.address_map.specs.Boards.{galaxian}
 use Rattle.address_map.proofs.map.Map.galaxian.Goals as goal
 
@@ -15,4 +15,4 @@ returns-clause-value c =
     c.made.ensures ∙ rw (c.with_rom.ensures, c.galaxian_zones.ensures) refl
 
 pub returns-clause-length : goal.returns-clause-length
-returns-clause-length c = ap (λ (m : AddressMap). m.rom_len) c.made.ensures
+returns-clause-length c = ap (λ (m : MapView). m.rom_len) c.made.ensures

@@ -8,7 +8,7 @@ use Rattle.call_graph.specs.Walk.{frame_at, frame_work, mark_work}
 use Rattle.call_graph.proofs.StateLemmas.{close_lists, frame_read, Grouped}
 use Rattle.call_graph.proofs.walk.Walk.close.Goals as goal
 
--- what is read and written in closing
+-- what closing a group reads and writes
 record Left (c : goal.After-truncate-2) : Type 0 where
   last : length c.args.self.now.path.items - 1 + 1 ≡ length c.args.self.now.path.items
   met : c.truncate.new.self.items ≡ take (frame_at c.args.self.now.path.items (length c.args.self.now.path.items - 1)).place c.args.self.now.met.items

@@ -1,7 +1,7 @@
 use Rattle.std.proofs.Common.{◌≡◌, ℕ, ◌<◌, ◌+◌, ◌-◌, min, length, take, inl, inr, arith, ap, ◌∙◌, rules}
 use Rattle.std.proofs.lemmas.Bool.{cases_eq}
 use Rattle.call_graph.specs.Walk.{frame_at}
-use Rattle.call_graph.specs.declared.walk.Frame.{Frame}
+use Rattle.call_graph.specs.declared.walk.Visit.{Visit}
 use Rattle.call_graph.proofs.StateLemmas.{merge_lists, frame_read}
 use Rattle.call_graph.proofs.walk.Walk.merge.Goals as goal
 
@@ -24,7 +24,7 @@ returns-clause-holds c =
     let parent = c.index-before.result.now in
     let parent_is : parent ≡ frame_at path m = frame_read path m (c.len-last.result - 1 - 1) parent (ap (λ d. d - 1 - 1) depth) (omega arith) c.index-before.ensures in
     let lower : c.min.result ≡ min parent.low top.low = search rules in
-    let f : Frame = record { place = parent.place; next = parent.next; low = c.min.result } in
+    let f : Visit = record { place = parent.place; next = parent.next; low = c.min.result } in
     let is : f ≡ record { place = (frame_at path m).place; next = (frame_at path m).next; low = min (frame_at path m).low (frame_at path n).low } =
     ap (λ l. record { place = parent.place; next = parent.next; low = l }) lower
     ∙ (ap (λ v. record { place = v.place; next = v.next; low = min v.low top.low }) parent_is ∙ ap (λ v. record { place = (frame_at path m).place; next = (frame_at path m).next; low = min (frame_at path m).low v.low }) value) in

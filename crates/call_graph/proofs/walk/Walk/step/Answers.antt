@@ -1,7 +1,7 @@
 use Rattle.std.proofs.Common.{List, ◌≡◌, ℕ, ◌-◌, ◌<◌, ap, sym, ◌∙◌, arith, rules, length, slice_index, inr, get_or, refl, subst}
 use Rattle.std.proofs.lemmas.List.{get_or_default}
 use Rattle.call_graph.specs.Calls.{Reaches}
-use Rattle.call_graph.specs.Walk.{caller_at, callee_at, frame_at, mark_at}
+use Rattle.call_graph.specs.Walk.{caller_at, callee_of_edge, frame_at, mark_at}
 use Rattle.call_graph.specs.declared.walk.Mark.{Mark}
 use Rattle.call_graph.specs.declared.walk.Mark.TheVariants.{Unseen, Met}
 use Rattle.call_graph.proofs.CallLemmas.{calls_at, reaches_self, reaches_call}
@@ -27,7 +27,7 @@ advance-requires-clause-reaches c =
     let depth : c.len.result ≡ length path = search rules in
     let top = c.index-top.result.now in
     let value : top ≡ frame_at path n = frame_read path n (c.len.result - 1) top (ap (λ d. d - 1) depth) inside c.index-top.ensures in
-    let callee : ℕ = callee_at c.args.calls.now top.next in
+    let callee : ℕ = callee_of_edge c.args.calls.now top.next in
     let fits : callee < length w.marks.items = search rules in
     let mark : mark_at w.marks.items callee ≡ Met c.in-Met.place =
     mark_read w.marks.items callee c.from.result c.index-2.result.now (Met c.in-Met.place) fits c.from.ensures c.index-2.ensures c.in-Met.is in

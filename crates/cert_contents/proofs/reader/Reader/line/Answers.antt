@@ -1,7 +1,7 @@
 use Rattle.std.proofs.Common.{Some, subst, ap, ◌∙◌}
 use Rattle.cert_lines.specs.Read.{ReadsLine}
 use Rattle.cert_lines.specs.declared.reading.ReadLine.TheVariants.{Whole, Crowded}
-use Rattle.cert_order.specs.Reader.{IsProgress}
+use Rattle.cert_form.specs.Reader.{IsProgress}
 use Rattle.texts.specs.Fields.{fields_in}
 use Rattle.cert_contents.proofs.LineLemmas.{takes_whole, takes_crowded}
 use Rattle.cert_contents.proofs.reader.Reader.line.Goals as goal

@@ -1,6 +1,6 @@
 use Rattle.std.proofs.Common.{subst, rules}
 use Rattle.cert_lines.specs.Row.{IsRow, place_of}
-use Rattle.cert_order.specs.Reader.{IsProgress, MayStandAt}
+use Rattle.cert_form.specs.Reader.{IsProgress, MayStandAt}
 use Rattle.cert_contents.proofs.RowPlaces.{row_follows, row_stands}
 use Rattle.cert_contents.proofs.reader.Reader.row_fits.Goals as goal
 

@@ -1,6 +1,6 @@
 use Rattle.std.proofs.Common.{◌≡◌, ◌∷◌, [], refl}
 use Rattle.cert_lines.specs.declared.line.Line.TheVariants as lines
-use Rattle.cert_order.specs.Text.{board_lines}
+use Rattle.cert_form.specs.Text.{board_lines}
 use Rattle.cert_contents.proofs.PartsLemmas.{takes_one}
 use Rattle.cert_contents.proofs.reader.Reader.take_board_lines.Goals.{in_default-via-in-One+in_default, in_default-via-in_default}
 use Rattle.cert_contents.proofs.reader.Reader.take_board_lines.Goals as goal

@@ -1,7 +1,7 @@
 use Rattle.std.proofs.Common.{subst}
 use Rattle.std.proofs.lemmas.Result.{err_from_is_err_and}
-use Rattle.cert_order.specs.Contents.{Contents}
-use Rattle.cert_order.specs.Text.{head_lines}
+use Rattle.cert_form.specs.Contents.{CertificateView}
+use Rattle.cert_form.specs.Text.{head_lines}
 use Rattle.cert_contents.specs.Parts.{TakesLines}
 use Rattle.cert_contents.proofs.PartsLemmas.{stops_before, stops_first, stops_then, takes_head}
 use Rattle.cert_contents.proofs.reader.Reader.take_head.Goals as goal
@@ -35,7 +35,7 @@ pub returns : goal.returns
 returns c =
     let head = c.parts.inside in
     let stack = c.in_ok-take-3.ensures.line in
-    subst (λ (parts : Contents). TakesLines c.args.self.now (head_lines parts) c.take-4.result c.take-4.new.self) c.parts.view_is
+    subst (λ (parts : CertificateView). TakesLines c.args.self.now (head_lines parts) c.take-4.result c.take-4.new.self) c.parts.view_is
     (takes_head (Unit {0}) c.args.self.now c.take.new.self c.take-2.new.self c.take_board_lines.new.self c.take-3.new.self
     c.take-4.new.self head.version head.rom_len head.board head.region head.budget c.take-4.result c.in_ok-take.ensures.line.0
     c.in_ok-take-2.ensures.line.0 c.in_ok-take_board_lines.ensures.0 stack.0 stack.1 c.take-4.ensures.line)

@@ -1,7 +1,7 @@
 use Rattle.std.proofs.Common.{◌∷◌, [], ◌++◌}
 use Rattle.std.proofs.lemmas.Result.{err_from_is_err_and}
 use Rattle.cert_lines.specs.declared.line.Line.TheVariants as lines
-use Rattle.cert_order.specs.Text.{head_lines, list_lines}
+use Rattle.cert_form.specs.Text.{head_lines, list_lines}
 use Rattle.cert_contents.proofs.PartsLemmas.{stops_before, stops_then, takes_one, takes_then}
 use Rattle.cert_contents.proofs.reader.Reader.take_parts.Goals as goal
 

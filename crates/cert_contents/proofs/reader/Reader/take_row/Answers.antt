@@ -1,7 +1,7 @@
 use Rattle.std.proofs.Common.{◌<◌, length, subst, rules}
 use Rattle.cert_lines.specs.declared.line.Line.TheVariants as lines
-use Rattle.cert_order.specs.Reader.{IsProgress, MayFollow}
-use Rattle.cert_order.proofs.OrderOfLists.{after_row}
+use Rattle.cert_form.specs.Reader.{IsProgress, MayFollow}
+use Rattle.cert_form.proofs.OrderOfLists.{after_row}
 use Rattle.cert_contents.proofs.reader.Reader.take_row.Goals as goal
 
 pub returns-clause-line : goal.returns-clause-line

@@ -1,6 +1,6 @@
 use Rattle.std.proofs.Common.{◌≡◌, ◌++◌, map}
 use Rattle.cert_lines.specs.declared.line.Line.TheVariants as lines
-use Rattle.cert_order.specs.Reader.{IsProgress, lines_read}
+use Rattle.cert_form.specs.Reader.{IsProgress, lines_read}
 use Rattle.cert_contents.proofs.reader.Reader.take_rows.Given as goal
 
 -- the rows so far were read

@@ -1,6 +1,6 @@
 use Rattle.std.proofs.Common.{◌≤◌, ◌*◌, unsigned_abs, rules, refl, arith, ap, FitsSigned, take, ◌<◌, ◌^◌}
 use Rattle.std.specs.Int.{w128}
-use Rattle.loop_bounds.specs.Linear.{Sum}
+use Rattle.loop_bounds.specs.Linear.{LinearView}
 use Rattle.loop_bounds.specs.Form.{weight}
 use Rattle.loop_bounds.proofs.Boxes.{least_more, least_fits, whole_bound, whole_reached}
 use Rattle.loop_bounds.proofs.Signed.{fits_128, sum_fits, sum_kept}
@@ -28,8 +28,8 @@ loop-term-preserved g c =
 
 pub returns-clause-bound : goal.returns-clause-bound
 returns-clause-bound g c =
-    whole_bound _ c.args.self.now _ _ _ c.loop-term.invariant c.loop-term-test.false (ap (λ (s : Sum). s.terms) c.self.view_is)
+    whole_bound _ c.args.self.now _ _ _ c.loop-term.invariant c.loop-term-test.false (ap (λ (s : LinearView). s.terms) c.self.view_is)
 
 pub returns-clause-reached : goal.returns-clause-reached
 returns-clause-reached g c =
-    whole_reached _ c.args.self.now _ _ _ c.loop-term.invariant c.loop-term-test.false (ap (λ (s : Sum). s.terms) c.self.view_is) c.self.invariant.distinct
+    whole_reached _ c.args.self.now _ _ _ c.loop-term.invariant c.loop-term-test.false (ap (λ (s : LinearView). s.terms) c.self.view_is) c.self.invariant.distinct

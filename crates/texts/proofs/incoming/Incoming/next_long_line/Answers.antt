@@ -1,15 +1,14 @@
 use Rattle.std.proofs.Common.{◌≡◌, ◌≤◌, ◌∙◌, ◌++◌, ◌∷◌, [], List, ℕ, length, sym, subst, arith, rules, length-append}
 use Rattle.texts.specs.Device.{Gives}
-use Rattle.texts.specs.Incoming.{HasNoFeed}
-use Rattle.texts.specs.Incoming.{TakesNext, left_of}
-use Rattle.texts.specs.declared.incoming.Next.TheVariants.{Ended}
+use Rattle.texts.specs.Incoming.{HasNoFeed, TakesNext, unread_of}
+use Rattle.texts.specs.declared.incoming.NextByte.TheVariants.{Ended}
 use Rattle.texts.proofs.IncomingLemmas.{goes_on, line_ended, stays_quiet, used}
 use Rattle.texts.proofs.incoming.Incoming.next_long_line.Goals as goal
 
 pub returns-in-Ended-clause-line : goal.returns-in-Ended-clause-line
 returns-in-Ended-clause-line g c =
     let inv = c.loop-next.invariant in
-    let next : TakesNext c.args.longest c.len.result (left_of c.loop-next.self (g.R.Source.state c.loop-next.input)) (Ended c.in-Ended.end) (left_of c.next.new.self (g.R.Source.state c.next.new.input)) = rw c.in-Ended.is at c.in-Ok.ensures.next in
+    let next : TakesNext c.args.longest c.len.result (unread_of c.loop-next.self (g.R.Source.state c.loop-next.input)) (Ended c.in-Ended.end) (unread_of c.next.new.self (g.R.Source.state c.next.new.input)) = rw c.in-Ended.is at c.in-Ok.ensures.next in
     line_ended _ _ _ _ _ _ c.in-Ended.end inv.given inv.no_feed inv.short (c.len.ensures ∙ c.loop-next.line.ok.0) next
 
 pub returns-in_default-clause-quiet : goal.returns-in_default-clause-quiet
@@ -36,7 +35,7 @@ returns-then-is_err-clause-quiet g c enough =
 pub returns-then-is_err-clause-fault : goal.returns-then-is_err-clause-fault
 returns-then-is_err-clause-fault g c =
     let inv = c.loop-next.invariant in
-    let more = goes_on c.args.longest c.len.result (left_of c.args.self.now (g.R.Source.state c.args.input.now)) (left_of c.loop-next.self (g.R.Source.state c.loop-next.input)) (left_of c.next.new.self (g.R.Source.state c.next.new.input)) c.loop-next.line.items c.in-Byte.byte c.in-Ok.next inv.given inv.no_feed (c.len.ensures ∙ c.loop-next.line.ok.0) c.in-Byte.is c.in-Ok.ensures.next in
+    let more = goes_on c.args.longest c.len.result (unread_of c.args.self.now (g.R.Source.state c.args.input.now)) (unread_of c.loop-next.self (g.R.Source.state c.loop-next.input)) (unread_of c.next.new.self (g.R.Source.state c.next.new.input)) c.loop-next.line.items c.in-Byte.byte c.in-Ok.next inv.given inv.no_feed (c.len.ensures ∙ c.loop-next.line.ok.0) c.in-Byte.is c.in-Ok.ensures.next in
     record {
       text = c.loop-next.line.items ++ c.in-Byte.byte ∷ [];
       some = omega (arith, length-append c.loop-next.line.items (c.in-Byte.byte ∷ []));
@@ -49,10 +48,10 @@ pub loop-next-preserved : goal.loop-next-preserved
 loop-next-preserved g c =
     let inv = c.loop-next.invariant in
     let short : length c.loop-next.line.items ≤ c.args.longest = inv.short in
-    let more = goes_on c.args.longest c.len.result (left_of c.args.self.now (g.R.Source.state c.args.input.now)) (left_of c.loop-next.self (g.R.Source.state c.loop-next.input)) (left_of c.next.new.self (g.R.Source.state c.next.new.input)) c.loop-next.line.items c.in-Byte.byte c.in-Ok.next inv.given inv.no_feed (c.len.ensures ∙ c.loop-next.line.ok.0) c.in-Byte.is c.in-Ok.ensures.next in
+    let more = goes_on c.args.longest c.len.result (unread_of c.args.self.now (g.R.Source.state c.args.input.now)) (unread_of c.loop-next.self (g.R.Source.state c.loop-next.input)) (unread_of c.next.new.self (g.R.Source.state c.next.new.input)) c.loop-next.line.items c.in-Byte.byte c.in-Ok.next inv.given inv.no_feed (c.len.ensures ∙ c.loop-next.line.ok.0) c.in-Byte.is c.in-Ok.ensures.next in
     let items : c.push.new.self.items ≡ c.loop-next.line.items ++ c.in-Byte.byte ∷ [] = search rules in
     record {
-      given = subst (λ (t : List ℕ). Gives (left_of c.args.self.now (g.R.Source.state c.args.input.now)) t (left_of c.next.new.self (g.R.Source.state c.next.new.input))) (sym items) more.given;
+      given = subst (λ (t : List ℕ). Gives (unread_of c.args.self.now (g.R.Source.state c.args.input.now)) t (unread_of c.next.new.self (g.R.Source.state c.next.new.input))) (sym items) more.given;
       short = subst (λ (t : List ℕ). length t ≤ c.args.longest) (sym items) (omega (arith, more.below, length-append c.loop-next.line.items (c.in-Byte.byte ∷ [])));
       no_feed = subst HasNoFeed (sym items) more.no_feed;
       quiet = λ enough.

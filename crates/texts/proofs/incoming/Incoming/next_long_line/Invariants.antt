@@ -1,12 +1,12 @@
 use Rattle.std.proofs.Common.{◌≡◌, ◌≤◌, ◌-◌, ◌++◌, IsTrue, length}
 use Rattle.texts.specs.Device.{Gives}
-use Rattle.texts.specs.Incoming.{EndsWell, HasNoFeed, IsEnough, left_of}
+use Rattle.texts.specs.Incoming.{EndsWell, HasNoFeed, IsEnough, unread_of}
 use Rattle.texts.proofs.incoming.Incoming.next_long_line.Given as goal
 
--- the line so far was taken off, and no read has failed yet
+-- the line so far was taken, and no read has failed
 abbrev pub invariant-loop-next : goal.invariant-loop-next
 invariant-loop-next g l = record {
-  given : Gives (left_of l.fn.self (g.R.Source.state l.fn.input)) l.line.items (left_of l.self (g.R.Source.state l.input));
+  given : Gives (unread_of l.fn.self (g.R.Source.state l.fn.input)) l.line.items (unread_of l.self (g.R.Source.state l.input));
   short : length l.line.items ≤ l.longest;
   no_feed : HasNoFeed l.line.items;
   quiet : IsEnough l.longest l.fn.self.bytes (IsTrue l.fn.self.ended) → (l.input ≡ l.fn.input) × (l.self.ended ≡ l.fn.self.ended) × (l.fn.self.bytes ≡ l.line.items ++ l.self.bytes);

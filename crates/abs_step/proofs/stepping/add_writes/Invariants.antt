@@ -1,5 +1,0 @@
-use Rattle.std.proofs.Common.{◌≡◌, ◌≤◌, take}
-use Rattle.abs_step.proofs.stepping.add_writes.Given as goal
-
-abbrev pub invariant-loop-write : goal.invariant-loop-write
-invariant-loop-write l = (l.writes.items ≡ take l.write-index l.write-items) × (2 ≤ l.writes.capacity)

@@ -1,8 +1,0 @@
-use Rattle.std.proofs.Common.{ℕ, ◌<◌, get_or}
-use Rattle.loop_bounds.specs.Linear.{Sum}
-use Rattle.cert_cover.specs.Covering.{IsKnown}
-use Rattle.cert_cover.proofs.knowing.are_known.Given as goal
-
--- the facts so far are known to hold
-abbrev pub invariant-loop-fact : goal.invariant-loop-fact
-invariant-loop-fact l = (k : ℕ) (fact : Sum) → k < l.fact-index → IsKnown l.facts l.before l.effect (get_or l.asked k fact)

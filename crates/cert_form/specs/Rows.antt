@@ -1,0 +1,24 @@
+-- Rows whose shapes are stored by number.
+use Rattle.std.specs.Prelude.{◌<◌, List, [], length, slice_index_or}
+use Rattle.std.specs.List.{AllByRecursion}
+use Rattle.cert_lines.specs.declared.row.Row.{Row}
+use Rattle.cert_form.specs.declared.rows.NumberedRow.{NumberedRow}
+use Rattle.stack_shape.specs.declared.slot.Slot.{Slot}
+
+-- a row with this shape in place of the shape's number
+abbrev pub row_with_shape : NumberedRow → List Slot → Row
+row_with_shape row shape = record {
+  proc = row.proc;
+  address = row.address;
+  state = record { mode = row.mode; armed = row.armed; pairs = row.pairs; flag = row.flag; shape = shape };
+  facts = row.facts;
+  potential = row.potential;
+}
+
+-- a row with the shape that has its number
+abbrev pub with_its_shape : List (List Slot) → NumberedRow → Row
+with_its_shape shapes row = row_with_shape row (slice_index_or shapes row.shape [])
+
+-- each row has the number of a shape
+abbrev pub HaveShapes : List (List Slot) → List NumberedRow → Type 0
+HaveShapes shapes rows = AllByRecursion (λ row. row.shape < length shapes) rows

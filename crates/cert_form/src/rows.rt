@@ -1,0 +1,159 @@
+// The rows of a certificate. Shapes are stored by number.
+
+ghost use Rattle.std.specs.Prelude.{◌≡◌, ◌<◌, ◌≤◌, ◌∷◌, [], ◌++◌, ℕ, List, Some, MatchOption, OnOk, OnErr, length, slice_get};
+ghost use Rattle.cert_lines.specs.declared.row.Row.{Row};
+ghost use Rattle.cert_form.specs.Form.{RisePlaces, place_number};
+ghost use Rattle.cert_form.specs.Rows.{row_with_shape};
+
+use crate::shapes::Shapes;
+use abs_state::{AbsState, FlagFact, Mode, Pairs};
+use call_graph::ProcId;
+use cert_fields::Facts;
+use cert_lines::{Row, RowRef};
+use loop_bounds::Linear;
+use stack_shape::Shape;
+use std::alloc::{AllocError, Global};
+use std::marker::Model;
+
+/// A row with the number of its shape in place of the shape.
+#[derive(Drop)]
+pub struct NumberedRow {
+    proc: ProcId,
+    address: u16,
+    mode: Mode,
+    armed: u16,
+    pairs: Pairs,
+    flag: Option<FlagFact>,
+    facts: Facts,
+    potential: Option<Linear>,
+    shape: usize,
+}
+
+impl NumberedRow {
+    /// The row with its shape, borrowed.
+    fn with<'a>(&'a self, shape: &'a Shape) -> RowRef<'a>
+        ensures { result ≡ row_with_shape self.now shape.now }
+    {
+        RowRef {
+            proc: self.proc,
+            address: self.address,
+            mode: self.mode,
+            armed: self.armed,
+            pairs: &self.pairs,
+            flag: self.flag,
+            facts: &self.facts,
+            shape,
+            potential: self.potential,
+        }
+    }
+}
+
+/// Rows, and their shapes, each stored once.
+#[derive(Drop)]
+pub struct Rows {
+    rows: Vec<NumberedRow>,
+    shapes: Shapes,
+}
+
+impl Model for Rows {
+    ghost use Rattle.std.specs.Prelude.{List, map};
+    ghost use Rattle.cert_lines.specs.declared.row.Row.{Row};
+    ghost use Rattle.cert_form.specs.Rows.{HaveShapes, with_its_shape};
+
+    ghost Value = { List Row };
+
+    ghost view = { λ r. map (with_its_shape r.shapes) r.rows.items };
+
+    ghost invariant = { λ r. HaveShapes r.shapes r.rows.items };
+}
+
+impl Rows {
+    pub fn new(alloc: Global) -> Rows
+        ensures { result ≡ [] }
+    {
+        Rows {
+            rows: Vec::new(alloc),
+            shapes: Shapes::new(alloc),
+        }
+    }
+
+    pub fn len(&self) -> usize
+        ensures { result ≡ length self.now }
+    {
+        self.rows.len()
+    }
+
+    /// Appends a row. Where memory is refused, the rows stay as they were.
+    pub fn push(&mut self, row: Row) -> Result<(), AllocError>
+        ensures pushed { OnOk result (self.new ≡ self.old ++ row ∷ []) }
+        ensures err { OnErr result (self.new ≡ self.old) }
+    {
+        let Row {
+            proc,
+            address,
+            state,
+            facts,
+            potential,
+        } = row;
+        let AbsState {
+            mode,
+            armed,
+            pairs,
+            flag,
+            shape,
+        } = state;
+        let number = self.shapes.number_of(shape)?;
+        self.rows.push(NumberedRow {
+            proc,
+            address,
+            mode,
+            armed,
+            pairs,
+            flag,
+            facts,
+            potential,
+            shape: number,
+        })?;
+        Ok(())
+    }
+
+    /// The row with this number, borrowed; None if there is none.
+    pub fn row(&self, number: usize) -> Option<RowRef>
+        ensures { result ≡ slice_get self.now number }
+    {
+        let row = self.rows.get(number)?;
+        let shape = self.shapes.shape(row.shape)?;
+        Some(row.with(shape))
+    }
+
+    /// The procedure and the address of the last row; None if there are no rows.
+    pub fn last_place(&self) -> Option<(ProcId, u16)>
+        ensures { MatchOption result (self.now ≡ []) (λ p. (before : List Row) × (last : Row)
+            × (self.now ≡ before ++ last ∷ []) × (p.0 ≡ last.proc) × (p.1 ≡ last.address)) }
+    {
+        let last = self.rows.last()?;
+        Some((last.proc, last.address))
+    }
+
+    /// How many rows are before a place. Rows are ordered by place, so these are the first ones.
+    pub fn before(&self, proc: ProcId, address: u16) -> usize
+        requires { RisePlaces self.now }
+        ensures within { result ≤ length self.now }
+        ensures below { (k : ℕ) (row : Row) → slice_get self.now k ≡ Some row → k < result
+            → place_number row.proc row.address < place_number proc address }
+        ensures from { (k : ℕ) (row : Row) → slice_get self.now k ≡ Some row → result ≤ k
+            → place_number proc address ≤ place_number row.proc row.address }
+    {
+        let number = place_number(proc, address);
+        self.rows
+            .as_slice()
+            .partition_point(|row| place_number(row.proc, row.address) < number)
+    }
+}
+
+/// A place as one number: places are ordered by procedure and then address.
+pub fn place_number(proc: ProcId, address: u16) -> u32
+    ensures { result ≡ place_number proc address }
+{
+    u32::from(proc) * 0x1_0000 + u32::from(address)
+}

@@ -1,8 +1,0 @@
--- The lemmas, lowest first.
-pub mod InForm
-pub mod Meeting
-pub mod Facts
-pub mod LandingLemmas
-pub mod EntryLemmas
-pub mod ReturnLemmas
-pub mod PayLemmas

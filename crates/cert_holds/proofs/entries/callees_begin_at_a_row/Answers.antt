@@ -1,5 +1,0 @@
-use Rattle.cert_holds.proofs.EntryLemmas.{callee_begins}
-use Rattle.cert_holds.proofs.entries.callees_begin_at_a_row.Goals as goal
-
-pub returns : goal.returns
-returns c = callee_begins

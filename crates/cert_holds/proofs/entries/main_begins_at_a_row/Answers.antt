@@ -1,5 +1,0 @@
-use Rattle.cert_holds.proofs.EntryLemmas.{main_begins}
-use Rattle.cert_holds.proofs.entries.main_begins_at_a_row.Goals as goal
-
-pub returns : goal.returns
-returns c = main_begins

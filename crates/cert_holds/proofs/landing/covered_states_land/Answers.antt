@@ -1,5 +1,0 @@
-use Rattle.cert_holds.proofs.LandingLemmas.{lands}
-use Rattle.cert_holds.proofs.landing.covered_states_land.Goals as goal
-
-pub returns : goal.returns
-returns c = λ cert a state entry now form numbers comes h covered. lands cert form a entry now numbers comes state h covered

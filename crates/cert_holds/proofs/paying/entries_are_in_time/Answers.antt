@@ -1,5 +1,0 @@
-use Rattle.cert_holds.proofs.PayLemmas.{entry_in_time}
-use Rattle.cert_holds.proofs.paying.entries_are_in_time.Goals as goal
-
-pub returns : goal.returns
-returns c = entry_in_time

@@ -1,5 +1,0 @@
-use Rattle.cert_holds.proofs.PayLemmas.{exit_paid}
-use Rattle.cert_holds.proofs.paying.exits_are_paid.Goals as goal
-
-pub returns : goal.returns
-returns c = λ row cost cells entry m i h pays. exit_paid row cells entry m i h cost pays

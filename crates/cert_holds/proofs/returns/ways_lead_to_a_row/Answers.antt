@@ -1,5 +1,0 @@
-use Rattle.cert_holds.proofs.ReturnLemmas.{way_leads}
-use Rattle.cert_holds.proofs.returns.ways_lead_to_a_row.Goals as goal
-
-pub returns : goal.returns
-returns c = way_leads

@@ -1,5 +1,0 @@
-use Rattle.cert_order.proofs.GoesOn.{none_goes_on}
-use Rattle.cert_order.proofs.laws.other_lines_begin_none.Goals as goal
-
-pub returns : goal.returns
-returns c = none_goes_on

@@ -1,2 +1,0 @@
--- The definitions of rows whose shapes are kept by number.
-pub mod Rows

@@ -1,7 +1,0 @@
-use Rattle.std.proofs.Common.{◌≡◌}
-use Rattle.cert_rules.specs.Acceptance.{AreConsistent}
-use Rattle.cert_rules.proofs.examining.check_rows.Given as goal
-
--- nothing is against the rows so far
-abbrev pub invariant-loop-id : goal.invariant-loop-id
-invariant-loop-id l = record { before : AreConsistent l.rom l.certificate l.id; coverer : l.coverer ≡ l.certificate }

@@ -1,8 +1,0 @@
-use Rattle.std.proofs.Common.{ℕ, ◌<◌, get_or}
-use Rattle.abs_step.specs.declared.next.Next.{Next}
-use Rattle.cert_rules.specs.Saved.{GivesAllBack}
-use Rattle.cert_rules.proofs.saved.lost_at.Given as goal
-
--- the ways on so far give each pair back
-abbrev pub invariant-loop-next : goal.invariant-loop-next
-invariant-loop-next l = (k : ℕ) (d : Next) → k < l.next-index → GivesAllBack (get_or l.nexts k d)

@@ -1,0 +1,7 @@
+pub mod CoveringLemmas
+pub mod Lists
+pub mod NarrowLemmas
+pub mod OrderedLists
+pub mod PlainLemmas
+pub mod ProgramLemmas
+pub mod RowLemmas

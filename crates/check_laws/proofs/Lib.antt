@@ -1,0 +1,26 @@
+-- Lemmas. Each file uses only those above it.
+pub mod InForm
+pub mod Meeting
+pub mod Facts
+pub mod LandingLemmas
+pub mod EntryLemmas
+pub mod ReturnLemmas
+pub mod PayLemmas
+pub mod Procs
+pub mod Judging
+pub mod Boards
+pub mod Depth
+pub mod Going
+pub mod ExecutingLemmas
+pub mod OwingLemmas
+pub mod Keeper
+pub mod Seens
+pub mod Roles
+pub mod Standing
+pub mod Restored
+pub mod Events
+pub mod Stepping
+pub mod Accepting
+pub mod MainEvents
+pub mod Whole
+pub mod BoundedLemmas

@@ -1,0 +1,23 @@
+use Rattle.std.proofs.Common.{◌≡◌, ◌∙◌, Result, Ok, Err, IfErr, sym}
+use Rattle.cert_contents.proofs.MigratingLemmas.{in_version_two, two_is_migrated}
+use Rattle.cert_lines.specs.declared.version.Version.TheVariants.{Two}
+use Rattle.check_rules.specs.declared.refused.Refused.{Refused}
+use Rattle.check_rules.proofs.Versions.{accepted_before, refused_before}
+use Rattle.check_rules.proofs.examining.same_verdict.Goals as goal
+
+pub returns-clause-exact : goal.returns-clause-exact
+returns-clause-exact c =
+    let is : in_version_two c.args.first.now ≡ c.args.second.now = two_is_migrated c.args.first.now c.is_in_form.ensures ∙ sym c.requires in (
+      (λ ok. let a = c.examine.ensures.exact.0 ok in (accepted_before Two c.args.rom.now c.args.first.now c.args.second.now is a, a)),
+      λ both. c.examine.ensures.exact.1 both.1,
+    )
+
+-- what holds of an error and is more
+more : {T E : Type 0} (P Q : E → Type 0) → ((e : E) → P e → Q e) → (r : Result T E) → IfErr r P → IfErr r Q
+more P Q weaker (Ok x) h = tt
+more P Q weaker (Err e) h = weaker e h
+
+pub returns-clause-refused : goal.returns-clause-refused
+returns-clause-refused c =
+    let is : in_version_two c.args.first.now ≡ c.args.second.now = two_is_migrated c.args.first.now c.is_in_form.ensures ∙ sym c.requires in
+    more _ _ (λ (r : Refused) h. (refused_before Two c.args.rom.now c.args.first.now c.args.second.now r.row r.address r.reason is h, h)) c.examine.result c.examine.ensures.refused

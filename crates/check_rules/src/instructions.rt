@@ -1,0 +1,82 @@
+// The reasons of a row that look at its instruction: 19 and 20, and LD I,A of reason 14.
+
+ghost use Rattle.std.specs.Prelude.{◌≡◌, ◌↔◌, IsTrue};
+ghost use Rattle.abs_step.specs.Contained.{SetsTop};
+ghost use Rattle.board_laws.specs.Uses.{sets_sp};
+ghost use Rattle.check_rules.specs.Table.{IsTimed, Passes, PassesBelow, TellsLowest};
+
+use abs_step::{Reason, Saved};
+use address_map::Region;
+use cert_lines::Proc;
+use check_ways::Subject;
+use z80_decode::{Direct, Instr, Register16, Special};
+
+/// Reasons 19 and 20: HALT in a timed procedure, and instructions that set SP.
+pub(crate) fn check_instruction(subject: &Subject) -> Result<(), Reason>
+    requires { PassesBelow subject.now 19 }
+    ensures { TellsLowest subject.now 21 result }
+{
+    if !never_halts(subject) {
+        return Err(Reason::HaltInNmi);
+    }
+    if !sets_top_alone(subject) {
+        return Err(Reason::SpWrite);
+    }
+    Ok(())
+}
+
+pub(crate) fn is_timed(proc: &Proc) -> bool
+    ensures { IsTrue result ↔ IsTimed proc.now }
+{
+    proc.time.is_some()
+}
+
+/// Whether the row is not LD I,A in a timed procedure.
+pub(crate) fn keeps_i(subject: &Subject) -> bool
+    ensures { IsTrue result ↔ Passes subject.now (Reason.SavedRegister Saved.I) }
+{
+    !is_timed(&subject.proc) || !matches!(subject.decoded, Ok(Instr::StoreASpecial(Special::I)))
+}
+
+/// Whether the row is not HALT in a timed procedure.
+fn never_halts(subject: &Subject) -> bool
+    ensures { IsTrue result ↔ Passes subject.now Reason.HaltInNmi }
+{
+    !is_timed(&subject.proc) || !matches!(subject.decoded, Ok(Instr::Halt))
+}
+
+/// Whether the instruction does not set SP, or is main's LD SP,nn with the region's top.
+fn sets_top_alone(subject: &Subject) -> bool
+    ensures { IsTrue result ↔ Passes subject.now Reason.SpWrite }
+{
+    match &subject.decoded {
+        Ok(instr) => {
+            !sets_sp(instr) || sets_top(subject.row.proc == 0, subject.certificate.region(), instr)
+        }
+        Err(_) => true,
+    }
+}
+
+/// Whether an instruction is LD SP,nn of main with the region's top.
+pub fn sets_top(main: bool, region: Region, instr: &Instr) -> bool
+    ensures { IsTrue result ↔ SetsTop main region instr.now }
+{
+    match instr {
+        Instr::LoadPair(Register16::Sp, word) => main && *word == region.top,
+        _ => false,
+    }
+}
+
+/// Whether an instruction is LD SP, INC SP or DEC SP.
+pub fn sets_sp(instr: &Instr) -> bool
+    ensures { result ≡ sets_sp instr.now }
+{
+    matches!(
+        instr,
+        Instr::LoadPair(Register16::Sp, _)
+            | Instr::LoadPairDirect(Direct::Pair(Register16::Sp), _)
+            | Instr::LoadSp(_)
+            | Instr::IncrementPair(Register16::Sp)
+            | Instr::DecrementPair(Register16::Sp)
+    )
+}

@@ -1,0 +1,107 @@
+// The lowest reason that applies to a row.
+
+ghost use Rattle.std.specs.Prelude.{◌≡◌, OnOk, IfErr, Ok, Err};
+ghost use Rattle.check_rules.specs.Table.{IsConsistent, IsLowest, PassesBelow, TellsLowest};
+ghost use Rattle.check_ways.specs.Ways.{step_of, writes_from};
+
+use crate::instructions::{check_instruction, is_timed};
+use crate::saved::check_saved;
+use crate::stack::{is_deep, ranks_fall, row_is_deep};
+use crate::writes::{check_cells, check_enabling, check_places};
+use abs_draft::DataWrite;
+use abs_step::{Next, Reason, RowStep};
+use check_cover::Coverer;
+use check_ways::{Subject, goes_on, pays};
+use std::alloc::Global;
+
+/// Judges a row by the table of reasons (docs/CHECKER.md, "The table of reasons"). The coverer searches the rows of the
+/// same certificate. No memory is taken.
+///
+/// # Errors
+///
+/// The lowest number of the reasons that apply to the row.
+pub fn check_row(alloc: Global, subject: &Subject, coverer: &mut Coverer) -> Result<(), Reason>
+    requires { coverer.old ≡ subject.now.cert }
+    ensures ok { OnOk result (IsConsistent subject.now) }
+    ensures err { IfErr result (λ reason. IsLowest subject.now reason) }
+    ensures same { coverer.new ≡ coverer.old }
+{
+    let RowStep { writes, answer } = subject.row_step(alloc);
+    match answer {
+        Ok(nexts) => check_going(subject, writes.as_slice(), nexts.as_slice(), coverer),
+        Err(refusal) => Err(lowest_of_refused(subject, writes.as_slice(), refusal)),
+    }
+}
+
+/// The lowest reason that applies to a row that the abstract step refuses for this one.
+fn lowest_of_refused(subject: &Subject, writes: &[DataWrite], refusal: Reason) -> Reason
+    requires step { step_of subject.now ≡ Err refusal }
+    requires writes { writes.now ≡ writes_from subject.now }
+    ensures { IsLowest subject.now result }
+{
+    let number = refusal.number();
+    if number < 6 {
+        return refusal;
+    }
+    if let Err(reason) = check_places(subject, writes) {
+        return reason;
+    }
+    if number > 11 && !row_is_deep(subject) {
+        return Reason::StackDepth;
+    }
+    refusal
+}
+
+/// Judges a row for which the abstract step gives successors.
+fn check_going(
+    subject: &Subject,
+    writes: &[DataWrite],
+    nexts: &[Next],
+    coverer: &mut Coverer,
+) -> Result<(), Reason>
+    requires step { step_of subject.now ≡ Ok nexts.now }
+    requires writes { writes.now ≡ writes_from subject.now }
+    requires coverer { coverer.old ≡ subject.now.cert }
+    ensures told { TellsLowest subject.now 23 result }
+    ensures same { coverer.new ≡ coverer.old }
+{
+    check_places(subject, writes)?;
+    check_ways(subject, nexts, coverer)?;
+    check_saved(subject, nexts)?;
+    check_enabling(subject, writes)?;
+    check_time(subject, nexts)?;
+    check_instruction(subject)?;
+    check_cells(subject, writes)
+}
+
+/// Reasons 11, 12 and 13: the depth, the covering of successors, and the ranks of callees.
+fn check_ways(subject: &Subject, nexts: &[Next], coverer: &mut Coverer) -> Result<(), Reason>
+    requires step { step_of subject.now ≡ Ok nexts.now }
+    requires coverer { coverer.old ≡ subject.now.cert }
+    requires below { PassesBelow subject.now 9 }
+    ensures told { TellsLowest subject.now 14 result }
+    ensures same { coverer.new ≡ coverer.old }
+{
+    if !is_deep(subject, nexts) {
+        return Err(Reason::StackDepth);
+    }
+    if !goes_on(subject, nexts, coverer) {
+        return Err(Reason::NotCovered);
+    }
+    if !ranks_fall(subject, nexts) {
+        return Err(Reason::Rank);
+    }
+    Ok(())
+}
+
+/// Reason 17: a row of a timed procedure has to pay.
+fn check_time(subject: &Subject, nexts: &[Next]) -> Result<(), Reason>
+    requires step { step_of subject.now ≡ Ok nexts.now }
+    requires below { PassesBelow subject.now 17 }
+    ensures { TellsLowest subject.now 19 result }
+{
+    if is_timed(&subject.proc) && !pays(subject, nexts) {
+        return Err(Reason::Time);
+    }
+    Ok(())
+}

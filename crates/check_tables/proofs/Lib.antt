@@ -1,0 +1,3 @@
+pub mod ExitLemmas
+pub mod LeftLemmas
+pub mod WideLemmas

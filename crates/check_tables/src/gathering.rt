@@ -1,0 +1,97 @@
+// What the exits of one procedure leave, each once.
+
+ghost use Rattle.std.specs.Prelude.{◌≡◌, IfOk, IfSome, OnOk, option_copied};
+ghost use Rattle.check_tables.specs.Lefts.{AddsExit, AreLeft};
+ghost use Rattle.check_tables.specs.Tables.{AreExits};
+
+use crate::exits::exit_of;
+use crate::left::Left;
+use crate::widening::widest;
+use abs_state::AbsState;
+use address_map::Rom;
+use call_graph::ProcId;
+use cert_contents::{Certificate, RowId};
+use indexmap::IndexSet;
+use std::alloc::{AllocError, Global};
+use std::marker::Model;
+
+/// What the exits of a procedure leave, each once, and their join if it was made.
+#[derive(Drop)]
+pub struct ProcExits {
+    pub(crate) proc: ProcId,
+    lefts: IndexSet<Left>,
+    wide: Option<AbsState>,
+}
+
+impl Model for ProcExits {
+    ghost use Rattle.check_tables.specs.Tables.{ProcExitsView};
+
+    ghost Value = { ProcExitsView };
+
+    ghost view = { λ e. record { proc = e.proc; lefts = e.lefts.keys; wide = e.wide } };
+}
+
+impl ProcExits {
+    /// What the exits of the procedure with this number leave. The error is refused memory.
+    pub(crate) fn of(
+        alloc: Global,
+        rom: &Rom,
+        certificate: &Certificate,
+        proc: ProcId,
+    ) -> Result<ProcExits, AllocError>
+        ensures proc { IfOk result (λ e. e.proc ≡ proc) }
+        ensures exits { IfOk result (AreExits rom.now certificate.now) }
+    {
+        let lefts = lefts_of(alloc, rom, certificate, proc)?;
+        let wide = widest(lefts.as_slice());
+        Ok(ProcExits { proc, lefts, wide })
+    }
+
+    /// What the exits leave, each once.
+    pub fn lefts(&self) -> &[Left]
+        ensures { result.now ≡ self.now.lefts }
+    {
+        self.lefts.as_slice()
+    }
+
+    /// The join of all of them: it covers each and has the same origins. None if their origins differ, or there is no
+    /// exit.
+    pub fn wide(&self) -> Option<&AbsState>
+        ensures { option_copied result ≡ self.now.wide }
+    {
+        self.wide.as_ref()
+    }
+}
+
+fn lefts_of(
+    alloc: Global,
+    rom: &Rom,
+    certificate: &Certificate,
+    proc: ProcId,
+) -> Result<IndexSet<Left>, AllocError>
+    ensures { IfOk result (λ lefts. AreLeft rom.now certificate.now proc lefts.keys) }
+{
+    let mut lefts = IndexSet::new(alloc);
+    let rows = certificate.rows_of(proc);
+    for id in rows.start..rows.end {
+        add_exit(&mut lefts, rom, certificate, id)?;
+    }
+    Ok(lefts)
+}
+
+/// Adds what the row with this number leaves at its exit, if it has one.
+fn add_exit(
+    lefts: &mut IndexSet<Left>,
+    rom: &Rom,
+    certificate: &Certificate,
+    id: RowId,
+) -> Result<(), AllocError>
+    ensures { OnOk result (AddsExit rom.now certificate.now id lefts.old.keys lefts.new.keys) }
+{
+    if let Some(row) = certificate.row(id)
+        && let Some(exit) = exit_of(rom, &row)
+    {
+        lefts.insert(Left::of(&exit))?;
+    }
+    Ok(())
+}

@@ -1,0 +1,9 @@
+pub mod ExitLemmas
+pub mod GoingLemmas
+pub mod PayingLemmas
+pub mod ReturnLemmas
+pub mod RowLemmas
+pub mod SubjectLemmas
+pub mod KeptLemmas
+pub mod TopLemmas
+pub mod WideLemmas

@@ -1,0 +1,17 @@
+// Where a row leads to, and what it pays (docs/CHECKER.md, "Successors, calls and exits" and "Paying").
+#![tactic(auto)]
+
+mod effects;
+mod exits;
+mod going;
+mod meeting;
+mod paying;
+mod subject;
+mod ways;
+
+pub use exits::may_have_exit;
+pub use going::goes_on;
+pub use meeting::{is_lone, meets_state};
+pub use paying::{cost_before, pays};
+pub use subject::Subject;
+pub use ways::Way;

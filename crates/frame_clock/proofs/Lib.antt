@@ -1,3 +1,0 @@
--- The lemmas, lowest first.
-pub mod Clocks
-pub mod Times

@@ -1,2 +1,0 @@
--- The lemmas: bytes spell one thing only, and an instruction stands inside the ROM.
-pub mod DecodedLemmas

@@ -1,2 +1,0 @@
--- The definition of what stands at an address of the ROM.
-pub mod Decoded

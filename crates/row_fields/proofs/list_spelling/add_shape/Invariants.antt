@@ -1,6 +1,0 @@
-use Rattle.row_fields.proofs.ShapeLemmas.{slot_text}
-use Rattle.row_fields.proofs.SpellingLemmas.{IsSpelled}
-use Rattle.row_fields.proofs.list_spelling.add_shape.Given as goal
-
-abbrev pub invariant-loop-slot : goal.invariant-loop-slot
-invariant-loop-slot l = IsSpelled slot_text 25 l.fn.line l.line l.shape l.others l.slot-index

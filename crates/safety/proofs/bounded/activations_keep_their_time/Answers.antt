@@ -1,5 +1,0 @@
-use Rattle.safety.proofs.BoundedLemmas.{keeps_times}
-use Rattle.safety.proofs.bounded.activations_keep_their_time.Goals as goal
-
-pub returns : goal.returns
-returns c = keeps_times

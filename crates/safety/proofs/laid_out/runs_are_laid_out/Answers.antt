@@ -1,5 +1,0 @@
-use Rattle.safety.proofs.Whole.{laid_out}
-use Rattle.safety.proofs.laid_out.runs_are_laid_out.Goals as goal
-
-pub returns : goal.returns
-returns c = laid_out

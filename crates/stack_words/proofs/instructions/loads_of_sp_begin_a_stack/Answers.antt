@@ -1,5 +1,0 @@
-use Rattle.stack_words.proofs.EachInstruction.{load_sp_done}
-use Rattle.stack_words.proofs.instructions.loads_of_sp_begin_a_stack.Goals as goal
-
-pub returns : goal.returns
-returns c = load_sp_done

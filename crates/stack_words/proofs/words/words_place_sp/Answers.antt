@@ -1,5 +1,0 @@
-use Rattle.stack_words.proofs.Laid.{placed}
-use Rattle.stack_words.proofs.words.words_place_sp.Goals as goal
-
-pub returns : goal.returns
-returns c = λ map region s words h. let p = placed map region s s.regs.sp words h.is_region h.room h.laid in (p.is, p.low)

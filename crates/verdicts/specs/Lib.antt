@@ -1,4 +1,0 @@
--- The definitions: the lines of a verdict.
-pub mod Gathered
-pub mod Verdict
-pub mod WriterRefusals

@@ -1,0 +1,238 @@
+// The least potential of a row that pays for what comes next.
+
+use crate::sums::{greatest_value, least_left, least_value, terms_before, with_constant};
+use abs_state::AbsState;
+use cert_contents::Certificate;
+use loop_bounds::{Effect, GREATEST_CONSTANT, Linear, Variable, decreases};
+use write_requests::{Request, Requests};
+
+/// The potential of a row, by its number within the procedure, if it is known.
+pub(crate) fn known_at(known: &[Option<Linear>], row: u32) -> Option<Linear> {
+    *known.get(row as usize)?
+}
+
+/// The least constant with which these terms pay the cost and leave a potential, rewritten by the effect; None if no
+/// constant does.
+fn least_constant(
+    terms: &Linear,
+    cost: u32,
+    to: &Linear,
+    effect: &Effect,
+    source: &AbsState,
+    target: &AbsState,
+) -> Option<i32> {
+    let least = least_left(terms, to, effect, source, target);
+    let needed = i128::from(cost)
+        .saturating_sub(least)
+        .max(-i128::from(GREATEST_CONSTANT));
+    let constant = i32::try_from(needed).ok()?;
+    let from = with_constant(terms, constant)?;
+    if decreases(&from, to, cost, effect, source, target) {
+        Some(constant)
+    } else {
+        None
+    }
+}
+
+/// The greater of two constants, or the only one.
+fn greater(one: Option<i32>, other: i32) -> Option<i32> {
+    match one {
+        Some(one) => Some(one.max(other)),
+        None => Some(other),
+    }
+}
+
+/// The least constant that pays for all requests of a row, 0 if there are none; None if a potential that it needs has
+/// terms. The row's state, which is large, is not looked at.
+pub(crate) fn least_of_constants(requests: &Requests, known: &[Option<Linear>]) -> Option<i64> {
+    let mut least = requests.leaving.map(|cost| i64::from(cost));
+    for request in requests.of_rows.as_slice() {
+        let constant = greatest_constant(request, known)?;
+        least = least.max(constant);
+    }
+    Some(least.unwrap_or(0))
+}
+
+/// The least constant that pays for a request; `Some(None)` if no potential of its rows is known yet; None if one of
+/// them has terms.
+fn greatest_constant(request: &Request, known: &[Option<Linear>]) -> Option<Option<i64>> {
+    let mut greatest = None;
+    for row in request.start..request.end {
+        if let Some(to) = known_at(known, row) {
+            if !to.terms().is_empty() {
+                return None;
+            }
+            greatest = greatest.max(Some(i64::from(to.constant())));
+        }
+    }
+    Some(greatest.map(|most| most.saturating_add(i64::from(request.cost))))
+}
+
+/// Which potentials a row may get.
+#[derive(Clone, Copy, PartialEq, Eq)]
+pub(crate) enum Choice {
+    /// The best of all.
+    Any,
+    /// The best with terms, if there is one. It needs less than a constant while the constants of loops' rows are low.
+    WithTerms,
+}
+
+/// The context of the search for a row's potential: the certificate, the number of the procedure's first row, the row's
+/// state, and what the row has to pay for.
+#[derive(Drop)]
+pub(crate) struct Payer<'a> {
+    pub(crate) certificate: &'a Certificate,
+    pub(crate) first: u32,
+    pub(crate) state: AbsState,
+    pub(crate) requests: &'a Requests,
+}
+
+impl<'a> Payer<'a> {
+    /// The least constant with which these terms pay for the row's exits, if it has any.
+    fn constant_for_leaving(&self, terms: &Linear) -> Result<Option<i32>, Unpaid> {
+        let Some(cost) = self.requests.leaving else {
+            return Ok(None);
+        };
+        let unchanged = Effect::unchanged();
+        match least_constant(
+            terms,
+            cost,
+            &Linear::zero(),
+            &unchanged,
+            &self.state,
+            &self.state,
+        ) {
+            Some(constant) => Ok(Some(constant)),
+            None => Err(Unpaid),
+        }
+    }
+
+    /// The least constant with which these terms pay for those rows of a request that have potentials.
+    fn constant_for(
+        &self,
+        terms: &Linear,
+        request: &Request,
+        known: &[Option<Linear>],
+    ) -> Result<Option<i32>, Unpaid> {
+        let mut least = None;
+        for row in request.start..request.end {
+            if let Some(to) = known_at(known, row) {
+                match self.constant_to(terms, request, row, &to) {
+                    Some(constant) => least = greater(least, constant),
+                    None => return Err(Unpaid),
+                }
+            }
+        }
+        Ok(least)
+    }
+
+    /// The least constant with which these terms pay for a next row with this potential; None if no constant does. Of
+    /// the next row's state only the ranges of the potential's variables count, so it is not made for a constant.
+    fn constant_to(&self, terms: &Linear, request: &Request, row: u32, to: &Linear) -> Option<i32> {
+        let (cost, effect) = (request.cost, &request.effect);
+        if to.terms().is_empty() {
+            return least_constant(terms, cost, to, effect, &self.state, &self.state);
+        }
+        let target = self.certificate.state(self.first.saturating_add(row))?;
+        least_constant(terms, cost, to, effect, &self.state, &target)
+    }
+
+    /// These terms with the least constant that pays for all requests; 0 if there are none.
+    pub(crate) fn least_with(
+        &self,
+        terms: &Linear,
+        known: &[Option<Linear>],
+    ) -> Result<Linear, Unpaid> {
+        let mut least = self.constant_for_leaving(terms)?;
+        for request in self.requests.of_rows.as_slice() {
+            if let Some(constant) = self.constant_for(terms, request, known)? {
+                least = greater(least, constant);
+            }
+        }
+        match with_constant(terms, least.unwrap_or(0)) {
+            Some(linear) => Ok(linear),
+            None => Err(Unpaid),
+        }
+    }
+
+    /// The terms of the next row's potential before the step to it, if there are any and this row has their variables.
+    fn terms_at(&self, request: &Request, row: u32, known: &[Option<Linear>]) -> Option<Linear> {
+        let to = known_at(known, row)?;
+        let terms = terms_before(&to, &request.effect)?;
+        if terms.terms().is_empty() || !names_slots_below(&terms, self.state.shape.len()) {
+            return None;
+        }
+        Some(terms)
+    }
+
+    /// The better of two potentials: the one with the lesser greatest value; if these are equal, the one with the
+    /// lesser least value; if these are equal too, the first.
+    fn better(&self, one: Result<Linear, Unpaid>, other: Linear) -> Result<Linear, Unpaid> {
+        let Ok(one) = one else {
+            return Ok(other);
+        };
+        let (most, others_most) = (
+            greatest_value(&one, &self.state),
+            greatest_value(&other, &self.state),
+        );
+        if others_most < most {
+            return Ok(other);
+        }
+        if others_most == most
+            && least_value(&other, &self.state) < least_value(&one, &self.state)
+        {
+            return Ok(other);
+        }
+        Ok(one)
+    }
+
+    /// The best potential that the row may have: a constant, or a constant with the terms of one request.
+    pub(crate) fn best(&self, known: &[Option<Linear>], choice: Choice) -> Result<Linear, Unpaid> {
+        let plain = self.least_with(&Linear::zero(), known);
+        let mut best = match choice {
+            Choice::Any => plain,
+            Choice::WithTerms => Err(Unpaid),
+        };
+        for request in self.requests.of_rows.as_slice() {
+            best = self.best_by(request, known, best);
+        }
+        match best {
+            Ok(best) => Ok(best),
+            Err(Unpaid) => plain,
+        }
+    }
+
+    /// The better of a potential and of those with the terms of one request.
+    fn best_by(
+        &self,
+        request: &Request,
+        known: &[Option<Linear>],
+        before: Result<Linear, Unpaid>,
+    ) -> Result<Linear, Unpaid> {
+        let mut best = before;
+        let mut last = Linear::zero();
+        for row in request.start..request.end {
+            if let Some(terms) = self.terms_at(request, row, known) {
+                if terms != last {
+                    last = terms;
+                    if let Ok(other) = self.least_with(&terms, known) {
+                        best = self.better(best, other);
+                    }
+                }
+            }
+        }
+        best
+    }
+}
+
+/// No constant pays.
+#[derive(Clone, Copy)]
+pub(crate) struct Unpaid;
+
+/// Whether each slot that a linear names has a number below `slots`.
+fn names_slots_below(linear: &Linear, slots: usize) -> bool {
+    linear.terms().iter().all(|term| match term.variable {
+        Variable::Slot(number, _) => usize::from(number.number()) < slots,
+        _ => true,
+    })
+}

@@ -1,0 +1,14 @@
+// Potentials for the rows of a timed procedure: an upper bound for the T-states that are left at each row
+// (docs/ANALYSIS.md, "Potentials").
+#![tactic(auto)]
+
+mod fault;
+mod heads;
+mod least;
+mod procedure;
+mod solving;
+mod sums;
+
+pub use fault::PotentialFault;
+pub use procedure::potentials;
+pub use sums::greatest_value;

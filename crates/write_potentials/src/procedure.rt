@@ -1,0 +1,147 @@
+// The potentials of all rows of a procedure.
+
+ghost use Rattle.std.specs.Prelude.{◌≡◌, length};
+
+use crate::fault::PotentialFault;
+use crate::heads::{counters_of, group_of};
+use crate::least::Choice;
+use crate::solving::Solving;
+use address_map::Rom;
+use annotations::LoopNote;
+use call_graph::ProcId;
+use cert_contents::Certificate;
+use loop_bounds::{Linear, Variable};
+use std::alloc::Global;
+use write_requests::{Placed, Requests, Turns, placed_rows, requests_of, rows_on_circles};
+
+/// A potential for each row of a procedure, in the order of the rows (docs/ANALYSIS.md, "Potentials"). `times` has the
+/// T-states of procedures by their numbers. The ROM has to have as many bytes as the certificate says.
+///
+/// # Errors
+///
+/// `Unbounded` if the rows have a cycle that passes no loop's row; `Limit` if a potential is above what a certificate
+/// can say; `NoMemory` where memory was refused.
+pub fn potentials(
+    alloc: Global,
+    rom: &Rom,
+    certificate: &Certificate,
+    proc: ProcId,
+    times: &[u32],
+    notes: &[LoopNote],
+) -> Result<Vec<Linear>, PotentialFault>
+    requires { certificate.now.rom_len ≡ length rom.now }
+{
+    let rows = certificate.rows_of(proc);
+    let first = rows.start;
+    let all = requests_of(alloc, rom, certificate, proc, times)?;
+    let counters = counters_of(alloc, certificate, rows, notes)?;
+    let named = named_of(alloc, &counters)?;
+    let apart = apart_from_loops(alloc, certificate, first, &all, &named)?;
+    let solving = solved(alloc, certificate, first, &all, &counters, &named, &apart)?;
+    let mut list = Vec::new(alloc);
+    for row in 0..all.len() {
+        list.push(solving.potential(row))?;
+    }
+    Ok(list)
+}
+
+/// Which rows have a counter.
+fn named_of(alloc: Global, counters: &[Option<Variable>]) -> Result<Vec<bool>, PotentialFault> {
+    let mut named = Vec::new(alloc);
+    for counter in counters {
+        named.push(counter.is_some())?;
+    }
+    Ok(named)
+}
+
+/// The search through the rows of a procedure without those that have a counter. A cycle of these is a fault.
+fn apart_from_loops(
+    alloc: Global,
+    certificate: &Certificate,
+    first: u32,
+    all: &[Requests],
+    named: &[bool],
+) -> Result<Vec<Placed>, PotentialFault> {
+    let apart = placed_rows(alloc, all, named)?;
+    let on_circles = rows_on_circles(alloc, all, &apart)?;
+    match on_circles.iter().position(|on_one| *on_one) {
+        None => Ok(apart),
+        Some(row) => {
+            let id = first.saturating_add(row.min(65_535) as u32);
+            let address = certificate.address(id).unwrap_or(0);
+            Err(PotentialFault::Unbounded(address))
+        }
+    }
+}
+
+/// The potentials of the rows of a procedure, group by group.
+fn solved<'a>(
+    alloc: Global,
+    certificate: &'a Certificate,
+    first: u32,
+    all: &'a [Requests],
+    counters: &[Option<Variable>],
+    named: &[bool],
+    apart: &[Placed],
+) -> Result<Solving<'a>, PotentialFault> {
+    let none = vec![in alloc; false; all.len()]?;
+    let placed = placed_rows(alloc, all, &none)?;
+    let on_circles = rows_on_circles(alloc, all, &placed)?;
+    let sorted = by_groups(alloc, &placed)?;
+    let mut turns = Turns::new(alloc, all, &placed, named)?;
+    let mut solving = Solving::new(alloc, certificate, first, all)?;
+    let mut rest = sorted.as_slice();
+    for _ in 0..sorted.len() {
+        let (rows, behind) = first_group(rest);
+        rest = behind;
+        solve(
+            alloc,
+            &mut solving,
+            &mut turns,
+            rows,
+            &on_circles,
+            counters,
+            apart,
+        )?;
+    }
+    Ok(solving)
+}
+
+/// The rows by their groups; those of a group in the order in which the search left them.
+fn by_groups(alloc: Global, placed: &[Placed]) -> Result<Vec<Placed>, PotentialFault> {
+    let mut sorted = Vec::from_slice(alloc, placed)?;
+    sorted.sort_unstable_by_key(|row| (row.group, row.left));
+    Ok(sorted)
+}
+
+/// The rows of the first group and the other rows, of rows that are sorted by their groups.
+fn first_group(sorted: &[Placed]) -> (&[Placed], &[Placed]) {
+    let Some(first) = sorted.first().copied() else {
+        return (sorted, sorted);
+    };
+    let count = sorted.partition_point(|row| row.group <= first.group);
+    sorted.split_at(count.min(sorted.len()))
+}
+
+/// Makes the potentials of a group: of a row on no cycle, or of rows on cycles.
+fn solve(
+    alloc: Global,
+    solving: &mut Solving,
+    turns: &mut Turns,
+    rows: &[Placed],
+    on_circles: &[bool],
+    counters: &[Option<Variable>],
+    apart: &[Placed],
+) -> Result<(), PotentialFault> {
+    let Some(first) = rows.first().copied() else {
+        return Ok(());
+    };
+    if on_circles.get(usize::from(first.row)).copied() == Some(true) {
+        let mut group = group_of(alloc, turns, rows, counters, apart)?;
+        return solving.solve(&mut group);
+    }
+    match solving.make(first.row, Choice::Any) {
+        Ok(()) => Ok(()),
+        Err(_) => Err(PotentialFault::Limit),
+    }
+}

@@ -1,0 +1,292 @@
+// The potentials of rows, by those of the rows that come next.
+
+use crate::fault::PotentialFault;
+use crate::least::{Choice, Payer, Unpaid, least_of_constants};
+use crate::sums::with_constant;
+use cert_contents::Certificate;
+use loop_bounds::Linear;
+use std::alloc::Global;
+use write_requests::Requests;
+
+/// The least constant of a potential.
+const LOWEST: i32 = -1_000_000_000;
+
+/// A constant above those of most potentials. With it a row pays for everything but its loop's own turns.
+const HIGH: i32 = 250_000_000;
+
+/// A loop's row, by its number within the procedure.
+#[derive(Clone, Copy)]
+pub(crate) struct Head {
+    pub(crate) row: u16,
+    /// The multiple of its counter that a turn costs.
+    pub(crate) turn: Linear,
+    /// The multiple for the longest turn of the group, which may pass other loops' rows.
+    pub(crate) longest_turn: Linear,
+    /// Whether it has own turns, which pass no other loop's row.
+    pub(crate) has_own_turns: bool,
+    /// Whether its constant is 0, because none pays.
+    pub(crate) is_zero: bool,
+}
+
+/// The rows of a group: the loops' rows, and the others, each after those others to which it links.
+#[derive(Drop)]
+pub(crate) struct Group {
+    pub(crate) heads: Vec<Head>,
+    pub(crate) others: Vec<u16>,
+}
+
+/// The rows of a procedure, with what each has to pay for and the potentials that are known.
+#[derive(Drop)]
+pub(crate) struct Solving<'a> {
+    certificate: &'a Certificate,
+    first: u32,
+    all: &'a [Requests],
+    known: Vec<Option<Linear>>,
+}
+
+impl<'a> Solving<'a> {
+    pub(crate) fn new(
+        alloc: Global,
+        certificate: &'a Certificate,
+        first: u32,
+        all: &'a [Requests],
+    ) -> Result<Solving<'a>, PotentialFault> {
+        Ok(Solving {
+            certificate,
+            first,
+            all,
+            known: vec![in alloc; None; all.len()]?,
+        })
+    }
+
+    /// The potential of a row; 0 if none is known.
+    pub(crate) fn potential(&self, row: usize) -> Linear {
+        match self.known.get(row).copied() {
+            Some(Some(potential)) => potential,
+            _ => Linear::zero(),
+        }
+    }
+
+    /// Makes the potential of a row that is no loop's row.
+    pub(crate) fn make(&mut self, row: u16, choice: Choice) -> Result<(), Unpaid> {
+        let potential = self.best_of(row, choice)?;
+        self.keep(row, potential);
+        Ok(())
+    }
+
+    /// Stores the potential of a row. The result is whether it changed.
+    fn keep(&mut self, row: u16, potential: Linear) -> bool {
+        match self.known.get_mut(usize::from(row)) {
+            Some(place) => {
+                let is_new = *place != Some(potential);
+                *place = Some(potential);
+                is_new
+            }
+            None => false,
+        }
+    }
+
+    /// The best potential of a row that is no loop's row.
+    fn best_of(&self, row: u16, choice: Choice) -> Result<Linear, Unpaid> {
+        let Some(requests) = self.all.get(usize::from(row)) else {
+            return Ok(Linear::zero());
+        };
+        if let Some(least) = least_of_constants(requests, &self.known) {
+            return constant(least);
+        }
+        match self.payer(row, requests) {
+            Some(payer) => payer.best(&self.known, choice),
+            None => Ok(Linear::zero()),
+        }
+    }
+
+    /// The potential of a loop's row, with the least constant that pays.
+    fn least_of(&self, head: &Head) -> Result<Linear, Unpaid> {
+        if head.is_zero {
+            return Ok(head.turn);
+        }
+        let Some(requests) = self.all.get(usize::from(head.row)) else {
+            return Ok(head.turn);
+        };
+        match self.payer(head.row, requests) {
+            Some(payer) => payer.least_with(&head.turn, &self.known),
+            None => Ok(head.turn),
+        }
+    }
+
+    /// The context of the search for a row's potential.
+    fn payer<'b>(&'b self, row: u16, requests: &'b Requests) -> Option<Payer<'b>> {
+        let state = self
+            .certificate
+            .state(self.first.saturating_add(u32::from(row)))?;
+        Some(Payer {
+            certificate: self.certificate,
+            first: self.first,
+            state,
+            requests,
+        })
+    }
+
+    /// Makes the potentials of a group (docs/ANALYSIS.md, "Loops"). If the rounds do not come to rest, each turn counts
+    /// as the longest. If they still do not, one loop's row after another gets the constant 0.
+    pub(crate) fn solve(&mut self, group: &mut Group) -> Result<(), PotentialFault> {
+        if self.comes_to_rest(group) {
+            return self.refine(group);
+        }
+        exchange_turns(&mut group.heads);
+        if self.comes_to_rest(group) {
+            return self.refine(group);
+        }
+        exchange_turns(&mut group.heads);
+        for _ in 0..group.heads.len() {
+            self.give_up(group);
+            if self.comes_to_rest(group) {
+                return self.refine(group);
+            }
+        }
+        Err(PotentialFault::Limit)
+    }
+
+    /// Makes the potentials of a group in rounds, from the lowest ones of the loops' rows. The result is whether the
+    /// rounds come to rest.
+    fn comes_to_rest(&mut self, group: &Group) -> bool {
+        self.begin(&group.heads);
+        match self.settle(group, Choice::WithTerms) {
+            Ok(is_settled) => is_settled,
+            Err(_) => false,
+        }
+    }
+
+    /// Gives the loops' rows their lowest potentials, or the constant 0 to those that are to have it.
+    fn begin(&mut self, heads: &[Head]) {
+        for head in heads {
+            let lowest = if head.is_zero {
+                head.turn
+            } else {
+                with_constant(&head.turn, LOWEST).unwrap_or(head.turn)
+            };
+            self.keep(head.row, lowest);
+        }
+    }
+
+    /// Makes the potentials of a group in rounds. The result is whether those of the loops' rows came to rest.
+    fn settle(&mut self, group: &Group, choice: Choice) -> Result<bool, Unpaid> {
+        for _ in 0..group.heads.len().saturating_add(2) {
+            self.make_each(&group.others, choice)?;
+            if !self.raise(&group.heads)? {
+                return Ok(true);
+            }
+        }
+        Ok(false)
+    }
+
+    /// Makes the potentials of rows that are no loops' rows.
+    fn make_each(&mut self, rows: &[u16], choice: Choice) -> Result<(), Unpaid> {
+        for row in rows {
+            self.make(*row, choice)?;
+        }
+        Ok(())
+    }
+
+    /// Makes the potentials of loops' rows. The result is whether one changed.
+    fn raise(&mut self, heads: &[Head]) -> Result<bool, Unpaid> {
+        let mut changed = false;
+        for head in heads {
+            let potential = self.least_of(head)?;
+            if self.keep(head.row, potential) {
+                changed = true;
+            }
+        }
+        Ok(changed)
+    }
+
+    /// Gives the other rows their best potentials, if the rounds come to rest with these too.
+    fn refine(&mut self, group: &Group) -> Result<(), PotentialFault> {
+        if let Ok(true) = self.settle(group, Choice::Any) {
+            return Ok(());
+        }
+        if self.comes_to_rest(group) {
+            Ok(())
+        } else {
+            Err(PotentialFault::Limit)
+        }
+    }
+
+    /// Gives the constant 0 to each loop's row that no constant lets pay for its own turns; if there is none, to one
+    /// more loop's row.
+    fn give_up(&mut self, group: &mut Group) {
+        let mut some = false;
+        for place in 0..group.heads.len() {
+            if self.owes_for_own_turns(group, place) {
+                some = true;
+                set_zero(&mut group.heads, place);
+            }
+        }
+        if !some {
+            give_first_up(&mut group.heads);
+        }
+    }
+
+    /// Whether no constant lets a loop's row pay for its own turns. That is so if a high constant does not, while other
+    /// loops' rows have the lowest.
+    fn owes_for_own_turns(&mut self, group: &Group, place: usize) -> bool {
+        let Some(head) = group.heads.get(place).copied() else {
+            return false;
+        };
+        if head.is_zero || !head.has_own_turns {
+            return false;
+        }
+        self.begin(&group.heads);
+        self.keep(
+            head.row,
+            with_constant(&head.turn, HIGH).unwrap_or(head.turn),
+        );
+        match self.make_each(&group.others, Choice::WithTerms) {
+            Ok(()) => match self.least_of(&head) {
+                Ok(least) => least.constant() > HIGH,
+                Err(_) => true,
+            },
+            Err(_) => true,
+        }
+    }
+}
+
+fn set_zero(heads: &mut [Head], place: usize) {
+    if let Some(head) = heads.get_mut(place) {
+        head.is_zero = true;
+    }
+}
+
+/// Gives the constant 0 to the first loop's row without it that has no own turns, or else to the first without it.
+fn give_first_up(heads: &mut [Head]) {
+    let outer = heads
+        .iter()
+        .position(|head| !head.is_zero && !head.has_own_turns);
+    let first = match outer {
+        Some(place) => Some(place),
+        None => heads.iter().position(|head| !head.is_zero),
+    };
+    if let Some(place) = first {
+        set_zero(heads, place);
+    }
+}
+
+/// Exchanges the own turn and the longest turn of each of these rows.
+fn exchange_turns(heads: &mut [Head]) {
+    for head in heads {
+        let turn = head.turn;
+        head.turn = head.longest_turn;
+        head.longest_turn = turn;
+    }
+}
+
+/// A constant as a linear, if a certificate has room for it.
+fn constant(least: i64) -> Result<Linear, Unpaid> {
+    let Ok(least) = i32::try_from(least) else {
+        return Err(Unpaid);
+    };
+    match Linear::of_constant(least) {
+        Some(linear) => Ok(linear),
+        None => Err(Unpaid),
+    }
+}

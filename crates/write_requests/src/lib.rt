@@ -1,0 +1,13 @@
+// What the rows of a timed procedure have to pay for, which of them lead to one another, and what turns of loops cost
+// (docs/ANALYSIS.md, "Potentials").
+#![tactic(auto)]
+
+mod circles;
+mod groups;
+mod requests;
+mod turns;
+
+pub use circles::rows_on_circles;
+pub use groups::{Placed, placed_rows};
+pub use requests::{Request, Requests, requests_of};
+pub use turns::Turns;

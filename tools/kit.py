@@ -1,0 +1,91 @@
+"""Loads the toolchain's `rt` as a module that remembers what it asks for again and again.
+
+Plain `rt` sums up the files of a crate, and lists what the crate stands on, once for each path that leads down to it: near
+the top these are tens of thousands. Here each crate is summed once a call, and listed once. The sums and lists are the same,
+so both kinds of `rt` go on from each other's work."""
+
+import importlib.machinery
+import importlib.util
+import inspect
+import os
+import sys
+import threading
+
+# What the functions are called that are used here, and what they take.
+TAKEN = {"main": ["words"], "rtlib.Crate.stamp": ["self"], "rtlib.Crate.below": ["self"]}
+
+
+class Unexpected(Exception):
+    """The toolchain's `rt` is not as this module expects it."""
+
+
+def warn(why):
+    print(f"warning: {why}: going on with plain rt, which takes longer", file=sys.stderr, flush=True)
+
+
+def plain():
+    """The path of the toolchain's `rt`: the first on PATH that is not tools/rt of this or another checkout."""
+    for folder in os.get_exec_path():
+        path = os.path.realpath(os.path.join(folder, "rt"))
+        is_ours = os.path.isfile(os.path.join(os.path.dirname(path), "kit.py"))
+        if os.path.isfile(path) and os.access(path, os.X_OK) and not is_ours:
+            return path
+    sys.exit("there is no rt on PATH")
+
+
+def load(taken=None):
+    """The toolchain's `rt` as a module, with sums and lists that are remembered. What else is used of it is `taken`."""
+    loader = importlib.machinery.SourceFileLoader("kit_rt", plain())
+    rt = importlib.util.module_from_spec(importlib.util.spec_from_loader("kit_rt", loader))
+    try:
+        loader.exec_module(rt)
+    except (Exception, SystemExit) as error:
+        raise Unexpected(f"{plain()} does not load as a module ({error})") from error
+    for name, parameters in {**TAKEN, **(taken or {})}.items():
+        check(rt, name, parameters)
+    remember_sums(rt.rtlib.Crate)
+    remember_lists(rt.rtlib.Crate)
+    return rt
+
+
+def check(rt, name, parameters):
+    found = rt
+    for part in name.split("."):
+        found = getattr(found, part, None)
+    if not callable(found):
+        raise Unexpected(f"{plain()} has no function {name}")
+    if [*inspect.signature(found).parameters] != parameters:
+        raise Unexpected(f"{name} of {plain()} takes {inspect.signature(found)}")
+
+
+def remember_sums(crate_type):
+    """Within a call from outside each crate is summed once. The next call reads the files again, as they may have changed."""
+    made, here = crate_type.stamp, threading.local()
+
+    def stamp(crate):
+        is_outer = getattr(here, "sums", None) is None
+        if is_outer:
+            here.sums = {}
+        try:
+            if crate.folder not in here.sums:
+                here.sums[crate.folder] = made(crate)
+            return here.sums[crate.folder]
+        finally:
+            if is_outer:
+                here.sums = None
+
+    crate_type.stamp = stamp
+
+
+def remember_lists(crate_type):
+    """What a crate stands on does not change while `rt` runs, once the crate has all that it names."""
+    made = crate_type.below
+
+    def below(crate):
+        number, found = getattr(crate, "listed_below", (None, None))
+        if number != len(crate.deps):
+            found = made(crate)
+            crate.listed_below = len(crate.deps), found
+        return [*found]
+
+    crate_type.below = below
