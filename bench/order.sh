@@ -1,5 +1,5 @@
 #!/usr/bin/env bash
-# Times `order` over 65,535 calls between 1,024 procedures, without a circle and with one of the last two procedures, by
+# Times `order` over 65,535 calls between 1,024 procedures, without a cycle and with one of the last two procedures, by
 # processor time. Prints milliseconds for each call of it, the least of five rounds.
 set -euo pipefail
 here=$(cd "$(dirname "$0")" && pwd)
@@ -15,4 +15,4 @@ milliseconds() {
     done | sort -n | awk -v times="$times" 'NR == 1 { printf "%.2f", $1 * 1000 / times }'
 }
 
-echo "order: $(milliseconds "$times" 0) ms without a circle, $(milliseconds 0 "$times") ms with one"
+echo "order: $(milliseconds "$times" 0) ms without a cycle, $(milliseconds 0 "$times") ms with one"

@@ -193,8 +193,8 @@ ask check loop.rom missing.toml
 judge "no annotations" 3 '' $'device error\n'
 ask check "$six.rom" "$six.cert"
 judge "a certificate as annotations" 1 $'bad annotation text\n' ''
-printf '\x31\x00\x44\xCD\x08\x00\x18\xFE\xCD\x08\x00\xC9' > circle.rom
-ask check circle.rom six.toml
+printf '\x31\x00\x44\xCD\x08\x00\x18\xFE\xCD\x08\x00\xC9' > cycle.rom
+ask check cycle.rom six.toml
 judge "a procedure that calls itself" 1 $'recursion 0008\n' ''
 ask check "$six.rom" six.toml --cert .
 judge "a folder as FILE" 3 '' $'device error\n'

@@ -15,7 +15,7 @@ use Rattle.z80_moves.specs.declared.moves.Move.{Move}
 use Rattle.z80_moves.specs.declared.moves.Move.TheVariants.{OnlyIf}
 use Rattle.z80_moves.specs.declared.moves.Test.{Test}
 use Rattle.z80_moves.specs.declared.moves.Test.TheVariants as tests
-use Rattle.abs_state.specs.Narrowing.{byte_is, word_is, condition_is}
+use Rattle.abs_state.specs.Restricting.{byte_is, word_is, condition_is}
 use Rattle.abs_state.specs.Variables.{full_slot}
 use Rattle.abs_state.specs.declared.state.AbsState.{AbsState}
 use Rattle.abs_draft.specs.AfterMove.{after_move}

@@ -47,12 +47,12 @@ fn span(bytes: &[u8]) -> ByteRange
     let Some((first, rest)) = bytes.split_first() else {
         return ByteRange::full();
     };
-    widened(ByteRange::single(*first), rest)
+    hull_with(ByteRange::single(*first), rest)
 }
 
 /// The hull of a range and some bytes.
 #[tactic(auto, unfolding(crate::specs::Ground::least_of, crate::specs::Ground::greatest_of))]
-fn widened(range: ByteRange, bytes: &[u8]) -> ByteRange
+fn hull_with(range: ByteRange, bytes: &[u8]) -> ByteRange
     ensures { result ≡ record { low = least_of range.low bytes.now; high = greatest_of range.high bytes.now } }
 {
     let mut wide = range;

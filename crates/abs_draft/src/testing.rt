@@ -15,13 +15,13 @@ use z80_decode::Register8;
 use z80_moves::{Move, Test};
 
 impl AbsDraft {
-    /// Narrows what is known to where a test held, or did not. Answers whether that is feasible; else nothing changes.
-    pub fn narrow(&mut self, test: Test, held: bool) -> bool
+    /// Restricts what is known to where a test held, or did not. Answers whether that is feasible; else nothing changes.
+    pub fn restrict(&mut self, test: Test, held: bool) -> bool
         ensures exact { MatchBool result (tested test held self.old
             ≡ Some self.new) (tested test held self.old ≡ None) }
         ensures unchanged { OnFalse result (self.new ≡ self.old) }
     {
-        narrow_state(&mut self.state, test, held)
+        restrict_state(&mut self.state, test, held)
     }
 
     /// A copy.
@@ -42,16 +42,16 @@ impl AbsDraft {
     }
 }
 
-fn narrow_state(state: &mut AbsState, test: Test, held: bool) -> bool
+fn restrict_state(state: &mut AbsState, test: Test, held: bool) -> bool
     ensures exact { MatchBool result (state_tested test held state.old
         ≡ Some state.new) (state_tested test held state.old ≡ None) }
     ensures unchanged { OnFalse result (state.new ≡ state.old) }
 {
     match test {
-        Test::Flag(condition) => state.narrow(held, condition),
-        Test::BNotZero => state.narrow_byte(!held, Register8::B, 0),
-        Test::BcNotZero => state.narrow_word(!held, RegPair::Bc, 0),
-        Test::SearchGoesOn if held => state.narrow_word(false, RegPair::Bc, 0),
+        Test::Flag(condition) => state.restrict(held, condition),
+        Test::BNotZero => state.restrict_byte(!held, Register8::B, 0),
+        Test::BcNotZero => state.restrict_word(!held, RegPair::Bc, 0),
+        Test::SearchGoesOn if held => state.restrict_word(false, RegPair::Bc, 0),
         Test::SearchGoesOn => true,
     }
 }

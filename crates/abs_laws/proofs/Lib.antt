@@ -5,7 +5,7 @@ pub mod Numbers
 pub mod Results
 pub mod Writes
 pub mod EachMove
-pub mod CalmMoves
+pub mod AccessFreeMoves
 pub mod Ranges
 pub mod Tests
 pub mod Lists

@@ -16,7 +16,7 @@ use Rattle.abs_draft.specs.Outcomes.{after_moves, before_test, behind_test, test
 use Rattle.abs_draft.specs.declared.draft.AbsDraft.{AbsDraft}
 use Rattle.abs_laws.specs.Fits.{AreInRange, Fits, ReadsFit}
 use Rattle.abs_laws.specs.Lists.{IsParted, marked}
-use Rattle.abs_laws.proofs.CalmMoves.{calm_fits}
+use Rattle.abs_laws.proofs.AccessFreeMoves.{access_free_fits}
 
 -- ---- the test of a list
 
@@ -65,19 +65,19 @@ module _ (g : GroundView) (start : AbsState) (o : Outside) (inline : Bool) (entr
   pub all_fit : (ms : List Move) (k : AbsDraft) (d : DraftView) → accesses_in ms ≡ 0 → AreInRange ms → test_of ms ≡ None → length d.writes + writes_in ms ≤ 2 → Fits g start k entry before d stack
       → Fits g start (after_moves g inline ms k) entry before (drafted o ms d) stack
   unfolding drafted after_moves test_of AreInRange
-  all_fit [] k d calm range none room f = f
-  all_fit (m ∷ ms) k d calm range none room f =
+  all_fit [] k d access_free range none room f = f
+  all_fit (m ∷ ms) k d access_free range none room f =
       let known : ReadsFit g o k.readable = subst (λ (n : ℕ). ReadsFit g o n) (sym f.readable) reads in
       let count = (counts o m d).writes in
-      let one = calm_fits g start o inline k entry before d stack known f m (omega arith) range.0 (omega arith) in
+      let one = access_free_fits g start o inline k entry before d stack known f m (omega arith) range.0 (omega arith) in
       let rest = all_fit ms (after_move g inline m k) (moved o m d) (omega arith) range.1 (second_none (test_in m) (test_of ms) none) (omega arith) one in
       subst (λ (x : DraftView). Fits g start (after_moves g inline ms (after_move g inline m k)) entry before x stack) (sym (drafted_on o m ms d (goes m (moved o m d) (first_none (test_in m) (test_of ms) none)))) rest
 
 pub list_fits : (g : GroundView) (start : AbsState) (o : Outside) (inline : Bool) (ms : List Move) (k : AbsDraft) (entry : Entry) (before : Valuation) (d : DraftView) (stack : List ℕ)
     → accesses_in ms ≡ 0 → AreInRange ms → test_of ms ≡ None → length d.writes + writes_in ms ≤ 2 → ReadsFit g o k.readable → Fits g start k entry before d stack
     → Fits g start (after_moves g inline ms k) entry before (drafted o ms d) stack
-list_fits g start o inline ms k entry before d stack calm range none room reads f =
-    all_fit g start o inline entry before stack (subst (λ (n : ℕ). ReadsFit g o n) f.readable reads) ms k d calm range none room f
+list_fits g start o inline ms k entry before d stack access_free range none room reads f =
+    all_fit g start o inline entry before stack (subst (λ (n : ℕ). ReadsFit g o n) f.readable reads) ms k d access_free range none room f
 
 -- ---- the parts of a list
 

@@ -17,7 +17,7 @@ use Rattle.z80_moves.specs.declared.moves.Test.TheVariants as tests
 use Rattle.z80_moves.specs.declared.registers.WordRegister.TheVariants as words
 use Rattle.abs_state.specs.CutLaws.{byte_known, word_known, condition_known}
 use Rattle.abs_state.specs.Holds.{Holds}
-use Rattle.abs_state.specs.Narrowing.{Cut, to_range, to_all_but, with_cut_pair, cut_byte, byte_is, word_is, a_is_below, zero_is, carry_is, condition_is}
+use Rattle.abs_state.specs.Restricting.{Cut, to_range, to_all_but, with_cut_pair, cut_byte, byte_is, word_is, a_is_below, zero_is, carry_is, condition_is}
 use Rattle.abs_state.specs.declared.fact.FlagFact.{FlagFact}
 use Rattle.abs_state.specs.declared.fact.FlagFact.TheVariants.{Zero, Compared}
 use Rattle.abs_state.specs.declared.state.AbsState.{AbsState}

@@ -90,14 +90,14 @@ moves_write o (m ∷ ms) d e =
 module _ (g : GroundView) (start : AbsState) (o : Outside) (inline : Bool) (ms : List Move) (k : AbsDraft) (entry : Entry) (before : Valuation) (d : DraftView) (stack : List ℕ) (may : MayRun g o k d ms) (f : Fits g start k entry before d stack) where
   -- at the test, or at the end without one
   pub test_met : accesses_in (before_test ms) ≡ 0 → Fits g start (after_moves g inline (before_test ms) k) entry before (drafted o (before_test ms) d) stack
-  test_met calm =
+  test_met access_free =
       let parts = parts_of_list ms in
       let room = may.room in
       let count : writes_in (before_test ms) + writes_in (behind_test ms) ≡ writes_in ms = parts.writes in
-      list_fits g start o inline (before_test ms) k entry before d stack calm (parts.in_range may.in_range).0 parts.before_has_none (omega arith) may.reads f
+      list_fits g start o inline (before_test ms) k entry before d stack access_free (parts.in_range may.in_range).0 parts.before_has_none (omega arith) may.reads f
 
   pub goes_straight : accesses_in ms ≡ 0 → test_of ms ≡ None → Fits g start (after_moves g inline (before_test ms) k) entry before (drafted o ms d) stack
-  goes_straight calm none =
+  goes_straight access_free none =
       let parts = parts_of_list ms in
       let count : accesses_in (before_test ms) + accesses_in (behind_test ms) ≡ accesses_in ms = parts.accesses in
       rw (without_test o ms d none) (test_met (omega arith))
@@ -106,8 +106,8 @@ module _ (g : GroundView) (start : AbsState) (o : Outside) (inline : Bool) (ms :
     told : (b : Bool) → (drafted o ms d).taken ≡ b → test_holds test (drafted o (before_test ms) d) ≡ b
     told b h = sym (taken_is o ms test d e may.once) ∙ h
 
-    narrowed : accesses_in (before_test ms) ≡ 0 → (b : Bool) → (drafted o ms d).taken ≡ b → IsSomeAnd (tested test b (after_moves g inline (before_test ms) k)) (λ n. Fits g start n entry before (marked test (drafted o (before_test ms) d)) stack)
-    narrowed calm b h = test_fits_taken g start test b (test_holds test (drafted o (before_test ms) d)) (after_moves g inline (before_test ms) k) entry before (drafted o (before_test ms) d) stack (told b h) (test_met calm)
+    restricted : accesses_in (before_test ms) ≡ 0 → (b : Bool) → (drafted o ms d).taken ≡ b → IsSomeAnd (tested test b (after_moves g inline (before_test ms) k)) (λ n. Fits g start n entry before (marked test (drafted o (before_test ms) d)) stack)
+    restricted access_free b h = test_fits_taken g start test b (test_holds test (drafted o (before_test ms) d)) (after_moves g inline (before_test ms) k) entry before (drafted o (before_test ms) d) stack (told b h) (test_met access_free)
 
     ends_so : (b : Bool) → (drafted o ms d).taken ≡ b → drafted o ms d ≡ cond b (drafted o (behind_test ms) (marked test (drafted o (before_test ms) d))) (marked test (drafted o (before_test ms) d))
     ends_so b h =
@@ -116,22 +116,22 @@ module _ (g : GroundView) (start : AbsState) (o : Outside) (inline : Bool) (ms :
 
     -- the test did not hold
     pub goes_left : accesses_in (before_test ms) ≡ 0 → (drafted o ms d).taken ≡ false → IsSomeAnd (tested test false (after_moves g inline (before_test ms) k)) (λ n. Fits g start n entry before (drafted o ms d) stack)
-    goes_left calm h =
-        subst (λ (x : DraftView). IsSomeAnd (tested test false (after_moves g inline (before_test ms) k)) (λ n. Fits g start n entry before x stack)) (sym (ends_so false h)) (narrowed calm false h)
+    goes_left access_free h =
+        subst (λ (x : DraftView). IsSomeAnd (tested test false (after_moves g inline (before_test ms) k)) (λ n. Fits g start n entry before x stack)) (sym (ends_so false h)) (restricted access_free false h)
 
     -- the test held, before the moves after it
     pub goes_held : accesses_in (before_test ms) ≡ 0 → (drafted o ms d).taken ≡ true
         → IsSomeAnd (tested test true (after_moves g inline (before_test ms) k)) (λ n. Fits g start n entry before (marked test (drafted o (before_test ms) d)) stack × KeepsEffectAndShape (after_moves g inline (before_test ms) k) n)
         × (drafted o ms d ≡ drafted o (behind_test ms) (marked test (drafted o (before_test ms) d)))
-    goes_held calm h = (
+    goes_held access_free h = (
       both_some (tested test true (after_moves g inline (before_test ms) k)) (λ n. Fits g start n entry before (marked test (drafted o (before_test ms) d)) stack) (KeepsEffectAndShape (after_moves g inline (before_test ms) k))
-          (narrowed calm true h) (test_tells_the_same test true (after_moves g inline (before_test ms) k)),
+          (restricted access_free true h) (test_tells_the_same test true (after_moves g inline (before_test ms) k)),
       ends_so true h,
     )
 
     -- the test held, after those moves
     pub goes_taken : accesses_in ms ≡ 0 → (drafted o ms d).taken ≡ true → IsSomeAnd (tested test true (after_moves g inline (before_test ms) k)) (λ n. Fits g start (after_moves g inline (behind_test ms) n) entry before (drafted o ms d) stack)
-    goes_taken calm h =
+    goes_taken access_free h =
         let parts = parts_of_list ms in
         let at = drafted o (before_test ms) d in
         let accesses : accesses_in (before_test ms) + accesses_in (behind_test ms) ≡ accesses_in ms = parts.accesses in
@@ -142,4 +142,4 @@ module _ (g : GroundView) (start : AbsState) (o : Outside) (inline : Bool) (ms :
         subst (λ (x : DraftView). IsSomeAnd (tested test true (after_moves g inline (before_test ms) k)) (λ n. Fits g start (after_moves g inline (behind_test ms) n) entry before x stack)) (sym (ends_so true h))
         (each_some (tested test true (after_moves g inline (before_test ms) k)) (λ n. Fits g start n entry before (marked test at) stack) (λ n. Fits g start (after_moves g inline (behind_test ms) n) entry before (drafted o (behind_test ms) (marked test at)) stack)
         (λ n fits. list_fits g start o inline (behind_test ms) n entry before (marked test at) stack (omega arith) (parts.in_range may.in_range).1 may.once (omega arith) (subst (λ (m : ℕ). ReadsFit g o m) (sym fits.readable) reads) fits)
-        (narrowed (omega arith) true h))
+        (restricted (omega arith) true h))

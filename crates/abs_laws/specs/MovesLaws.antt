@@ -20,8 +20,8 @@ abbrev pub ConstantsAreInRange : Type 0
 ConstantsAreInRange =
     (rom : List ℕ) (at : ℕ) (instr : Instr) → AreBytes rom → StandsAt rom at (Ok instr) → AreInRange (moves_of instr)
 
-abbrev pub CalmMovesFit : Type 0
-CalmMovesFit =
+abbrev pub AccessFreeMovesFit : Type 0
+AccessFreeMovesFit =
     (g : GroundView) (start : AbsState) (o : Outside) (inline : Bool) (move : Move) (k : AbsDraft) (entry : Entry) (before : Valuation) (draft : DraftView) (words : List ℕ)
     → accesses_by move ≡ 0 → IsInRange move → length draft.writes + writes_by move ≤ 2 → ReadsFit g o k.readable
     → Fits g start k entry before draft words

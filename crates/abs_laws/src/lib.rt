@@ -12,7 +12,7 @@ mod stack;
 pub use data_writes::{
     cells_hold_after_writes, clear_enables_stay, modes_hold_after_writes, writes_are_as_known,
 };
-pub use moves::{calm_moves_fit, constants_are_in_range};
+pub use moves::{access_free_moves_fit, constants_are_in_range};
 pub use outcomes::{
     instructions_are_short, lists_fit, lists_go_by_their_test, settled_effects_follow, tests_fit,
     ways_fit,

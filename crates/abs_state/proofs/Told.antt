@@ -8,7 +8,7 @@ use Rattle.intervals.specs.declared.reg_pair.RegPair.TheVariants.{Af, Bc, De, Hl
 use Rattle.z80_decode.specs.declared.operands.Register8.{Register8}
 use Rattle.z80_decode.specs.declared.operands.Register8.TheVariants.{A, B, C, D, E, H, L}
 use Rattle.loop_bounds.proofs.TightenLemmas.{kept_some, kept_none}
-use Rattle.abs_state.specs.Narrowing.{to_range, with_cut_pair, cut_byte}
+use Rattle.abs_state.specs.Restricting.{to_range, with_cut_pair, cut_byte}
 use Rattle.abs_state.specs.Registers.{byte_of}
 use Rattle.abs_state.specs.declared.state.AbsState.{AbsState}
 

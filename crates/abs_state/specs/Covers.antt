@@ -1,11 +1,11 @@
--- Covering, meeting and joins of abstract states (docs/CHECKER.md, "Covering").
+-- Covering, overlapping and joins of abstract states (docs/CHECKER.md, "Covering").
 use Rattle.std.specs.List.{AllZip}
 use Rattle.std.specs.Prelude.{◌≤◌, ◌≡◌, ◌==◌, min, true, if◌then◌else◌, length, Option, None, option_map}
-use Rattle.stack_shape.specs.Shape.{CoversShape, MeetsShape, hull_of_shapes}
+use Rattle.stack_shape.specs.Shape.{CoversShape, OverlapsShape, hull_of_shapes}
 use Rattle.stack_shape.specs.declared.slot.Slot.{Slot}
 use Rattle.abs_state.specs.Fact.{covers_fact, hull_of_facts}
 use Rattle.abs_state.specs.Mode.{covers_mode, hull_of_modes}
-use Rattle.abs_state.specs.Pairs.{CoversPairs, KeepsPair, KeepsPairs, MeetsPairs, join_of_pairs}
+use Rattle.abs_state.specs.Pairs.{CoversPairs, KeepsPair, KeepsPairs, OverlapsPairs, join_of_pairs}
 use Rattle.abs_state.specs.declared.mode.Mode.{Mode}
 use Rattle.abs_state.specs.declared.state.AbsState.{AbsState}
 
@@ -28,10 +28,10 @@ pub record KeepsState (a b : AbsState) : Type 0 where
   pub flag : covers_fact a.flag b.flag ≡ true
   pub shape : AllZip KeepsSlot a.shape b.shape
 
--- All pairs and slots meet. Mode, cells and flag fact are not compared.
-pub record MeetsState (a b : AbsState) : Type 0 where
-  pub pairs : MeetsPairs a.pairs b.pairs
-  pub shape : MeetsShape a.shape b.shape
+-- All pairs and slots overlap. Mode, cells and flag fact are not compared.
+pub record OverlapsState (a b : AbsState) : Type 0 where
+  pub pairs : OverlapsPairs a.pairs b.pairs
+  pub shape : OverlapsShape a.shape b.shape
 
 -- the join of two states in a mode that covers both
 abbrev pub hull_in : AbsState → AbsState → Mode → AbsState

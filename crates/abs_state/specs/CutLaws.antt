@@ -26,7 +26,7 @@ use Rattle.z80_draft.specs.Arithmetic.{holds}
 use Rattle.z80_draft.specs.Registers.{IsRegs}
 use Rattle.abs_state.specs.Fact.{byte_in, HoldsFact}
 use Rattle.abs_state.specs.Holds.{Holds}
-use Rattle.abs_state.specs.Narrowing.{Cut, to_range, to_all_but, with_cut_pair, cut_byte, cut_word, byte_is, word_is, a_is_below, zero_is, carry_is, condition_is}
+use Rattle.abs_state.specs.Restricting.{Cut, to_range, to_all_but, with_cut_pair, cut_byte, cut_word, byte_is, word_is, a_is_below, zero_is, carry_is, condition_is}
 use Rattle.abs_state.specs.Pairs.{pair_of, word_in}
 use Rattle.abs_state.specs.Registers.{byte_of}
 use Rattle.abs_state.specs.Seen.{Seen}

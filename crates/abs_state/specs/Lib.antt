@@ -7,7 +7,7 @@ pub mod Entries
 pub mod Fact
 pub mod Holds
 pub mod Mode
-pub mod Narrowing
+pub mod Restricting
 pub mod Pairs
 pub mod Registers
 pub mod Seen

@@ -3,7 +3,7 @@ use Rattle.std.specs.Prelude.{ℕ, ◌≡◌, Some, IfSome}
 use Rattle.z80_alu.specs.Word.{word_of}
 use Rattle.z80_alu.specs.declared.regs.Regs.{Regs}
 use Rattle.intervals.specs.Domain.{Entry}
-use Rattle.intervals.specs.Pair.{HoldsPair, CoversPair, MeetsPair, full_pair, hull_of_pairs as hull_of_two}
+use Rattle.intervals.specs.Pair.{HoldsPair, CoversPair, OverlapsPair, full_pair, hull_of_pairs as hull_of_two}
 use Rattle.intervals.specs.declared.pair.Pair.{Pair}
 use Rattle.intervals.specs.declared.reg_pair.RegPair.{RegPair}
 use Rattle.intervals.specs.declared.reg_pair.RegPair.TheVariants.{Af, Bc, De, Hl, Ix, Iy, AlternateAf, AlternateBc, AlternateDe, AlternateHl}
@@ -98,18 +98,18 @@ pub record KeepsPairs (p q : Pairs) : Type 0 where
   pub alternate_de : KeepsPair p.alternate_de q.alternate_de
   pub alternate_hl : KeepsPair p.alternate_hl q.alternate_hl
 
--- each pair meets the other's
-pub record MeetsPairs (p q : Pairs) : Type 0 where
-  pub af : MeetsPair p.af q.af
-  pub bc : MeetsPair p.bc q.bc
-  pub de : MeetsPair p.de q.de
-  pub hl : MeetsPair p.hl q.hl
-  pub ix : MeetsPair p.ix q.ix
-  pub iy : MeetsPair p.iy q.iy
-  pub alternate_af : MeetsPair p.alternate_af q.alternate_af
-  pub alternate_bc : MeetsPair p.alternate_bc q.alternate_bc
-  pub alternate_de : MeetsPair p.alternate_de q.alternate_de
-  pub alternate_hl : MeetsPair p.alternate_hl q.alternate_hl
+-- each pair overlaps the other's
+pub record OverlapsPairs (p q : Pairs) : Type 0 where
+  pub af : OverlapsPair p.af q.af
+  pub bc : OverlapsPair p.bc q.bc
+  pub de : OverlapsPair p.de q.de
+  pub hl : OverlapsPair p.hl q.hl
+  pub ix : OverlapsPair p.ix q.ix
+  pub iy : OverlapsPair p.iy q.iy
+  pub alternate_af : OverlapsPair p.alternate_af q.alternate_af
+  pub alternate_bc : OverlapsPair p.alternate_bc q.alternate_bc
+  pub alternate_de : OverlapsPair p.alternate_de q.alternate_de
+  pub alternate_hl : OverlapsPair p.alternate_hl q.alternate_hl
 
 -- the joins, pair by pair
 abbrev pub join_of_pairs : Pairs → Pairs → Pairs

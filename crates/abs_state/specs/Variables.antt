@@ -15,7 +15,7 @@ use Rattle.z80_decode.specs.declared.operands.Register8.TheVariants as registers
 use Rattle.z80_draft.specs.Registers.{IsRegs}
 use Rattle.abs_state.specs.Fact.{byte_in}
 use Rattle.abs_state.specs.Holds.{Holds}
-use Rattle.abs_state.specs.Narrowing.{to_range, cut_byte, cut_word}
+use Rattle.abs_state.specs.Restricting.{to_range, cut_byte, cut_word}
 use Rattle.abs_state.specs.Pairs.{word_in}
 use Rattle.abs_state.specs.Registers.{byte_of}
 use Rattle.abs_state.specs.Seen.{Seen}

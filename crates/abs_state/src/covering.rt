@@ -1,8 +1,8 @@
-// Covering, meeting and joins of states.
+// Covering, overlapping and joins of states.
 ghost use Rattle.std.specs.Prelude.{◌≡◌, ◌↔◌, ◌⊎◌, IsTrue, IfSome, List};
 ghost use Rattle.intervals.specs.Domain.{Entry};
 ghost use Rattle.std.specs.List.{AllZip};
-ghost use Rattle.abs_state.specs.Covers.{CoversState, KeepsSlot, KeepsState, MeetsState, hull_of_states};
+ghost use Rattle.abs_state.specs.Covers.{CoversState, KeepsSlot, KeepsState, OverlapsState, hull_of_states};
 ghost use Rattle.abs_state.specs.Holds.{Holds};
 ghost use Rattle.abs_state.specs.Seen.{Seen};
 ghost use Rattle.abs_state.specs.declared.cell.KeptCell.{KeptCell};
@@ -49,11 +49,11 @@ impl AbsState {
             && keeps_slots(self.shape.slots(), other.shape.slots())
     }
 
-    /// Whether the shapes have one length and all pairs and slots meet: their ranges share a value each.
-    pub fn meets(&self, other: &AbsState) -> bool
-        ensures { IsTrue result ↔ MeetsState self.now other.now }
+    /// Whether the shapes have one length and all pairs and slots overlap: their ranges share a value each.
+    pub fn overlaps(&self, other: &AbsState) -> bool
+        ensures { IsTrue result ↔ OverlapsState self.now other.now }
     {
-        self.pairs.meets(&other.pairs) && self.shape.meets(&other.shape)
+        self.pairs.overlaps(&other.pairs) && self.shape.overlaps(&other.shape)
     }
 
     /// The join: the mode that covers both, the smaller number of armed cells, and the hull of each range. None if the

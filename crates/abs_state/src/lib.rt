@@ -8,7 +8,7 @@ mod entries;
 mod exchanges;
 mod fact;
 mod mode;
-mod narrowing;
+mod restricting;
 mod pairs;
 mod registers;
 mod stack;

@@ -1,6 +1,6 @@
 // The ten register pairs of a state.
 ghost use Rattle.std.specs.Prelude.{◌≡◌, ◌↔◌, IsTrue, Some};
-ghost use Rattle.abs_state.specs.Pairs.{pair_of, with_pair, full_pairs, own_pairs, CoversMainSet, CoversAlternate, CoversPairs, KeepsPair, KeepsPairs, MeetsPairs, join_of_pairs};
+ghost use Rattle.abs_state.specs.Pairs.{pair_of, with_pair, full_pairs, own_pairs, CoversMainSet, CoversAlternate, CoversPairs, KeepsPair, KeepsPairs, OverlapsPairs, join_of_pairs};
 
 use intervals::{Domain, Pair, RegPair};
 
@@ -135,20 +135,20 @@ impl Pairs {
             && keeps_pair(self.alternate_hl, other.alternate_hl)
     }
 
-    /// Whether each pair meets the other's: their ranges share a value each.
-    pub fn meets(&self, other: &Pairs) -> bool
-        ensures { IsTrue result ↔ MeetsPairs self.now other.now }
+    /// Whether each pair overlaps the other's: their ranges share a value each.
+    pub fn overlaps(&self, other: &Pairs) -> bool
+        ensures { IsTrue result ↔ OverlapsPairs self.now other.now }
     {
-        self.af.meets(other.af)
-            && self.bc.meets(other.bc)
-            && self.de.meets(other.de)
-            && self.hl.meets(other.hl)
-            && self.ix.meets(other.ix)
-            && self.iy.meets(other.iy)
-            && self.alternate_af.meets(other.alternate_af)
-            && self.alternate_bc.meets(other.alternate_bc)
-            && self.alternate_de.meets(other.alternate_de)
-            && self.alternate_hl.meets(other.alternate_hl)
+        self.af.overlaps(other.af)
+            && self.bc.overlaps(other.bc)
+            && self.de.overlaps(other.de)
+            && self.hl.overlaps(other.hl)
+            && self.ix.overlaps(other.ix)
+            && self.iy.overlaps(other.iy)
+            && self.alternate_af.overlaps(other.alternate_af)
+            && self.alternate_bc.overlaps(other.alternate_bc)
+            && self.alternate_de.overlaps(other.alternate_de)
+            && self.alternate_hl.overlaps(other.alternate_hl)
     }
 
     /// The join of each pair with the other's.

@@ -8,7 +8,7 @@ ghost use Rattle.loop_bounds.specs.Tighten.{tightened, after_last_cut};
 ghost use Rattle.z80_draft.specs.Registers.{IsRegs};
 ghost use Rattle.intervals.specs.Range.{intersection};
 ghost use Rattle.abs_state.specs.Holds.{Holds};
-ghost use Rattle.abs_state.specs.Narrowing.{cut_byte, to_range};
+ghost use Rattle.abs_state.specs.Restricting.{cut_byte, to_range};
 ghost use Rattle.abs_state.specs.Seen.{Seen};
 ghost use Rattle.abs_state.specs.Variables.{range_of, part_range, cut_to, cut_part, cut_slot, full_slot, value_in, HoldsValues};
 ghost use Rattle.abs_state.specs.declared.cell.KeptCell.{KeptCell};
@@ -20,7 +20,7 @@ use stack_shape::Slot;
 use z80_decode::Register8;
 
 /// A byte range as a word range.
-fn widened(range: ByteRange) -> WordRange
+fn as_words(range: ByteRange) -> WordRange
     ensures { result ≡ range }
 {
     WordRange::new(u16::from(range.low()), u16::from(range.high())).unwrap_or(WordRange::full())
@@ -44,8 +44,8 @@ fn part_range(pair: Pair, part: Part) -> WordRange
 {
     match part {
         Part::Word => pair.word,
-        Part::High => widened(pair.high),
-        Part::Low => widened(pair.low),
+        Part::High => as_words(pair.high),
+        Part::Low => as_words(pair.low),
     }
 }
 
@@ -120,13 +120,13 @@ impl Ranges for AbsState {
 
     fn range(&self, variable: Variable) -> WordRange {
         match variable {
-            Variable::A => widened(self.byte(Register8::A)),
-            Variable::B => widened(self.byte(Register8::B)),
-            Variable::C => widened(self.byte(Register8::C)),
-            Variable::D => widened(self.byte(Register8::D)),
-            Variable::E => widened(self.byte(Register8::E)),
-            Variable::H => widened(self.byte(Register8::H)),
-            Variable::L => widened(self.byte(Register8::L)),
+            Variable::A => as_words(self.byte(Register8::A)),
+            Variable::B => as_words(self.byte(Register8::B)),
+            Variable::C => as_words(self.byte(Register8::C)),
+            Variable::D => as_words(self.byte(Register8::D)),
+            Variable::E => as_words(self.byte(Register8::E)),
+            Variable::H => as_words(self.byte(Register8::H)),
+            Variable::L => as_words(self.byte(Register8::L)),
             Variable::Bc => self.pairs.bc.word,
             Variable::De => self.pairs.de.word,
             Variable::Hl => self.pairs.hl.word,

@@ -41,7 +41,7 @@ use Rattle.abs_draft.specs.AfterMove.{after_move}
 use Rattle.abs_draft.specs.Outcomes.{after_moves, before_test, behind_test, known_before, test_of, tested}
 use Rattle.abs_draft.specs.declared.draft.AbsDraft.{AbsDraft}
 use Rattle.abs_laws.specs.Fits.{Fits, ReadsFit}
-use Rattle.abs_laws.proofs.CalmMoves.{calm_fits}
+use Rattle.abs_laws.proofs.AccessFreeMoves.{access_free_fits}
 use Rattle.abs_laws.proofs.StackMoves.{call_fits, exchange_fits, pop_fits, push_fits}
 use Rattle.abs_step.specs.Successors.{is_empty, next_of, way_on, ways_on, writes_of}
 use Rattle.abs_step.specs.declared.next.Next.{Next}
@@ -165,7 +165,7 @@ module _ (g : GroundView) (a : AbsState) (o : Outside) (k : AbsDraft) (entry : E
   -- not inline: the words stay
   pub called_fits : Fits g a (after_moves g false (call_moves nn) k) entry before (drafted o (call_moves nn) d) stack
   unfolding after_moves after_move drafted moved
-  called_fits = calm_fits g a o false (after_move g false (moves.Push registers.Pc) k) entry before (moved o (moves.Push registers.Pc) d) stack reads (call_fits g a o k entry before d stack f) (moves.SetWord registers.Pc nn) refl small (omega (arith, room))
+  called_fits = access_free_fits g a o false (after_move g false (moves.Push registers.Pc) k) entry before (moved o (moves.Push registers.Pc) d) stack reads (call_fits g a o k entry before d stack f) (moves.SetWord registers.Pc nn) refl small (omega (arith, room))
 
   -- Inline: the return address is a word of the activation
   pub inlined_fits : k.effect.slot ≡ None → length k.state.shape < 64 → Fits g a (after_moves g true (call_moves nn) k) entry before (drafted o (call_moves nn) d) (stack ++ d.regs.pc ∷ [])
@@ -173,7 +173,7 @@ module _ (g : GroundView) (a : AbsState) (o : Outside) (k : AbsDraft) (entry : E
   inlined_fits none fits =
       let pushed = push_fits g a o k entry before d true stack registers.Pc (λ e. refl) none fits f in
       let same : k.readable ≡ (after_move g true (moves.Push registers.Pc) k).readable = f.readable ∙ sym pushed.readable in
-      calm_fits g a o true (after_move g true (moves.Push registers.Pc) k) entry before (moved o (moves.Push registers.Pc) d) (stack ++ d.regs.pc ∷ []) (subst (ReadsFit g o) same reads) pushed (moves.SetWord registers.Pc nn) refl small (still_few o d room)
+      access_free_fits g a o true (after_move g true (moves.Push registers.Pc) k) entry before (moved o (moves.Push registers.Pc) d) (stack ++ d.regs.pc ∷ []) (subst (ReadsFit g o) same reads) pushed (moves.SetWord registers.Pc nn) refl small (still_few o d room)
 
 -- where the outcome of a test is feasible
 both : (o : Option AbsDraft) (P Q : AbsDraft → Type 0) → IsSomeAnd o (λ n. P n × Q n) → Some_of o (λ n. P n × Q n)

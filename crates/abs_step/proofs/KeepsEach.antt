@@ -36,7 +36,7 @@ use Rattle.abs_draft.specs.Outcomes.{after_moves, before_test, known_before, tes
 use Rattle.abs_draft.specs.declared.draft.AbsDraft.{AbsDraft}
 use Rattle.abs_laws.specs.Fits.{AreInRange, Fits, ReadsFit}
 use Rattle.abs_laws.specs.Lists.{marked}
-use Rattle.abs_laws.proofs.CalmMoves.{calm_fits}
+use Rattle.abs_laws.proofs.AccessFreeMoves.{access_free_fits}
 use Rattle.abs_laws.proofs.KnownWrites.{known_miss}
 use Rattle.abs_laws.proofs.Reading.{word_is_read}
 use Rattle.abs_laws.proofs.StackMoves.{pop_fits, return_fits}
@@ -268,7 +268,7 @@ module _ (g : GroundView) (address : ℕ) (main : Bool) (a : AbsState) (region :
   unfolding after_move moved
   restored inline k d after none reads f =
       let few : length d.writes ≡ 0 = ap length none in
-      calm_fits g a (outside_of (here g s env)) inline (after_move g inline (moves.Pop registers.Pc) k) running.entry (value_in (seen_of g.cells running.words s)) (moved (outside_of (here g s env)) (moves.Pop registers.Pc) d) after reads f moves.RestoreIff1 refl tt (omega (arith, few))
+      access_free_fits g a (outside_of (here g s env)) inline (after_move g inline (moves.Pop registers.Pc) k) running.entry (value_in (seen_of g.cells running.words s)) (moved (outside_of (here g s env)) (moves.Pop registers.Pc) d) after reads f moves.RestoreIff1 refl tt (omega (arith, few))
 
   pub from_non_maskable_is : (inline : Bool) → Scene_of inline instrs.ReturnFromNonMaskable → Returns inline instrs.ReturnFromNonMaskable
   unfolding drafted moved

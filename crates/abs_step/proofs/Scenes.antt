@@ -22,7 +22,7 @@ use Rattle.board_step.specs.Trap.{is_rom, is_unmapped, some_outside, some_write,
 use Rattle.board_step.specs.declared.env.Env.{Env}
 use Rattle.board_step.specs.declared.profile.Trap.{Trap}
 use Rattle.board_step.specs.declared.profile.Trap.TheVariants.{IoSpace}
-use Rattle.board_laws.proofs.CalmMoves.{moves_keep_accesses}
+use Rattle.board_laws.proofs.StacklessMoves.{moves_keep_accesses}
 use Rattle.board_laws.proofs.Traps.{no_trap}
 use Rattle.abs_state.specs.Mode.{is_unset}
 use Rattle.abs_state.specs.declared.state.AbsState.{AbsState}

@@ -127,7 +127,7 @@ pub record Went (cells : List KeptCell) (region : Region) (running : Running) (c
   pub laid : Lies c.hardware.map region running n.state words new
   pub through : Through n (seen_of cells running.words c.state) (seen_of cells words new)
 
--- The callee begins, with its return address on top of the words. The caller's state, narrowed by the condition, holds.
+-- The callee begins, with its return address on top of the words. The caller's state, restricted by the condition, holds.
 pub record Called (cells : List KeptCell) (region : Region) (running : Running) (instr : Instr) (c : ContextView) (n : Next) (new : BoardView) : Type 0 where
   pub set : n.state.mode ≢ Unset
   pub pc : new.regs.pc ≡ n.address

@@ -87,12 +87,12 @@ fn ways_on(
         }
         Some(tested) => {
             let mut left = known.copied();
-            if known.narrow(tested.test, true) {
+            if known.restrict(tested.test, true) {
                 known.make_all(ground, inline, tested.behind);
                 finish(&mut known, main, instr);
                 nexts.push_reserved(next_from(known, instr, true, kind));
             }
-            if left.narrow(tested.test, false) {
+            if left.restrict(tested.test, false) {
                 finish(&mut left, main, instr);
                 nexts.push_reserved(next_from(left, instr, false, NextKind::Jump));
             }

@@ -1,4 +1,4 @@
-// What conditions, DJNZ and LDIR narrow, taken and not taken.
+// What conditions, DJNZ and LDIR restrict, taken and not taken.
 use crate::setting::{bytes, jumps, of_high, pair, set_up, stepped, words};
 use abs_state::FlagFact;
 use abs_step::Nexts;
@@ -53,7 +53,7 @@ const AFTER_CP: &[Compared] = &[
     (SAME, 0x10, JR_NZ, None, Some(SAME)),
 ];
 
-fn is_narrowed(alloc: Global, &(a, with, code, met, not): &Compared) -> bool {
+fn is_restricted(alloc: Global, &(a, with, code, met, not): &Compared) -> bool {
     let mut state = set_up();
     state.pairs.af = of_high(a.0, a.1);
     state.flag = Some(FlagFact::Compared(with));
@@ -66,7 +66,7 @@ fn is_narrowed(alloc: Global, &(a, with, code, met, not): &Compared) -> bool {
 #[test]
 fn conditions_cut_a(rt: HostRuntime) {
     for (place, row) in AFTER_CP.iter().enumerate() {
-        assert!(rt; is_narrowed(rt.alloc(), row), "row {place}");
+        assert!(rt; is_restricted(rt.alloc(), row), "row {place}");
     }
 }
 

@@ -47,8 +47,8 @@ some_iff P t m range h high to from = (
 pub some_rom : (m : MapView) (range : RangeView) → IsMap m → range.high < 0x10000 → (list_any (rom_in range) m.zones ≡ true) ↔ SomeWrite m range writes.Rom
 some_rom m range h high = some_iff (λ c a. c.write ≡ writes.Rom) (rom_in range) m range h high
     (λ z e. let p = and_parts _ _ e in
-    let meet = leb-true _ _ p.1 in
-    (low_in range z, omega arith, meet, rom-class z.write _ p.0))
+    let overlap = leb-true _ _ p.1 in
+    (low_in range z, omega arith, overlap, rom-class z.write _ p.0))
     (λ z f. let lo : low_in range z ≤ f.0 = f.1 in
     let hi : f.0 ≤ high_in range z = f.2 in
     and_from _ _ (class-rom z.write f.0 f.3) (le-leb _ _ (omega arith)))
@@ -56,8 +56,8 @@ some_rom m range h high = some_iff (λ c a. c.write ≡ writes.Rom) (rom_in rang
 pub some_unmapped : (m : MapView) (range : RangeView) → IsMap m → range.high < 0x10000 → (list_any (unmapped_in range) m.zones ≡ true) ↔ SomeWrite m range writes.Unmapped
 some_unmapped m range h high = some_iff (λ c a. c.write ≡ writes.Unmapped) (unmapped_in range) m range h high
     (λ z e. let p = and_parts _ _ e in
-    let meet = leb-true _ _ p.1 in
-    (low_in range z, omega arith, meet, open-class z.write _ p.0))
+    let overlap = leb-true _ _ p.1 in
+    (low_in range z, omega arith, overlap, open-class z.write _ p.0))
     (λ z f. let lo : low_in range z ≤ f.0 = f.1 in
     let hi : f.0 ≤ high_in range z = f.2 in
     and_from _ _ (class-open z.write f.0 f.3) (le-leb _ _ (omega arith)))
@@ -71,7 +71,7 @@ enable_below low a high l h one = omega arith
 pub some_enable : (m : MapView) (range : RangeView) → IsMap m → range.high < 0x10000 → (list_any (enable_in range) m.zones ≡ true) ↔ SomeWrite m range writes.NmiEnable
 some_enable m range h high = some_iff (λ c a. c.write ≡ writes.NmiEnable) (enable_in range) m range h high
     (λ z e. let p = and_parts _ _ e in
-    let meet = leb-true _ _ p.1 in
+    let overlap = leb-true _ _ p.1 in
     let one = one_of_eight (high_in range z) (omega arith) in
     (high_in range z - (high_in range z + 7) % 8, omega arith, omega arith, enable-class z.write _ p.0 (eq-eqb _ _ one)))
     (λ z f. let lo : low_in range z ≤ f.0 = f.1 in

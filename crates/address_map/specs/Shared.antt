@@ -13,8 +13,8 @@ low_in range z = max z.first range.low
 abbrev pub high_in : RangeView → Zone → ℕ
 high_in range z = min z.last range.high
 
-abbrev pub meets : RangeView → Zone → Bool
-meets range z = nat_le (low_in range z) (high_in range z)
+abbrev pub overlaps : RangeView → Zone → Bool
+overlaps range z = nat_le (low_in range z) (high_in range z)
 
 -- some number from `low` to `high` is congruent, modulo 400h, to one from `from` to `end` - 1: a multiple of 400h lies
 -- among their differences
@@ -32,10 +32,10 @@ writes_enable uses.LatchWithEnable = true
 writes_enable _ = false
 
 abbrev pub rom_in : RangeView → Zone → Bool
-rom_in range z = writes_rom z.write && meets range z
+rom_in range z = writes_rom z.write && overlaps range z
 
 abbrev pub unmapped_in : RangeView → Zone → Bool
-unmapped_in range z = writes_open z.write && meets range z
+unmapped_in range z = writes_open z.write && overlaps range z
 
 abbrev pub enable_in : RangeView → Zone → Bool
 enable_in range z = writes_enable z.write && nat_le (low_in range z + (high_in range z + 7) % 8) (high_in range z)

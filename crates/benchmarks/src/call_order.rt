@@ -33,7 +33,7 @@ fn add_calls(calls: &mut Vec<Edge>, distance: u16, count: usize) -> Result<(), A
 }
 
 /// The same with a cycle: 1023 calls 1022, which calls it. No lower procedure is on a cycle.
-pub fn calls_with_circle(alloc: Global) -> Result<Vec<Edge>, AllocError> {
+pub fn calls_with_cycle(alloc: Global) -> Result<Vec<Edge>, AllocError> {
     let mut calls = calls_down(alloc, CALLS - 1)?;
     calls.push(Edge {
         caller: PROCS - 1,

@@ -1,6 +1,6 @@
 // The program that bench/ times and compares. Its arguments are, in this order:
 // - EVENTS of a mixed loop on the checked step,
-// - ORDERS of calls without a cycle, and CIRCLES with one,
+// - ORDERS of calls without a cycle, and CYCLES with one,
 // - CALLS of `successors`,
 // - TWINS, events of a ROM on the runner and on the checked step side by side,
 // - CHECKED and KNOWN, events of that ROM on the checked step and on the known step,
@@ -47,7 +47,7 @@ fn main(rt: HostRuntime) -> io::Result<()> {
     let [
         events,
         orders,
-        circles,
+        cycles,
         calls,
         twins,
         checked,
@@ -63,8 +63,8 @@ fn main(rt: HostRuntime) -> io::Result<()> {
     if orders > 0 {
         print_order(&rt, orders)?;
     }
-    if circles > 0 {
-        print_circle(&rt, circles)?;
+    if cycles > 0 {
+        print_cycle(&rt, cycles)?;
     }
     if calls > 0 {
         print_rules(&rt, calls)?;
@@ -96,13 +96,13 @@ fn print_order(rt: &HostRuntime, times: u64) -> io::Result<()> {
     )
 }
 
-fn print_circle(rt: &HostRuntime, times: u64) -> io::Result<()> {
-    let Ok(calls) = call_order::calls_with_circle(rt.alloc()) else {
+fn print_cycle(rt: &HostRuntime, times: u64) -> io::Result<()> {
+    let Ok(calls) = call_order::calls_with_cycle(rt.alloc()) else {
         return println!(rt; "out of memory");
     };
     let (procs, first, last) = call_order::answer(rt.alloc(), &calls, times);
     println!(rt;
-        "{} calls: a circle of {procs} from {first} to {last}",
+        "{} calls: a cycle of {procs} from {first} to {last}",
         calls.len()
     )
 }

@@ -30,11 +30,11 @@ use Rattle.board_step.specs.State.{BoardView}
 use Rattle.board_step.specs.Step.{accepted, committed, done, instr_draft, nmi_draft}
 use Rattle.board_step.specs.Trap.{trap_of_draft, trap_of_instr}
 use Rattle.board_laws.specs.Board.{HasWords, IsDoneWith, LeavesWords}
-use Rattle.board_laws.specs.Calm.{are_calm, is_sp}
+use Rattle.board_laws.specs.Stackless.{are_stackless, is_sp}
 use Rattle.board_laws.specs.Region.{AllTaken, HasRoom, IsStackRegion, Misses, used}
 use Rattle.board_laws.specs.Uses.{is_aside, is_pop, is_push, popped_into, pushed_word}
 use Rattle.board_laws.specs.Words.{Lays}
-use Rattle.board_laws.proofs.CalmMoves.{moves_are_calm}
+use Rattle.board_laws.proofs.StacklessMoves.{moves_are_stackless}
 use Rattle.board_laws.proofs.Traps.{no_trap}
 use Rattle.board_laws.proofs.WordLaws.{lays-kept}
 use Rattle.board_laws.proofs.EachMove.{aside_leaves, begun, exchange_gives, exchange_leaves, leaves_alike, left, pop_gives, pop_leaves, push_leaves}
@@ -291,9 +291,9 @@ record Aside (c : ContextView) (draft : DraftView) : Type 0 where
   stack : draft.stack ≡ []
   sp : draft.regs.sp ≡ c.state.regs.sp
 
-calm_aside : (c : ContextView) (instr : Instr) → are_calm (moves_of instr) ≡ true → Aside c (instr_draft c instr)
-calm_aside c instr calm =
-    let k = moves_are_calm (outside_of c) (moves_of instr) (draft_on (past (length (spelling instr)) c.state.regs)) calm in
+stackless_aside : (c : ContextView) (instr : Instr) → are_stackless (moves_of instr) ≡ true → Aside c (instr_draft c instr)
+stackless_aside c instr stackless =
+    let k = moves_are_stackless (outside_of c) (moves_of instr) (draft_on (past (length (spelling instr)) c.state.regs)) stackless in
     record { stack = k.stack; sp = k.sp }
 
 call_if_aside : (c : ContextView) (cc : Condition) (nn : ℕ) → (instr_draft c (instrs.CallIf cc nn)).taken ≡ false → Aside c (instr_draft c (instrs.CallIf cc nn))
@@ -319,7 +319,7 @@ not_taken true h = never _ h
 is_left_aside : (c : ContextView) (instr : Instr) → is_aside instr (instr_draft c instr).taken ≡ true → Aside c (instr_draft c instr)
 is_left_aside c (instrs.CallIf cc' nn) h = call_if_aside c cc' nn (not_taken _ h)
 is_left_aside c (instrs.ReturnIf cc') h = return_if_aside c cc' (not_taken _ h)
-is_left_aside c instr h = calm_aside c instr h
+is_left_aside c instr h = stackless_aside c instr h
 
 pub aside_done : (c : ContextView) (region : Region) (instr : Instr) (words : List ℕ) → HasWords c.hardware.map region c.state words → Misses c.hardware.map (used region c.state) (instr_draft c instr).writes
     → is_aside instr (instr_draft c instr).taken ≡ true → ((instr_draft c instr).stack ≡ []) × HasWords c.hardware.map region (done c instr) words

@@ -22,12 +22,12 @@ use Rattle.board_step.specs.declared.env.Env.{Env}
 use Rattle.board_step.specs.Step.{committed, ticked}
 use Rattle.board_step.specs.Trap.{some_outside}
 use Rattle.board_laws.specs.Board.{HasWords, LeavesWords}
-use Rattle.board_laws.specs.Calm.{is_sp}
+use Rattle.board_laws.specs.Stackless.{is_sp}
 use Rattle.board_laws.specs.Region.{HasRoom, IsStackRegion, Misses, used}
 use Rattle.board_laws.specs.Words.{Lays}
 use Rattle.board_laws.proofs.Bytes.{both_same}
 use Rattle.board_laws.proofs.Brought.{brought, bytes_missed, lays-brought, lays-committed, reaches, stacked_two}
-use Rattle.board_laws.proofs.CalmMoves.{word_sp}
+use Rattle.board_laws.proofs.StacklessMoves.{word_sp}
 use Rattle.board_laws.proofs.Laid.{at_sp, below_words, exchange_lays, pop_lays, push_lays, word_found}
 use Rattle.board_laws.proofs.WordLaws.{halves, lays-kept}
 

@@ -19,31 +19,31 @@ use Rattle.z80_moves.specs.declared.moves.Move.{Move}
 use Rattle.board_step.specs.Context.{ContextView}
 use Rattle.board_step.specs.Reads.{outside_of}
 use Rattle.board_step.specs.Step.{instr_draft}
-use Rattle.board_laws.specs.Calm.{are_calm, is_calm}
+use Rattle.board_laws.specs.Stackless.{are_stackless, is_stackless}
 use Rattle.board_laws.specs.Uses.{is_aside, is_exchange, is_pop, is_push, sets_sp}
-use Rattle.board_laws.proofs.CalmMoves.{moves_keep_accesses}
+use Rattle.board_laws.proofs.StacklessMoves.{moves_keep_accesses}
 
-memory_calm : (m : Memory) (then : List Move) → are_calm then ≡ true → are_calm (at_memory m then) ≡ true
-unfolding are_calm
-memory_calm memories.AtHl then h = h
-memory_calm (memories.At indexes.Ix d) then h = h
-memory_calm (memories.At indexes.Iy d) then h = h
+memory_stackless : (m : Memory) (then : List Move) → are_stackless then ≡ true → are_stackless (at_memory m then) ≡ true
+unfolding are_stackless
+memory_stackless memories.AtHl then h = h
+memory_stackless (memories.At indexes.Ix d) then h = h
+memory_stackless (memories.At indexes.Iy d) then h = h
 
-reading_calm : (p : Place) (move : Move) → is_calm move ≡ true → are_calm (reading p move) ≡ true
-unfolding are_calm
-reading_calm (places.Register r) move h = and_from _ _ h refl
-reading_calm (places.Memory m) move h = memory_calm m _ (and_from _ _ h refl)
+reading_stackless : (p : Place) (move : Move) → is_stackless move ≡ true → are_stackless (reading p move) ≡ true
+unfolding are_stackless
+reading_stackless (places.Register r) move h = and_from _ _ h refl
+reading_stackless (places.Memory m) move h = memory_stackless m _ (and_from _ _ h refl)
 
-changing_calm : (p : Place) (move : Move) → is_calm move ≡ true → are_calm (changing p move) ≡ true
-unfolding are_calm
-changing_calm (places.Register r) move h = and_from _ _ h refl
-changing_calm (places.Memory m) move h = memory_calm m _ (and_from _ _ h refl)
+changing_stackless : (p : Place) (move : Move) → is_stackless move ≡ true → are_stackless (changing p move) ≡ true
+unfolding are_stackless
+changing_stackless (places.Register r) move h = and_from _ _ h refl
+changing_stackless (places.Memory m) move h = memory_stackless m _ (and_from _ _ h refl)
 
 never : (P : Type 0) → (let b : Bool = true in b) ≡ false → P
 never P e = absurd (cc)
 
 pub told_apart : (instr : Instr) (taken : Bool) → is_push instr taken ≡ false → is_pop instr taken ≡ false → is_exchange instr ≡ false → sets_sp instr ≡ false → is_aside instr taken ≡ true
-unfolding are_calm
+unfolding are_stackless
 told_apart (instrs.Push qq) taken push pop exchange sets = never _ push
 told_apart (instrs.Pop qq) taken push pop exchange sets = never _ pop
 told_apart (instrs.ExchangeStack p) taken push pop exchange sets = never _ exchange
@@ -55,10 +55,10 @@ told_apart (instrs.ReturnIf cc') taken push pop exchange sets = ap not pop
 told_apart instrs.ReturnFromInterrupt taken push pop exchange sets = never _ pop
 told_apart instrs.ReturnFromNonMaskable taken push pop exchange sets = never _ pop
 told_apart (instrs.LoadRegister r (places.Register s)) taken push pop exchange sets = refl
-told_apart (instrs.LoadRegister r (places.Memory m)) taken push pop exchange sets = memory_calm m _ refl
+told_apart (instrs.LoadRegister r (places.Memory m)) taken push pop exchange sets = memory_stackless m _ refl
 told_apart (instrs.LoadImmediate (places.Register r) n) taken push pop exchange sets = refl
-told_apart (instrs.LoadImmediate (places.Memory m) n) taken push pop exchange sets = memory_calm m _ refl
-told_apart (instrs.Store m r) taken push pop exchange sets = memory_calm m _ refl
+told_apart (instrs.LoadImmediate (places.Memory m) n) taken push pop exchange sets = memory_stackless m _ refl
+told_apart (instrs.Store m r) taken push pop exchange sets = memory_stackless m _ refl
 told_apart (instrs.LoadA addresses.Bc) taken push pop exchange sets = refl
 told_apart (instrs.LoadA addresses.De) taken push pop exchange sets = refl
 told_apart (instrs.LoadA (addresses.Direct nn)) taken push pop exchange sets = refl
@@ -89,10 +89,10 @@ told_apart (instrs.BlockCompare blocks.Increment) taken push pop exchange sets =
 told_apart (instrs.BlockCompare blocks.Decrement) taken push pop exchange sets = refl
 told_apart (instrs.BlockCompare blocks.IncrementRepeat) taken push pop exchange sets = refl
 told_apart (instrs.BlockCompare blocks.DecrementRepeat) taken push pop exchange sets = refl
-told_apart (instrs.Arithmetic kind (operands.Place s)) taken push pop exchange sets = reading_calm s _ refl
+told_apart (instrs.Arithmetic kind (operands.Place s)) taken push pop exchange sets = reading_stackless s _ refl
 told_apart (instrs.Arithmetic kind (operands.Immediate n)) taken push pop exchange sets = refl
-told_apart (instrs.Increment p) taken push pop exchange sets = changing_calm p _ refl
-told_apart (instrs.Decrement p) taken push pop exchange sets = changing_calm p _ refl
+told_apart (instrs.Increment p) taken push pop exchange sets = changing_stackless p _ refl
+told_apart (instrs.Decrement p) taken push pop exchange sets = changing_stackless p _ refl
 told_apart (instrs.AddIndex indexes.Ix pp) taken push pop exchange sets = refl
 told_apart (instrs.AddIndex indexes.Iy pp) taken push pop exchange sets = refl
 told_apart (instrs.IncrementPair words.Sp) taken push pop exchange sets = never _ sets
@@ -107,10 +107,10 @@ told_apart (instrs.DecrementPair words.De) taken push pop exchange sets = refl
 told_apart (instrs.DecrementPair words.Hl) taken push pop exchange sets = refl
 told_apart (instrs.DecrementPair words.Ix) taken push pop exchange sets = refl
 told_apart (instrs.DecrementPair words.Iy) taken push pop exchange sets = refl
-told_apart (instrs.Shift kind p) taken push pop exchange sets = changing_calm p _ refl
-told_apart (instrs.TestBit b p) taken push pop exchange sets = reading_calm p _ refl
-told_apart (instrs.SetBit b p) taken push pop exchange sets = changing_calm p _ refl
-told_apart (instrs.ResetBit b p) taken push pop exchange sets = changing_calm p _ refl
+told_apart (instrs.Shift kind p) taken push pop exchange sets = changing_stackless p _ refl
+told_apart (instrs.TestBit b p) taken push pop exchange sets = reading_stackless p _ refl
+told_apart (instrs.SetBit b p) taken push pop exchange sets = changing_stackless p _ refl
+told_apart (instrs.ResetBit b p) taken push pop exchange sets = changing_stackless p _ refl
 told_apart _ taken push pop exchange sets = refl
 
 missing : (P : Type 0) → (let b : Bool = false in b) ≡ true → P

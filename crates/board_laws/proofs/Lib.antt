@@ -3,7 +3,7 @@ pub mod Bytes
 pub mod Brought
 pub mod WordLaws
 pub mod Laid
-pub mod CalmMoves
+pub mod StacklessMoves
 pub mod Traps
 pub mod EachMove
 pub mod EachInstruction

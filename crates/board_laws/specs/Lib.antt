@@ -1,7 +1,7 @@
 -- The definitions: words in bytes, the stack region, what moves and instructions do to the stack, and the clock.
 pub mod Words
 pub mod Region
-pub mod Calm
+pub mod Stackless
 pub mod Uses
 pub mod Board
 pub mod Clock

@@ -9,7 +9,7 @@ use Rattle.z80_moves.specs.declared.registers.WordRegister.{WordRegister}
 use Rattle.board_step.specs.State.{BoardView}
 use Rattle.board_laws.specs.Board.{LeavesWords, HasWords}
 use Rattle.board_laws.specs.Region.{HasRoom, IsStackRegion, Misses, used}
-use Rattle.board_laws.specs.Calm.{is_sp, writes_sp, are_calm}
+use Rattle.board_laws.specs.Stackless.{is_sp, writes_sp, are_stackless}
 use Rattle.board_step.specs.Context.{ContextView}
 use Rattle.board_step.specs.Reads.{outside_of}
 use Rattle.board_laws.specs.Words.{Lays}
@@ -54,19 +54,19 @@ ExchangeMovesSwapWordsGives =
     → Lays c.state draft.regs.sp region.top (word ∷ words)
     → draft_word register (moved (outside_of c) (ExchangeStack register) draft) ≡ word
 
-abbrev pub CalmMovesKeepSpAccesses : Type 0
-CalmMovesKeepSpAccesses =
+abbrev pub StacklessMovesKeepSpAccesses : Type 0
+StacklessMovesKeepSpAccesses =
     (o : Outside) (moves : List Move) (draft : DraftView) → accesses_in moves ≡ 0
     → (drafted o moves draft).stack ≡ draft.stack
 
-abbrev pub CalmMovesKeepSpSp : Type 0
-CalmMovesKeepSpSp =
+abbrev pub StacklessMovesKeepSpSp : Type 0
+StacklessMovesKeepSpSp =
     (o : Outside) (move : Move) (draft : DraftView) → writes_sp move ≡ false
     → (moved o move draft).regs.sp ≡ draft.regs.sp
 
-abbrev pub CalmMovesKeepSpCalm : Type 0
-CalmMovesKeepSpCalm =
-    (o : Outside) (moves : List Move) (draft : DraftView) → are_calm moves ≡ true
+abbrev pub StacklessMovesKeepSpStackless : Type 0
+StacklessMovesKeepSpStackless =
+    (o : Outside) (moves : List Move) (draft : DraftView) → are_stackless moves ≡ true
     → ((drafted o moves draft).stack ≡ draft.stack) × ((drafted o moves draft).regs.sp ≡ draft.regs.sp)
 
 abbrev pub DraftsKeepWordsAside : Type 0

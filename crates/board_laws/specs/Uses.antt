@@ -12,7 +12,7 @@ use Rattle.z80_moves.specs.Operands.{stack_register}
 use Rattle.z80_moves.specs.declared.registers.WordRegister.{WordRegister}
 use Rattle.z80_moves.specs.declared.registers.WordRegister.TheVariants.{Pc}
 use Rattle.z80_actions.specs.Returns.{is_return}
-use Rattle.board_laws.specs.Calm.{are_calm}
+use Rattle.board_laws.specs.Stackless.{are_stackless}
 
 -- whether an instruction pushes a word: PUSH, CALL, CALL cc if taken, and RST
 abbrev pub is_push : Instr → Bool → Bool
@@ -51,9 +51,9 @@ sets_sp (IncrementPair Sp) = true
 sets_sp (DecrementPair Sp) = true
 sets_sp _ = false
 
--- whether an instruction leaves SP and the stack alone: CALL cc and RET cc if not taken, and each instruction with calm
+-- whether an instruction leaves SP and the stack alone: CALL cc and RET cc if not taken, and each instruction with stackless
 -- moves
 abbrev pub is_aside : Instr → Bool → Bool
 is_aside (CallIf cc nn) taken = not taken
 is_aside (ReturnIf cc) taken = not taken
-is_aside instr taken = are_calm (moves_of instr)
+is_aside instr taken = are_stackless (moves_of instr)

@@ -1,6 +1,6 @@
 // Laws of the moves: what each move with stack accesses leaves on the stack, after any other moves.
 
-ghost use Rattle.board_laws.specs.MovesLaws.{PushMovesLayWords, PopMovesTakeWordsLeaves, PopMovesTakeWordsReads, PopMovesTakeWordsGives, ExchangeMovesSwapWordsLeaves, ExchangeMovesSwapWordsGives, CalmMovesKeepSpAccesses, CalmMovesKeepSpSp, CalmMovesKeepSpCalm, DraftsKeepWordsAside, DraftsKeepWordsAlike};
+ghost use Rattle.board_laws.specs.MovesLaws.{PushMovesLayWords, PopMovesTakeWordsLeaves, PopMovesTakeWordsReads, PopMovesTakeWordsGives, ExchangeMovesSwapWordsLeaves, ExchangeMovesSwapWordsGives, StacklessMovesKeepSpAccesses, StacklessMovesKeepSpSp, StacklessMovesKeepSpStackless, DraftsKeepWordsAside, DraftsKeepWordsAlike};
 
 /// A law: if the region has room for one more word, a push leaves the register's word on top of the others.
 pub fn push_moves_lay_words()
@@ -21,10 +21,10 @@ pub fn exchange_moves_swap_words()
 {}
 
 /// A law: moves without stack accesses make none, and a move that does not write SP keeps it.
-pub fn calm_moves_keep_sp()
-    ensures accesses { CalmMovesKeepSpAccesses }
-    ensures sp { CalmMovesKeepSpSp }
-    ensures calm { CalmMovesKeepSpCalm }
+pub fn stackless_moves_keep_sp()
+    ensures accesses { StacklessMovesKeepSpAccesses }
+    ensures sp { StacklessMovesKeepSpSp }
+    ensures stackless { StacklessMovesKeepSpStackless }
 {}
 
 /// A law: a draft without stack accesses that keeps SP leaves the words, if its data writes miss them. Drafts with the

@@ -3,7 +3,7 @@ use Rattle.std.proofs.Common.{◌≡◌, ℕ, zero, suc, ◌+◌, ◌-◌, ◌<�
 use Rattle.std.proofs.lemmas.Bool.{cases_eq}
 use Rattle.std.proofs.lemmas.List.{get_or_default}
 use Rattle.call_graph.specs.Calls.{Calls, CallPath, Reaches, IsCycle, IsLowestCycle}
-use Rattle.call_graph.specs.Circle.{Returns, IsShortestFrom}
+use Rattle.call_graph.specs.Cycle.{Returns, IsShortestFrom}
 use Rattle.call_graph.specs.Walk.{caller_at, callee_of_edge}
 use Rattle.call_graph.specs.declared.edge.Edge.{Edge}
 

@@ -1,5 +1,5 @@
 pub mod CallLemmas
-pub mod CircleLemmas
+pub mod CycleLemmas
 pub mod DepthLemmas
 pub mod GroupLemmas
 pub mod OrderLemmas

@@ -7,7 +7,7 @@ use Rattle.std.proofs.lemmas.Bool.{cases_lt}
 use Rattle.std.proofs.lemmas.List.{get_or_default}
 use Rattle.std.proofs.lemmas.List.Sorted.{Contains-permutation, IsPermutation-sym}
 use Rattle.call_graph.specs.Calls.{Calls, Occurs, CallPath, Reaches, IsCallOrder, IsCycle, IsFaultOf}
-use Rattle.call_graph.specs.Circle.{IsLowestStart}
+use Rattle.call_graph.specs.Cycle.{IsLowestStart}
 use Rattle.call_graph.specs.Walk.{WalkState, Kept, ByCaller, IsInGroup, walk_state_of, mark_at, caller_at, callee_of_edge}
 use Rattle.call_graph.proofs.CallLemmas.{calls_at, numbered, on_cycle, returns_of}
 use Rattle.call_graph.specs.declared.edge.Edge.{Edge}
@@ -135,9 +135,9 @@ order_same edges others list moved order =
     }
 
 cycle_same : (edges others : List Edge) (list : List ℕ) → IsPermutation edges others → IsCycle edges list → IsCycle others list
-cycle_same edges others list moved circle =
+cycle_same edges others list moved cycle =
     let to : (p q : ℕ) → Calls edges p q → Calls others p q = λ p q call. Contains-permutation edges others (record { caller = p; callee = q }) moved call in
-    record { some = circle.some; next = λ i h. to _ _ (circle.next i h); back = to _ _ circle.back }
+    record { some = cycle.some; next = λ i h. to _ _ (cycle.next i h); back = to _ _ cycle.back }
 
 pub fault_same : (edges others : List Edge) → IsPermutation edges others → (fault : GraphFault) → IsFaultOf others fault → IsFaultOf edges fault
 fault_same edges others moved (Cycle list) fault = record {
@@ -149,24 +149,24 @@ fault_same edges others moved (Cycle list) fault = record {
 fault_same edges others moved NoMemory h = tt
 
 -- along a cycle the places in an order would fall
-descends : (edges : List Edge) (list circle : List ℕ) → IsCallOrder edges list → IsCycle edges circle → (first : ℕ) → first < length list → get_or list first 0 ≡ get_or circle 0 0 →
-    (i : ℕ) → i < length circle → (k : ℕ) × (k < length list) × (get_or list k 0 ≡ get_or circle i 0) × (k + i ≤ first)
-descends edges list circle order cycle first inside is zero h = (first, inside, is, omega arith)
-descends edges list circle order cycle first inside is (suc i) h =
-    let before = descends edges list circle order cycle first inside is i (omega arith) in
+descends : (edges : List Edge) (list cycle : List ℕ) → IsCallOrder edges list → IsCycle edges cycle → (first : ℕ) → first < length list → get_or list first 0 ≡ get_or cycle 0 0 →
+    (i : ℕ) → i < length cycle → (k : ℕ) × (k < length list) × (get_or list k 0 ≡ get_or cycle i 0) × (k + i ≤ first)
+descends edges list cycle order cycle first inside is zero h = (first, inside, is, omega arith)
+descends edges list cycle order cycle first inside is (suc i) h =
+    let before = descends edges list cycle order cycle first inside is i (omega arith) in
     let step : i + 1 ≡ suc i = omega arith in
-    let call : Calls edges (get_or circle i 0) (get_or circle (suc i) 0) = rw step at (cycle.next i (omega arith)) in
-    let place = place_in list (get_or circle (suc i) 0) (order.listed (get_or circle (suc i) 0) (get_or circle i 0, inr call)) in
+    let call : Calls edges (get_or cycle i 0) (get_or cycle (suc i) 0) = rw step at (cycle.next i (omega arith)) in
+    let place = place_in list (get_or cycle (suc i) 0) (order.listed (get_or cycle (suc i) 0) (get_or cycle i 0, inr call)) in
     let lower : place.0 < before.0 = order.callees_first before.0 place.0 before.1 place.1 (rw (before.2, place.2) call) in
     let far : before.0 + i ≤ first = before.3 in
     (place.0, place.1, place.2, omega arith)
 
-pub no_circle : (edges : List Edge) (list circle : List ℕ) → IsCallOrder edges list → IsCycle edges circle → ⊥
-no_circle edges list circle order cycle =
-    let some : 0 < length circle = cycle.some in
-    let last : ℕ = length circle - 1 in
-    let place = place_in list (get_or circle 0 0) (order.listed (get_or circle 0 0) (get_or circle last 0, inr cycle.back)) in
-    let end = descends edges list circle order cycle place.0 place.1 place.2 last (omega arith) in
+pub no_cycle : (edges : List Edge) (list cycle : List ℕ) → IsCallOrder edges list → IsCycle edges cycle → ⊥
+no_cycle edges list cycle order cycle =
+    let some : 0 < length cycle = cycle.some in
+    let last : ℕ = length cycle - 1 in
+    let place = place_in list (get_or cycle 0 0) (order.listed (get_or cycle 0 0) (get_or cycle last 0, inr cycle.back)) in
+    let end = descends edges list cycle order cycle place.0 place.1 place.2 last (omega arith) in
     let lower : place.0 < end.0 = order.callees_first end.0 place.0 end.1 place.1 (rw (end.2, place.2) cycle.back) in
     let far : end.0 + last ≤ place.0 = end.3 in
     omega arith

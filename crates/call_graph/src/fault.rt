@@ -6,7 +6,7 @@ use thiserror::Error;
 #[derive(Debug, Drop, Error)]
 pub enum GraphFault {
     /// A cycle: each procedure calls the next, and the last calls the first.
-    #[error("procedures call one another in a circle")]
+    #[error("procedures call one another in a cycle")]
     Cycle(Vec<ProcId>),
     /// Memory was refused.
     #[error("out of memory")]

@@ -1,7 +1,7 @@
 // The order of procedures by their calls, and the depth of stack that each needs (docs/CALLS.md).
 #![tactic(auto)]
 
-mod circle;
+mod cycle;
 mod depth;
 mod edge;
 mod fault;

@@ -1,10 +1,10 @@
 // The order of procedures by their calls.
 ghost use Rattle.std.specs.Prelude.{ℕ, List, IfOk, IfErr, OnOk};
 ghost use Rattle.call_graph.specs.Calls.{IsCallOrder, IsCycle, IsFaultOf};
-ghost use Rattle.call_graph.specs.Circle.{IsLowestStart};
+ghost use Rattle.call_graph.specs.Cycle.{IsLowestStart};
 ghost use Rattle.call_graph.specs.Walk.{AreGrouped, ByCall, ByCaller};
 
-use crate::circle::circle_through;
+use crate::cycle::cycle_through;
 use crate::edge::{Edge, ProcId};
 use crate::fault::GraphFault;
 use crate::walk::Walk;
@@ -38,7 +38,7 @@ fn order_by_caller(alloc: Global, calls: &[Edge]) -> Result<Vec<ProcId>, GraphFa
         return Err(GraphFault::NoMemory);
     };
     match walk.first_within(calls) {
-        Some(start) => Err(circle_fault(alloc, calls, start)),
+        Some(start) => Err(cycle_fault(alloc, calls, start)),
         None => Ok(walk.order),
     }
 }
@@ -56,13 +56,13 @@ fn walk_along(alloc: Global, calls: &[Edge]) -> Result<Walk, AllocError>
 }
 
 /// The fault with the lowest of the shortest cycles through `start`, which must be the lowest procedure on a cycle.
-fn circle_fault(alloc: Global, calls: &[Edge], start: ProcId) -> GraphFault
+fn cycle_fault(alloc: Global, calls: &[Edge], start: ProcId) -> GraphFault
     requires rising { ByCall calls.now }
     requires lowest { IsLowestStart calls.now start }
     ensures { IsFaultOf calls.now result }
 {
-    match circle_through(alloc, calls, start) {
-        Ok(Some(circle)) => GraphFault::Cycle(circle),
+    match cycle_through(alloc, calls, start) {
+        Ok(Some(cycle)) => GraphFault::Cycle(cycle),
         Ok(None) => unreachable!(),
         Err(_) => GraphFault::NoMemory,
     }

@@ -13,11 +13,11 @@ pub enum WriterFault {
     #[error("refused at {:04X}: {}", .0.address, .0.reason)]
     Refused(Refused),
     /// Procedures call one another in a cycle; these are their entries along it.
-    #[error("procedures call one another in a circle")]
+    #[error("procedures call one another in a cycle")]
     Recursion(Vec<u16>),
     /// A timed procedure has a cycle of rows that passes no annotated loop; this is the lowest address of a row on such
     /// a cycle.
-    #[error("no loop bounds the rows that go round at {0:04X}")]
+    #[error("no loop bounds the cycle of rows at {0:04X}")]
     LoopUnbounded(u16),
     /// A certificate has no room for the number of its lines, for a depth, for a time or for a potential.
     #[error("a certificate has no room for it")]

@@ -1,6 +1,6 @@
 pub mod CoveringLemmas
 pub mod Lists
-pub mod NarrowLemmas
+pub mod RestrictLemmas
 pub mod OrderedLists
 pub mod PlainLemmas
 pub mod ProgramLemmas

@@ -6,9 +6,9 @@ use Rattle.loop_bounds.specs.Linear.{LinearView}
 use Rattle.std.proofs.Common.{List, slice_get, ◌<◌, ◌≡◌, ◌≤◌, ℕ, true, [], Option, Some, None, IfSome, refl, subst}
 use Rattle.abs_state.proofs.CoverLemmas.{state_covers_along}
 use Rattle.abs_state.specs.Covers.{CoversState}
-use Rattle.abs_state.specs.Narrowing.{byte_is}
+use Rattle.abs_state.specs.Restricting.{byte_is}
 use Rattle.abs_state.specs.declared.state.AbsState.{AbsState}
-use Rattle.check_cover.proofs.NarrowLemmas.{covers_part}
+use Rattle.check_cover.proofs.RestrictLemmas.{covers_part}
 use Rattle.check_cover.proofs.RowLemmas.{covers_without_facts}
 use Rattle.check_cover.specs.Arrival.{ArrivalView}
 use Rattle.check_cover.specs.Covering.{Covered, CoveredBy, RowCovers, SomeCovers, tightened_by}

@@ -4,7 +4,7 @@ use Rattle.std.specs.List.{All}
 use Rattle.abs_state.specs.Covers.{CoversState, KeepsState}
 use Rattle.abs_state.specs.Entries.{main_entry, nmi_entry}
 use Rattle.abs_state.specs.Mode.{covers_mode}
-use Rattle.abs_state.specs.Narrowing.{byte_is}
+use Rattle.abs_state.specs.Restricting.{byte_is}
 use Rattle.abs_state.specs.Variables.{range_of, cut_to}
 use Rattle.abs_state.specs.declared.state.AbsState.{AbsState}
 use Rattle.cert_lines.specs.declared.row.Row.{Row}

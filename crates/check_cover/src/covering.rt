@@ -1,7 +1,7 @@
 // Which rows cover a state that arrives at their address.
 
 ghost use Rattle.std.specs.Prelude.{◌≡◌, ◌≤◌, ◌<◌, ◌↔◌, ℕ, true, IfSome, IsTrue, MatchOption, Some, [], slice_get};
-ghost use Rattle.abs_state.specs.Narrowing.{byte_is};
+ghost use Rattle.abs_state.specs.Restricting.{byte_is};
 ghost use Rattle.check_cover.specs.Covering.{Covered, CoveredBy, RowCovers, SomeCovers};
 ghost use Rattle.check_cover.specs.Plainly.{CoversPlainly};
 
@@ -136,7 +136,7 @@ impl<'a> Coverer<'a> {
         ensures same { self.new ≡ self.old }
     {
         let mut part = state.copied();
-        if part.narrow_byte(true, register, value) {
+        if part.restrict_byte(true, register, value) {
             self.some_covers_part(arrival, &part, value)
         } else {
             true

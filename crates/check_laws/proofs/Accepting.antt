@@ -39,8 +39,8 @@ use Rattle.check_cover.specs.declared.program.Callee.{Callee}
 use Rattle.cert_lines.specs.declared.proc.Proc.{Proc}
 use Rattle.cert_lines.specs.declared.row.Row.{Row}
 use Rattle.cert_form.specs.Contents.{CertificateView, map_of_board}
-use Rattle.check_rules.specs.Table.{IsDeep, IsTimed, entry_bytes}
-use Rattle.check_ways.specs.Pays.{MeetsTime, Pays, cost_before}
+use Rattle.check_rules.specs.Table.{FitsDepth, IsTimed, entry_bytes}
+use Rattle.check_ways.specs.Pays.{IsWithinTime, Pays, cost_before}
 use Rattle.check_laws.specs.RowHolds.{worth}
 use Rattle.check_laws.proofs.EntryLemmas.{nmi_begins}
 use Rattle.check_laws.proofs.InForm.{row_in_form}
@@ -121,7 +121,7 @@ module _ (rom : List ℕ) (cert : CertificateView) (acc : AcceptsInForm rom cert
   nmi_deep : (row : Row) → IsRowAt cert 1 102 row → 2 ≤ nmi.depth
   nmi_deep row at =
       let j = judge rom cert row nmi acc at.listed (ap (slice_get cert.procs) at.of ∙ is_nmi.at) in
-      let deep : IsDeep (subject_of rom cert row nmi j.instr) = j.consistent reasons.StackDepth in
+      let deep : FitsDepth (subject_of rom cert row nmi j.instr) = j.consistent reasons.StackDepth in
       let fits : entry_bytes nmi.kind + 2 * length row.state.shape ≤ nmi.depth = deep.row in
       let two : entry_bytes nmi.kind ≡ 2 = ap entry_bytes is_nmi.kind in
       omega arith
@@ -193,9 +193,9 @@ module _ (rom : List ℕ) (cert : CertificateView) (acc : AcceptsInForm rom cert
         let before : s.phase + 11 < 50688 = omega arith in
         let j = judge rom cert l.row nmi acc l.at.listed (ap (slice_get cert.procs) l.at.of ∙ is_nmi.at) in
         let timed : IsTimed nmi = subst (λ (o : Option ℕ). IsSome o) (sym is_nmi.time_is) refl in
-        let meets : MeetsTime nmi l.row = (pays_at j timed).entry (l.at.at ∙ sym is_nmi.entry) in
+        let in_time : IsWithinTime nmi l.row = (pays_at j timed).entry (l.at.at ∙ sym is_nmi.entry) in
         let cost : cost_before nmi.kind ≡ 11 = ap cost_before is_nmi.kind in
-        let most = entry_in_time nmi l.row cert.cells (entry_of mid.regs) (seen_of cert.cells [] mid) numbers_mid.regs l.holds.state meets in
+        let most = entry_in_time nmi l.row cert.cells (entry_of mid.regs) (seen_of cert.cells [] mid) numbers_mid.regs l.holds.state in_time in
         let whole : unwrap_or nmi.time 0 ≡ time = ap (λ (o : Option ℕ). unwrap_or o 0) is_nmi.time_is in
         let pays : (pos 11 +ℤ worth l.row (seen_of cert.cells [] mid)) ≤ℤ pos time =
         subst (λ (n : ℕ). (pos 11 +ℤ worth l.row (seen_of cert.cells [] mid)) ≤ℤ pos n) whole (subst (λ (n : ℕ). (pos n +ℤ worth l.row (seen_of cert.cells [] mid)) ≤ℤ pos (unwrap_or nmi.time 0)) cost most) in

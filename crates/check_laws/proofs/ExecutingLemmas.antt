@@ -40,8 +40,8 @@ use Rattle.cert_lines.specs.Proc.{IsProc}
 use Rattle.cert_lines.specs.declared.proc.Proc.{Proc}
 use Rattle.cert_lines.specs.declared.row.Row.{Row}
 use Rattle.cert_form.specs.Contents.{CertificateView, map_of_board}
-use Rattle.check_rules.specs.Table.{IsDeep, IsTimed, entry_bytes}
-use Rattle.check_ways.specs.Pays.{MeetsTime, Pays, cost_before}
+use Rattle.check_rules.specs.Table.{FitsDepth, IsTimed, entry_bytes}
+use Rattle.check_ways.specs.Pays.{IsWithinTime, Pays, cost_before}
 use Rattle.check_ways.specs.Ways.{GoesOn, IsExit, IsWay, SubjectView, behind_of, call_cost, jump_way, nexts_from, return_way, writes_from}
 use Rattle.check_laws.specs.Comes.{CameBy, Exits, Steps, resumed}
 use Rattle.check_laws.specs.RowHolds.{IsHeld, worth}
@@ -135,7 +135,7 @@ module _ (rom : List ℕ) (cert : CertificateView) (acc : AcceptsInForm rom cert
   goes_here : GoesOn here
   goes_here = goes rom cert acc lowest under u c s env numbers is_env p j
 
-  deep_here : IsDeep here
+  deep_here : FitsDepth here
   deep_here = deep rom cert acc lowest under u c s env numbers is_env p j
 
   after_numbers : IsState new
@@ -172,7 +172,7 @@ module _ (rom : List ℕ) (cert : CertificateView) (acc : AcceptsInForm rom cert
         nmi = λ m. nmi_covered l.row.state.mode n.state.mode l.mode (nmi m);
         pays = λ b.
             let paid = way_paid cert c.row l.row n.cost n.effect c.entry c.entry old_seen (seen_of cert.cells w.words new) acc.form l.at.listed numbers.regs after_numbers.regs p.holds.state l.holds.state w.through
-            ((pays_here (timed_here b)).ways (jump_way here n) l.row (record { is_way = way; lands = record { at = l.at; asked = inr l.meets } })) in
+            ((pays_here (timed_here b)).ways (jump_way here n) l.row (record { is_way = way; lands = record { at = l.at; asked = inr l.overlaps } })) in
             more_waits t n.cost (worth c.row old_seen) (worth l.row (seen_of cert.cells w.words new)) (later_all c.waiting) cost paid;
       }
 
@@ -228,7 +228,7 @@ module _ (rom : List ℕ) (cert : CertificateView) (acc : AcceptsInForm rom cert
               owes = λ b.
                   let paid = way_paid cert c.row l.row (call_cost n callee) back.arrival.effect c.entry c.entry old_seen (resumed at m) acc.form l.at.listed numbers.regs i p.holds.state l.holds.state
                   (return_came here n callee exit c.entry old_seen at m x y)
-                  ((pays_here b).ways back l.row (record { is_way = way; lands = record { at = l.at; asked = inr l.meets } })) in
+                  ((pays_here b).ways back l.row (record { is_way = way; lands = record { at = l.at; asked = inr l.overlaps } })) in
                   kept_less (call_cost n callee) (worth c.row old_seen) (worth l.row (resumed at m)) paid;
             };
         timed = λ b. ((pays_here b).calls n callee e.calls).timed;
@@ -264,9 +264,9 @@ module _ (rom : List ℕ) (cert : CertificateView) (acc : AcceptsInForm rom cert
         pays = λ b.
             let timed = ((pays_here (timed_here b)).calls n callee e.calls).timed in
             let k = judge rom cert l.row callee.proc acc l.at.listed (ap (slice_get cert.procs) l.at.of ∙ e.found.has) in
-            let meets : MeetsTime callee.proc l.row = (pays_at k timed).entry (l.at.at ∙ sym e.found.entry_is) in
+            let in_time : IsWithinTime callee.proc l.row = (pays_at k timed).entry (l.at.at ∙ sym e.found.entry_is) in
             let none : cost_before callee.proc.kind ≡ 0 = ap cost_before e.found.sub in
-            let most = entry_in_time callee.proc l.row cert.cells (entry_of new.regs) (seen_of cert.cells [] new) after_numbers.regs l.holds.state meets in
+            let most = entry_in_time callee.proc l.row cert.cells (entry_of new.regs) (seen_of cert.cells [] new) after_numbers.regs l.holds.state in_time in
             call_waits t n.cost (unwrap_or callee.proc.time 0) (worth l.row (seen_of cert.cells [] new)) (worth c.row old_seen) (later_all c.waiting) cost
             (subst (λ (z : ℕ). (pos z +ℤ worth l.row (seen_of cert.cells [] new)) ≤ℤ pos (unwrap_or callee.proc.time 0)) none most);
       }

@@ -23,7 +23,7 @@ use Rattle.check_cover.specs.Program.{IsRowAt, callee_at, ground_for, is_inline,
 use Rattle.check_cover.specs.declared.program.Callee.{Callee}
 use Rattle.cert_lines.specs.declared.row.Row.{Row}
 use Rattle.cert_form.specs.Contents.{CertificateView, map_of_board}
-use Rattle.check_rules.specs.Table.{HasNoStack, IsDeep, entry_bytes}
+use Rattle.check_rules.specs.Table.{HasNoStack, FitsDepth, entry_bytes}
 use Rattle.check_ways.specs.Ways.{CallsCallee, EntersCallee, GoesOn, SubjectView, arrival_at_entry as entry_arrival, nexts_from, writes_from}
 use Rattle.check_laws.proofs.EntryLemmas.{all_own}
 use Rattle.check_laws.proofs.InForm.{row_in_form}
@@ -54,7 +54,7 @@ entering s goes n listed kind = by (callee_at s.cert n.address) refl (goes.entri
 pub callee_deep : (rom : List ℕ) (cert : CertificateView) → AcceptsInForm rom cert → (address : ℕ) (callee : Callee) → IsFound cert address callee → (row : Row) → IsRowAt cert callee.number address row → 2 ≤ callee.proc.depth
 callee_deep rom cert acc address callee f row at =
     let j = judge rom cert row callee.proc acc at.listed (ap (slice_get cert.procs) at.of ∙ f.has) in
-    let deep : IsDeep (subject_of rom cert row callee.proc j.instr) = j.consistent reasons.StackDepth in
+    let deep : FitsDepth (subject_of rom cert row callee.proc j.instr) = j.consistent reasons.StackDepth in
     let fits : entry_bytes callee.proc.kind + 2 * length row.state.shape ≤ callee.proc.depth = deep.row in
     let two : entry_bytes callee.proc.kind ≡ 2 = ap entry_bytes f.sub in
     omega arith
@@ -69,7 +69,7 @@ module _ (rom : List ℕ) (cert : CertificateView) (acc : AcceptsInForm rom cert
   pub goes : GoesOn subject
   goes = j.consistent reasons.NotCovered
 
-  pub deep : IsDeep subject
+  pub deep : FitsDepth subject
   deep = j.consistent reasons.StackDepth
 
   pub stands : StandsAt rom s.regs.pc (Ok j.instr)

@@ -13,7 +13,7 @@ use Rattle.abs_state.specs.CutLaws.{byte_known}
 use Rattle.abs_state.specs.Fact.{byte_in}
 use Rattle.abs_state.specs.Holds.{Holds}
 use Rattle.abs_state.specs.Mode.{covers_mode}
-use Rattle.abs_state.specs.Narrowing.{byte_is, to_range}
+use Rattle.abs_state.specs.Restricting.{byte_is, to_range}
 use Rattle.abs_state.specs.Pairs.{HoldsPairs}
 use Rattle.abs_state.specs.Seen.{Seen}
 use Rattle.abs_state.specs.declared.cell.KeptCell.{KeptCell}
@@ -32,7 +32,7 @@ use Rattle.check_laws.specs.Comes.{Comes}
 use Rattle.check_laws.specs.RowHolds.{AreZeroAt, IsHeld, RowHolds}
 use Rattle.check_laws.proofs.Facts.{all_tightened, are_linear, known_zero}
 use Rattle.check_laws.proofs.InForm.{each_or, row_in_form}
-use Rattle.check_laws.proofs.Meeting.{cut_mode, states_meet}
+use Rattle.check_laws.proofs.Overlapping.{cut_mode, states_overlap}
 
 pub byte_small : (r : Register8) (regs : Regs) → IsRegs regs → byte_in r regs ≤ 255
 byte_small A regs i = let h = i.main.a in omega arith
@@ -70,7 +70,7 @@ module _ (cert : CertificateView) (form : IsInForm cert) (a : ArrivalView) (entr
         at = some.at;
         holds = holds;
         mode = subst (λ m. covers_mode some.row.state.mode m ≡ true) mode some.covers.suits.mode;
-        meets = states_meet some.row.state state cert.cells entry entry now holds.state h;
+        overlaps = states_overlap some.row.state state cert.cells entry entry now holds.state h;
       }
 
   by_value : (state : AbsState) (o : Option AbsState) → Holds state cert.cells entry now → IfSome o (SomeCovers cert a) → IsSomeAnd o (λ t. Holds t cert.cells entry now) → IfSome o (λ t. t.mode ≡ state.mode)

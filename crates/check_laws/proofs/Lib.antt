@@ -1,6 +1,6 @@
 -- Lemmas. Each file uses only those above it.
 pub mod InForm
-pub mod Meeting
+pub mod Overlapping
 pub mod Facts
 pub mod LandingLemmas
 pub mod EntryLemmas

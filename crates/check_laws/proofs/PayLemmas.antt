@@ -29,7 +29,7 @@ use Rattle.cert_lines.specs.declared.proc.Proc.{Proc}
 use Rattle.cert_lines.specs.declared.row.Row.{Row}
 use Rattle.cert_form.specs.Contents.{CertificateView}
 use Rattle.cert_form.specs.Form.{IsInForm}
-use Rattle.check_ways.specs.Pays.{MeetsTime, PaysOut, PaysTo, constant_sum, cost_before, potential_of}
+use Rattle.check_ways.specs.Pays.{IsWithinTime, PaysOut, PaysTo, constant_sum, cost_before, potential_of}
 use Rattle.check_laws.specs.Comes.{CameBy}
 use Rattle.check_laws.specs.RowHolds.{value_at, worth}
 use Rattle.check_laws.proofs.EntryLemmas.{word_small}
@@ -81,12 +81,12 @@ unchanged_value m s = ap (λ z. s.constant +ℤ z) (total_agree (after unchanged
     is (variables.Slot number part) = refl
     is v = refl
 
-pub entry_in_time : (proc : Proc) (row : Row) (cells : List KeptCell) (entry : Entry) (m : Seen) → IsRegs m.regs → Holds row.state cells entry m → MeetsTime proc row → (pos (cost_before proc.kind) +ℤ worth row m) ≤ℤ pos (unwrap_or proc.time 0)
-entry_in_time proc row cells entry m i h meets =
+pub entry_in_time : (proc : Proc) (row : Row) (cells : List KeptCell) (entry : Entry) (m : Seen) → IsRegs m.regs → Holds row.state cells entry m → IsWithinTime proc row → (pos (cost_before proc.kind) +ℤ worth row m) ≤ℤ pos (unwrap_or proc.time 0)
+entry_in_time proc row cells entry m i h within =
     let time = unwrap_or proc.time 0 in
     let cost = cost_before proc.kind in
     let paid : pos 0 ≤ℤ ((pos time +ℤ pos 0) -ℤ pos cost -ℤ value (after unchanged (value_in m) (value_in m)) (potential_of row)) =
-    meets (value_in m) (value_in m) (λ v some. variable_lies row.state cells entry m i h v) (λ v some. variable_lies row.state cells entry m i h v) in
+    within (value_in m) (value_in m) (λ v some. variable_lies row.state cells entry m i h v) (λ v some. variable_lies row.state cells entry m i h v) in
     done time cost (worth row m) (value (after unchanged (value_in m) (value_in m)) (potential_of row)) paid (unchanged_value m (potential_of row))
   where
     done : (time cost : ℕ) (b z : ℤ) → pos 0 ≤ℤ ((pos time +ℤ pos 0) -ℤ pos cost -ℤ z) → z ≡ b → (pos cost +ℤ b) ≤ℤ pos time

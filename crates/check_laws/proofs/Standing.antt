@@ -22,7 +22,7 @@ use Rattle.abs_step.proofs.GoesStack.{as_many}
 use Rattle.check_cover.specs.declared.program.Callee.{Callee}
 use Rattle.cert_lines.specs.declared.proc.Proc.{Proc}
 use Rattle.cert_form.specs.Contents.{CertificateView, map_of_board}
-use Rattle.check_rules.specs.Table.{IsDeep, entry_bytes}
+use Rattle.check_rules.specs.Table.{FitsDepth, entry_bytes}
 use Rattle.check_laws.specs.Chain.{AcceptsInForm, later_all, waiting_words}
 use Rattle.check_laws.specs.Placed.{Activations, ArePlaced, Under, owed, seen_by}
 use Rattle.check_laws.proofs.Depth.{chain_depth}
@@ -134,7 +134,7 @@ module _ (rom : List ℕ) (cert : CertificateView) (acc : AcceptsInForm rom cert
   pub main_words : (c : Activations) (s : BoardView) → ArePlaced rom cert main_callee [] c s → 2 * length (words_of c) ≤ main.depth
   main_words c s p =
       let j = judge rom cert c.row c.of.proc acc p.listed (ap (slice_get cert.procs) p.is_of ∙ p.has) in
-      let deep : IsDeep (subject_of rom cert c.row c.of.proc j.instr) = j.consistent reasons.StackDepth in
+      let deep : FitsDepth (subject_of rom cert c.row c.of.proc j.instr) = j.consistent reasons.StackDepth in
       let row : entry_bytes c.of.proc.kind + 2 * length c.row.state.shape ≤ c.of.proc.depth = deep.row in
       let chain = chain_depth rom cert main_callee c.first c.of c.entry c.waiting p.chain in
       let none : entry_bytes main.kind ≡ 0 = ap entry_bytes is_main.kind in

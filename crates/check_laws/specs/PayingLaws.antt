@@ -10,7 +10,7 @@ use Rattle.check_laws.specs.RowHolds.{worth}
 use Rattle.cert_lines.specs.declared.row.Row.{Row}
 use Rattle.cert_form.specs.Contents.{CertificateView}
 use Rattle.cert_form.specs.Form.{IsInForm}
-use Rattle.check_ways.specs.Pays.{PaysTo, PaysOut, MeetsTime, cost_before}
+use Rattle.check_ways.specs.Pays.{PaysTo, PaysOut, IsWithinTime, cost_before}
 use Rattle.abs_state.specs.declared.cell.KeptCell.{KeptCell}
 use Rattle.cert_lines.specs.declared.proc.Proc.{Proc}
 
@@ -29,7 +29,7 @@ ExitsArePaid =
 abbrev pub EntriesAreInTime : Type 0
 EntriesAreInTime =
     (proc : Proc) (row : Row) (cells : List KeptCell) (entry : Entry) (m : Seen) → IsRegs m.regs
-    → Holds row.state cells entry m → MeetsTime proc row
+    → Holds row.state cells entry m → IsWithinTime proc row
     → (pos (cost_before proc.kind) +ℤ worth row m) ≤ℤ pos (unwrap_or proc.time 0)
 
 abbrev pub WorthIsBounded : Type 0

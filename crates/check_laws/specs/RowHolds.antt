@@ -4,7 +4,7 @@ use Rattle.std.specs.List.{All}
 use Rattle.intervals.specs.Domain.{Entry}
 use Rattle.loop_bounds.specs.Effect.{whole}
 use Rattle.loop_bounds.specs.Linear.{LinearView, value}
-use Rattle.abs_state.specs.Covers.{MeetsState}
+use Rattle.abs_state.specs.Covers.{OverlapsState}
 use Rattle.abs_state.specs.Holds.{Holds}
 use Rattle.abs_state.specs.Mode.{covers_mode}
 use Rattle.abs_state.specs.Seen.{Seen}
@@ -40,4 +40,4 @@ pub record IsHeld (cert : CertificateView) (proc address : ℕ) (state : AbsStat
   pub at : IsRowAt cert proc address row
   pub holds : RowHolds row cert.cells entry m
   pub mode : covers_mode row.state.mode state.mode ≡ true
-  pub meets : MeetsState row.state state
+  pub overlaps : OverlapsState row.state state

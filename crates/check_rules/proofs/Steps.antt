@@ -7,7 +7,7 @@ use Rattle.abs_step.specs.declared.next.Next.{Next}
 use Rattle.abs_step.specs.declared.reason.Reason.{Reason}
 use Rattle.abs_step.specs.declared.reason.Reason.TheVariants as reasons
 use Rattle.check_cover.specs.Program.{ground_for, is_inline, is_main}
-use Rattle.check_rules.specs.Table.{IsDeep, IsLowest, PassesBelow, bytes_in}
+use Rattle.check_rules.specs.Table.{FitsDepth, IsLowest, PassesBelow, bytes_in}
 use Rattle.check_rules.proofs.Order.{begins, decode_passes, passes}
 use Rattle.check_ways.specs.Ways.{SubjectView, nexts_from, nexts_in, step_of}
 use Rattle.t_states.specs.Io.{is_io}
@@ -57,8 +57,8 @@ leads_further s nexts e below =
     passes s reasons.StackShape 11 refl refl (passes s reasons.StackUnset 10 refl refl below (λ bad. cc)) (λ bad. cc)
 
 -- a row that is refused for itself has no successors, and only its own bytes count
-pub refused_is_deep : (s : SubjectView) (r : Reason) → step_of s ≡ Err r → bytes_in s s.row.state ≤ s.proc.depth → IsDeep s
-refused_is_deep s r e fits = record {
+pub refused_fits_depth : (s : SubjectView) (r : Reason) → step_of s ≡ Err r → bytes_in s s.row.state ≤ s.proc.depth → FitsDepth s
+refused_fits_depth s r e fits = record {
   row = fits;
   nexts = λ next leads. absurd (none next leads);
   calls = λ next callee calls. absurd (none next calls.leads);
@@ -98,7 +98,7 @@ behind_writes s r e high below fits = by (refused s r e)
         subst (IsLowest s) (sym same) (record { applies = λ pass. pass (cc); lowest = passes s reasons.StackUnset 10 refl refl below (λ bad. cc) })
     by (by_jump same) =
         let n = ap number_of same in
-        let deep = refused_is_deep s r e (fits (omega (arith, n))) in
+        let deep = refused_fits_depth s r e (fits (omega (arith, n))) in
         subst (IsLowest s) (sym same)
         (record {
           applies = λ pass. pass.jumps (cc);

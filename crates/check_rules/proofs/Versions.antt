@@ -1,7 +1,7 @@
 -- Certificates that differ only in their version mean the same to the rules.
 use Rattle.std.proofs.Common.{◌≡◌, inl, inr, ℕ, true, List, Option, Some, None, IfSome, length, sym, subst, ap}
 use Rattle.abs_state.specs.declared.state.AbsState.{AbsState}
-use Rattle.abs_state.specs.Narrowing.{byte_is}
+use Rattle.abs_state.specs.Restricting.{byte_is}
 use Rattle.abs_step.specs.declared.next.Next.{Next}
 use Rattle.abs_step.specs.declared.reason.Reason.{Reason}
 use Rattle.abs_step.specs.declared.reason.Reason.TheVariants as reasons
@@ -14,7 +14,7 @@ use Rattle.cert_lines.specs.declared.row.Row.{Row}
 use Rattle.cert_lines.specs.declared.version.Version.{Version}
 use Rattle.cert_form.specs.Contents.{CertificateView}
 use Rattle.check_rules.specs.Acceptance.{Accepts, AreConsistent, Begins, CoversEntries, EntryFails, FitsRom, FitsWorkRam, IsRefused, WholeRefused}
-use Rattle.check_rules.specs.Table.{HasNoStack, IsConsistent, IsDeep, IsLowest, Passes}
+use Rattle.check_rules.specs.Table.{HasNoStack, IsConsistent, FitsDepth, IsLowest, Passes}
 use Rattle.check_ways.specs.Pays.{LeadsToRow, Pays, PaysCall}
 use Rattle.check_ways.specs.Ways.{CallsCallee, EntersCallee, GoesOn, IsExit, IsSubject, IsWay, SubjectView, WayView}
 use Rattle.z80_decode.specs.declared.operands.Register8.{Register8}
@@ -123,8 +123,8 @@ pays v s h = record {
 has_no_stack : (v : Version) (s : SubjectView) → HasNoStack s → HasNoStack (moved v s)
 has_no_stack v s h = record { main = h.main; empty = h.empty }
 
-is_deep : (v : Version) (s : SubjectView) → IsDeep s → IsDeep (moved v s)
-is_deep v s h = record {
+fits_depth : (v : Version) (s : SubjectView) → FitsDepth s → FitsDepth (moved v s)
+fits_depth v s h = record {
   row = h.row;
   nexts = h.nexts;
   calls = λ next callee is. h.calls next callee (calls s.cert.version (moved v s) next callee is);
@@ -136,7 +136,7 @@ stack_kept v s (inr all) = inr all
 
 passes : (v : Version) (s : SubjectView) (reason : Reason) → Passes s reason → Passes (moved v s) reason
 passes v s reasons.StackOverwrite h = stack_kept v s h
-passes v s reasons.StackDepth h = is_deep v s h
+passes v s reasons.StackDepth h = fits_depth v s h
 passes v s reasons.NotCovered h = goes_on v s h
 passes v s reasons.Rank h = λ next callee is. h next callee (calls s.cert.version (moved v s) next callee is)
 passes v s reasons.Time h = λ timed. pays v s (h timed)

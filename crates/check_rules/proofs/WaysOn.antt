@@ -7,8 +7,8 @@ use Rattle.abs_step.specs.declared.next.NextKind.{NextKind}
 use Rattle.abs_step.specs.declared.next.NextKind.TheVariants.{Jump, Call, Exit}
 use Rattle.check_cover.specs.Program.{callee_at}
 use Rattle.check_cover.specs.declared.program.Callee.{Callee}
-use Rattle.check_rules.specs.Stack.{NextIsDeep, RankFalls, called_by, callee_of}
-use Rattle.check_rules.specs.Table.{IsDeep, RanksFall, bytes_in}
+use Rattle.check_rules.specs.Stack.{NextFitsDepth, RankFalls, called_by, callee_of}
+use Rattle.check_rules.specs.Table.{FitsDepth, RanksFall, bytes_in}
 use Rattle.check_ways.specs.Ways.{CallsCallee, SubjectView, nexts_from, nexts_in, step_of}
 
 -- the successors of a row are those that the step gave
@@ -48,19 +48,19 @@ each_rank_falls s nexts e all k d within =
     let listed = subst (λ (ns : List Next). Contains ns next) (sym (ways_on s nexts e)) (Contains-get_or nexts k d within) in
     if_called (λ (c : Callee). c.proc.rank < s.proc.rank) (callee_of s next) (λ callee is. all next callee (calls_callee s next callee listed is))
 
-pub is_deep : (s : SubjectView) (nexts : List Next) → step_of s ≡ Ok nexts → bytes_in s s.row.state ≤ s.proc.depth → All (NextIsDeep s) nexts → IsDeep s
-is_deep s nexts e row all = record {
+pub fits_depth : (s : SubjectView) (nexts : List Next) → step_of s ≡ Ok nexts → bytes_in s s.row.state ≤ s.proc.depth → All (NextFitsDepth s) nexts → FitsDepth s
+fits_depth s nexts e row all = record {
   row = row;
   nexts = λ next leads. (here next leads).way;
   calls = λ next callee calls.
       when_called (λ (c : Callee). bytes_in s next.state + c.proc.depth ≤ s.proc.depth) (callee_of s next) callee (callee_called s next callee calls) (here next calls.leads).call;
 }
   where
-    here : (next : Next) → Contains (nexts_from s) next → NextIsDeep s next
-    here next leads = All-contains (NextIsDeep s) nexts next all (subst (λ (ns : List Next). Contains ns next) (ways_on s nexts e) leads)
+    here : (next : Next) → Contains (nexts_from s) next → NextFitsDepth s next
+    here next leads = All-contains (NextFitsDepth s) nexts next all (subst (λ (ns : List Next). Contains ns next) (ways_on s nexts e) leads)
 
-pub each_is_deep : (s : SubjectView) (nexts : List Next) → step_of s ≡ Ok nexts → IsDeep s → All (NextIsDeep s) nexts
-each_is_deep s nexts e deep k d within =
+pub each_fits_depth : (s : SubjectView) (nexts : List Next) → step_of s ≡ Ok nexts → FitsDepth s → All (NextFitsDepth s) nexts
+each_fits_depth s nexts e deep k d within =
     let next = get_or nexts k d in
     let listed = subst (λ (ns : List Next). Contains ns next) (sym (ways_on s nexts e)) (Contains-get_or nexts k d within) in
     record {

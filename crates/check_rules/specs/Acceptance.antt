@@ -57,8 +57,8 @@ pub record IsWithinBudget (budget : ℕ) (nmi : Option Proc) : Type 0 where
   pub time : IfSome nmi (λ proc. IfSome proc.time (λ time. time ≤ budget))
   pub least : budget ≤ max_budget
 
-abbrev pub MeetsBudget : CertificateView → Type 0
-MeetsBudget cert = IfSome cert.budget (λ budget. IsWithinBudget budget (nmi_of cert))
+abbrev pub HasBudget : CertificateView → Type 0
+HasBudget cert = IfSome cert.budget (λ budget. IsWithinBudget budget (nmi_of cert))
 
 -- ---- acceptance
 
@@ -73,7 +73,7 @@ pub record Accepts (rom : List ℕ) (cert : CertificateView) : Type 0 where
   pub entries : CoversEntries cert
   pub rows : AreConsistent rom cert (length cert.rows)
   pub depth : HasDepth cert
-  pub budget : MeetsBudget cert
+  pub budget : HasBudget cert
 
 -- ---- refusal
 
@@ -102,7 +102,7 @@ WholeRefused rom cert address reasons.Entry = EntryFails cert address × FitsRom
 WholeRefused rom cert address reasons.StackDepth =
     (address ≡ depth_address cert.budget) × Begins rom cert × AreConsistent rom cert (length cert.rows) × (HasDepth cert → ⊥)
 WholeRefused rom cert address reasons.Budget =
-    (address ≡ 102) × Begins rom cert × AreConsistent rom cert (length cert.rows) × HasDepth cert × (MeetsBudget cert → ⊥)
+    (address ≡ 102) × Begins rom cert × AreConsistent rom cert (length cert.rows) × HasDepth cert × (HasBudget cert → ⊥)
 WholeRefused rom cert address _ = ⊥
 
 -- a reason applies to a row and is its lowest, no reason applies to the rows before it, and the address is the row's

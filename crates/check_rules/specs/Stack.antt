@@ -19,7 +19,7 @@ abbrev pub callee_of : SubjectView → Next → Option Callee
 callee_of s next = called_by next.kind (callee_at s.cert next.address)
 
 -- the depth of the row's procedure has room for a successor, and for the callee if it is a call
-pub record NextIsDeep (s : SubjectView) (next : Next) : Type 0 where
+pub record NextFitsDepth (s : SubjectView) (next : Next) : Type 0 where
   pub way : bytes_in s next.state ≤ s.proc.depth
   pub call : IfSome (callee_of s next) (λ callee. bytes_in s next.state + callee.proc.depth ≤ s.proc.depth)
 

@@ -71,7 +71,7 @@ abbrev pub bytes_in : SubjectView → AbsState → ℕ
 bytes_in s state = entry_bytes s.proc.kind + 2 * length state.shape
 
 -- the depth of the row's procedure has room for the row, for each successor, and for each callee
-pub record IsDeep (s : SubjectView) : Type 0 where
+pub record FitsDepth (s : SubjectView) : Type 0 where
   pub row : bytes_in s s.row.state ≤ s.proc.depth
   pub nexts : (next : Next) → Contains (nexts_from s) next → bytes_in s next.state ≤ s.proc.depth
   pub calls : (next : Next) (callee : Callee) → CallsCallee s next callee → bytes_in s next.state + callee.proc.depth ≤ s.proc.depth
@@ -106,7 +106,7 @@ Passes s reasons.WriteUnmapped = AllWrites s (MissesClass (map_of_board s.cert) 
 Passes s reasons.StackOverwrite = HasNoStack s ⊎ AllWrites s (MissesRegion (map_of_board s.cert) s.cert.region)
 Passes s reasons.StackUnset = IsNotRefused s reasons.StackUnset
 Passes s reasons.StackShape = IsNotRefused s reasons.StackShape
-Passes s reasons.StackDepth = IsDeep s
+Passes s reasons.StackDepth = FitsDepth s
 Passes s reasons.NotCovered = GoesOn s
 Passes s reasons.Rank = RanksFall s
 Passes s (reasons.SavedRegister (saved.Pair pair)) = GivesBackPairs s (λ state. IsFirstLost state pair)

@@ -7,7 +7,7 @@ ghost use Rattle.check_rules.specs.Acceptance.{Accepts, AreConsistent, Begins, I
 
 use crate::refused::Refused;
 use crate::rows::check_row;
-use crate::whole::{fits_work_ram, has_depth, meets_budget, rom_for, uncovered_entry};
+use crate::whole::{fits_work_ram, has_depth, has_budget, rom_for, uncovered_entry};
 use abs_step::Reason;
 use address_map::{Map, Rom};
 use cert_contents::{Certificate, RowId};
@@ -44,7 +44,7 @@ pub fn examine(alloc: Global, rom: &[u8], certificate: &Certificate) -> Result<(
     if !has_depth(certificate) {
         return Err(of_whole(depth_address(certificate), Reason::StackDepth));
     }
-    if !meets_budget(certificate) {
+    if !has_budget(certificate) {
         return Err(of_whole(NMI_ADDRESS, Reason::Budget));
     }
     Ok(())

@@ -6,7 +6,7 @@ ghost use Rattle.check_ways.specs.Ways.{step_of, writes_from};
 
 use crate::instructions::{check_instruction, is_timed};
 use crate::saved::check_saved;
-use crate::stack::{is_deep, ranks_fall, row_is_deep};
+use crate::stack::{fits_depth, ranks_fall, row_fits_depth};
 use crate::writes::{check_cells, check_enabling, check_places};
 use abs_draft::DataWrite;
 use abs_step::{Next, Reason, RowStep};
@@ -46,7 +46,7 @@ fn lowest_of_refused(subject: &Subject, writes: &[DataWrite], refusal: Reason) -
     if let Err(reason) = check_places(subject, writes) {
         return reason;
     }
-    if number > 11 && !row_is_deep(subject) {
+    if number > 11 && !row_fits_depth(subject) {
         return Reason::StackDepth;
     }
     refusal
@@ -82,7 +82,7 @@ fn check_ways(subject: &Subject, nexts: &[Next], coverer: &mut Coverer) -> Resul
     ensures told { TellsLowest subject.now 14 result }
     ensures same { coverer.new ≡ coverer.old }
 {
-    if !is_deep(subject, nexts) {
+    if !fits_depth(subject, nexts) {
         return Err(Reason::StackDepth);
     }
     if !goes_on(subject, nexts, coverer) {

@@ -2,7 +2,7 @@
 
 ghost use Rattle.std.specs.Prelude.{◌≡◌, ◌↔◌, ◌≤◌, ◌+◌, ◌*◌, IsTrue, Ok, length};
 ghost use Rattle.std.specs.List.{All};
-ghost use Rattle.check_rules.specs.Stack.{NextIsDeep, RankFalls, callee_of};
+ghost use Rattle.check_rules.specs.Stack.{NextFitsDepth, RankFalls, callee_of};
 ghost use Rattle.check_rules.specs.Table.{Passes, bytes_in, entry_bytes};
 ghost use Rattle.check_ways.specs.Ways.{step_of};
 
@@ -13,21 +13,21 @@ use check_ways::Subject;
 use stack_shape::Shape;
 
 /// Whether the procedure's depth has room for the row, for each successor, and for each callee.
-pub(crate) fn is_deep(subject: &Subject, nexts: &[Next]) -> bool
+pub(crate) fn fits_depth(subject: &Subject, nexts: &[Next]) -> bool
     requires { step_of subject.now ≡ Ok nexts.now }
     ensures { IsTrue result ↔ Passes subject.now Reason.StackDepth }
 {
-    row_is_deep(subject) && all_are_deep(subject, nexts)
+    row_fits_depth(subject) && all_fit_depth(subject, nexts)
 }
 
 /// Whether the depth has room for each successor and for each callee.
-fn all_are_deep(subject: &Subject, nexts: &[Next]) -> bool
-    ensures { IsTrue result ↔ All (NextIsDeep subject.now) nexts.now }
+fn all_fit_depth(subject: &Subject, nexts: &[Next]) -> bool
+    ensures { IsTrue result ↔ All (NextFitsDepth subject.now) nexts.now }
 {
-    nexts.iter().all(|next| next_is_deep(subject, next))
+    nexts.iter().all(|next| next_fits_depth(subject, next))
 }
 
-pub(crate) fn row_is_deep(subject: &Subject) -> bool
+pub(crate) fn row_fits_depth(subject: &Subject) -> bool
     ensures { IsTrue result
         ↔ (bytes_in subject.now subject.now.row.state ≤ subject.now.proc.depth) }
 {
@@ -35,8 +35,8 @@ pub(crate) fn row_is_deep(subject: &Subject) -> bool
 }
 
 /// Whether the depth has room for a successor, and for the callee if it is a call.
-fn next_is_deep(subject: &Subject, next: &Next) -> bool
-    ensures { IsTrue result ↔ NextIsDeep subject.now next.now }
+fn next_fits_depth(subject: &Subject, next: &Next) -> bool
+    ensures { IsTrue result ↔ NextFitsDepth subject.now next.now }
 {
     let depth = u32::from(subject.proc.depth);
     let bytes = bytes_of(subject.proc.kind, &next.state.shape);

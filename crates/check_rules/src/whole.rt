@@ -5,7 +5,7 @@ ghost use Rattle.std.specs.List.{All};
 ghost use Rattle.check_cover.specs.Arrival.{first_arrival};
 ghost use Rattle.check_cover.specs.Covering.{Covered, CoversMain, CoversNmi};
 ghost use Rattle.cert_form.specs.Contents.{map_of_board, nmi_of};
-ghost use Rattle.check_rules.specs.Acceptance.{CoversEntries, EntryFails, FitsRom, FitsWorkRam, HasDepth, LiesOutside, MeetsBudget, depth_of, main_depth};
+ghost use Rattle.check_rules.specs.Acceptance.{CoversEntries, EntryFails, FitsRom, FitsWorkRam, HasDepth, LiesOutside, HasBudget, depth_of, main_depth};
 
 use abs_state::{AbsState, KeptCell};
 use address_map::{Map, Region, Rom};
@@ -144,8 +144,8 @@ pub fn nmi_of(certificate: &Certificate) -> Option<Proc>
 }
 
 /// Whether the NMI routine's time is at most the budget, and the budget at most 50,665 T-states.
-pub(crate) fn meets_budget(certificate: &Certificate) -> bool
-    ensures { IsTrue result ↔ MeetsBudget certificate.now }
+pub(crate) fn has_budget(certificate: &Certificate) -> bool
+    ensures { IsTrue result ↔ HasBudget certificate.now }
 {
     match certificate.budget() {
         Some(budget) => {

@@ -1,7 +1,7 @@
 -- In which state a row leaves its procedure (docs/CHECKER.md, "Successors, calls and exits").
 use Rattle.std.specs.Prelude.{◌&&◌, Bool, true, not, if◌then◌else◌, Option, Some, None, Result, Ok, Err}
 use Rattle.abs_state.specs.Mode.{is_unset}
-use Rattle.abs_state.specs.Narrowing.{condition_is}
+use Rattle.abs_state.specs.Restricting.{condition_is}
 use Rattle.abs_state.specs.declared.state.AbsState.{AbsState}
 use Rattle.abs_step.specs.Successors.{is_empty}
 use Rattle.z80_decode.specs.declared.fault.DecodeFault.{DecodeFault}

@@ -1,7 +1,7 @@
 // The exit of a row.
 
 ghost use Rattle.std.specs.Prelude.{◌≡◌, IfSome, Ok, Result, true};
-ghost use Rattle.abs_state.specs.Narrowing.{condition_is};
+ghost use Rattle.abs_state.specs.Restricting.{condition_is};
 ghost use Rattle.check_cover.specs.Program.{is_main};
 ghost use Rattle.check_tables.specs.Exits.{exit_by, is_at_end, state_left};
 ghost use Rattle.board_fetch.specs.Decoded.{StandsAt};
@@ -51,12 +51,12 @@ fn state_left(instr: &Instr, row: &RowRef) -> Option<AbsState>
     }
 }
 
-/// A state narrowed to where the condition is met; None if nothing is left.
+/// A state restricted to where the condition is met; None if nothing is left.
 fn state_where(condition: Condition, state: AbsState) -> Option<AbsState>
     ensures { result ≡ condition_is true condition state }
 {
     let mut left = state;
-    if left.narrow(true, condition) {
+    if left.restrict(true, condition) {
         Some(left)
     } else {
         None

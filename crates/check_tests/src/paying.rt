@@ -106,6 +106,6 @@ fn turns_of_a_loop_and_the_time_of_a_callee(rt: HostRuntime) -> Result<(), Fail>
 }
 
 #[test]
-fn rows_that_cover_and_rows_that_meet(rt: HostRuntime) -> Result<(), Fail> {
+fn rows_that_cover_and_rows_that_overlap(rt: HostRuntime) -> Result<(), Fail> {
     see_told(&rt, rt.alloc(), &[FROM_NOWHERE, COUNTS_AN_INPUT])
 }

@@ -4,7 +4,7 @@ use Rattle.std.specs.List.{All, Contains}
 use Rattle.std.proofs.lemmas.Bool.{cases_lt, false≢true}
 use Rattle.std.proofs.lemmas.List.Elements.{All-contains, Contains-get_or}
 use Rattle.std.proofs.lemmas.Option.{get_or_from_slice_get, same_Some, slice_get_read, slice_get_within}
-use Rattle.abs_state.specs.Covers.{MeetsState}
+use Rattle.abs_state.specs.Covers.{OverlapsState}
 use Rattle.abs_step.specs.declared.next.Next.{Next}
 use Rattle.abs_step.specs.declared.next.NextKind.{NextKind}
 use Rattle.abs_step.specs.declared.next.NextKind.TheVariants.{Jump, Call, Exit}
@@ -13,7 +13,7 @@ use Rattle.check_cover.specs.Program.{IsRowAt, callee_at}
 use Rattle.check_cover.specs.declared.program.Callee.{Callee}
 use Rattle.cert_lines.specs.declared.row.Row.{Row}
 use Rattle.check_ways.specs.Parts.{AnyExit, CallPays, KindPays, NextPays, OnSomeExit, PaysToRow, PaysWay}
-use Rattle.check_ways.specs.Pays.{IsAsked, IsLone, MeetsTime, Pays, PaysCall, PaysOut, PaysTo}
+use Rattle.check_ways.specs.Pays.{IsAsked, IsLone, IsWithinTime, Pays, PaysCall, PaysOut, PaysTo}
 use Rattle.check_ways.specs.Ways.{SubjectView, CallsCallee, IsJump, IsWay, WayView, call_cost, jump_way, nexts_from, nexts_in, return_way, step_of}
 
 -- ---- the rows where a way arrives
@@ -64,7 +64,7 @@ pays_more s way start k answer found exact each n from below =
 
 -- a row that is asked is paid exactly where the potentials say so
 pub row_paid : (s : SubjectView) (way : WayView) (k : ℕ) (row : Row) (lone answer : Bool) → slice_get s.cert.rows k ≡ Some row → (IsTrue lone ↔ IsLone s.cert way.arrival.proc way.arrival.address) →
-    IsTrue lone ⊎ MeetsState row.state way.state → (IsTrue answer ↔ PaysTo s.row way.cost way.arrival.effect row) → IsTrue answer ↔ PaysToRow s way k
+    IsTrue lone ⊎ OverlapsState row.state way.state → (IsTrue answer ↔ PaysTo s.row way.cost way.arrival.effect row) → IsTrue answer ↔ PaysToRow s way k
 row_paid s way k row lone answer at alone asks exact = (
   (λ told. record {
     asked = λ other at_other asked.
@@ -73,9 +73,9 @@ row_paid s way k row lone answer at alone asks exact = (
   (λ pays. exact.1 (pays.asked row at (asked_by asks))),
 )
   where
-    asked_by : IsTrue lone ⊎ MeetsState row.state way.state → IsAsked s.cert way row
+    asked_by : IsTrue lone ⊎ OverlapsState row.state way.state → IsAsked s.cert way row
     asked_by (inl one) = inl (alone.0 one)
-    asked_by (inr meets) = inr meets
+    asked_by (inr overlaps) = inr overlaps
 
 -- ---- calls
 
@@ -148,7 +148,7 @@ kind_of s next pays leads Exit is = pays.exits next leads is
 
 -- ---- both
 
-pub all_pay : (s : SubjectView) (nexts : List Next) → step_of s ≡ Ok nexts → IsSome s.row.potential → (s.row.address ≡ s.proc.entry → MeetsTime s.proc s.row) →
+pub all_pay : (s : SubjectView) (nexts : List Next) → step_of s ≡ Ok nexts → IsSome s.row.potential → (s.row.address ≡ s.proc.entry → IsWithinTime s.proc s.row) →
     All (NextPays s) nexts ↔ Pays s
 all_pay s nexts step owns entry =
     let same : nexts_from s ≡ nexts = ap nexts_in step in (

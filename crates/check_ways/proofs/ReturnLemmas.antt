@@ -8,7 +8,7 @@ use Rattle.abs_draft.specs.Ground.{GroundView}
 use Rattle.abs_draft.specs.Outcomes.{after_moves, before_test, behind_test, known_before, test_of}
 use Rattle.abs_draft.specs.declared.draft.AbsDraft.{AbsDraft}
 use Rattle.abs_state.specs.Mode.{is_unset}
-use Rattle.abs_state.specs.Narrowing.{Cut, a_is_below, byte_is, carry_is, condition_is, cut_byte, to_all_but, to_range, with_cut_pair, zero_is}
+use Rattle.abs_state.specs.Restricting.{Cut, a_is_below, byte_is, carry_is, condition_is, cut_byte, to_all_but, to_range, with_cut_pair, zero_is}
 use Rattle.abs_state.specs.declared.fact.FlagFact.{FlagFact}
 use Rattle.abs_state.specs.declared.fact.FlagFact.TheVariants.{Zero, Compared}
 use Rattle.abs_state.specs.declared.mode.Mode.{Mode}

@@ -1,6 +1,6 @@
 -- What a row of a timed procedure pays, and the T-states between rows of a walk (docs/CHECKER.md, "Paying").
 use Rattle.std.specs.Prelude.{ℕ, List, ◌≡◌, ◌≤◌, ◌⊎◌, pos, [], slice_get, Option, Some, None, IsSome, Contains, unwrap_or}
-use Rattle.abs_state.specs.Covers.{MeetsState}
+use Rattle.abs_state.specs.Covers.{OverlapsState}
 use Rattle.abs_state.specs.Variables.{range_of}
 use Rattle.abs_state.specs.declared.state.AbsState.{AbsState}
 use Rattle.abs_step.specs.declared.next.Next.{Next}
@@ -36,9 +36,9 @@ AreOne cert proc address = (i j : ℕ) (row other : Row) → slice_get cert.rows
 abbrev pub IsLone : CertificateView → (proc address : ℕ) → Type 0
 IsLone cert proc address = (split_at cert proc address ≡ None) × AreOne cert proc address
 
--- a row is asked if it is the only one there and there is no split, or if its state meets the one that arrives
+-- a row is asked if it is the only one there and there is no split, or if its state overlaps the one that arrives
 abbrev pub IsAsked : CertificateView → WayView → Row → Type 0
-IsAsked cert way row = IsLone cert way.arrival.proc way.arrival.address ⊎ MeetsState row.state way.state
+IsAsked cert way row = IsLone cert way.arrival.proc way.arrival.address ⊎ OverlapsState row.state way.state
 
 -- a way arrives at this row, and the row is asked
 pub record Lands (cert : CertificateView) (way : WayView) (target : Row) : Type 0 where
@@ -72,8 +72,8 @@ cost_before Nmi = 11
 cost_before Sub = 0
 
 -- over its ranges a row's potential and the T-states before the entry are within the procedure's time
-abbrev pub MeetsTime : Proc → Row → Type 0
-MeetsTime proc row = Decreases (constant_sum (unwrap_or proc.time 0)) (potential_of row) (cost_before proc.kind) unchanged (range_of row.state) (range_of row.state)
+abbrev pub IsWithinTime : Proc → Row → Type 0
+IsWithinTime proc row = Decreases (constant_sum (unwrap_or proc.time 0)) (potential_of row) (cost_before proc.kind) unchanged (range_of row.state) (range_of row.state)
 
 -- a row of a timed procedure pays
 pub record Pays (s : SubjectView) : Type 0 where
@@ -81,7 +81,7 @@ pub record Pays (s : SubjectView) : Type 0 where
   pub ways : (way : WayView) (target : Row) → LeadsToRow s way target → PaysTo s.row way.cost way.arrival.effect target
   pub calls : (next : Next) (callee : Callee) → CallsCallee s next callee → PaysCall s next callee
   pub exits : (next : Next) → Contains (nexts_from s) next → next.kind ≡ Exit → PaysOut s.row next.cost
-  pub entry : s.row.address ≡ s.proc.entry → MeetsTime s.proc s.row
+  pub entry : s.row.address ≡ s.proc.entry → IsWithinTime s.proc s.row
 
 -- ---- walks
 

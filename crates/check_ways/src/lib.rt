@@ -4,14 +4,14 @@
 mod effects;
 mod exits;
 mod going;
-mod meeting;
+mod overlapping;
 mod paying;
 mod subject;
 mod ways;
 
 pub use exits::may_have_exit;
 pub use going::goes_on;
-pub use meeting::{is_lone, meets_state};
+pub use overlapping::{is_lone, overlaps_state};
 pub use paying::{cost_before, pays};
 pub use subject::Subject;
 pub use ways::Way;

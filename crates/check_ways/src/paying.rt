@@ -5,10 +5,10 @@ ghost use Rattle.std.specs.Prelude.{◌≡◌, ◌≤◌, ◌↔◌, IsSome, IsT
 ghost use Rattle.check_cover.specs.Program.{callee_at};
 ghost use Rattle.cert_lines.specs.declared.row.Row.{Row};
 ghost use Rattle.check_ways.specs.Parts.{AtEachExit, CallPays, NextPays, AreNumbersAt, OnEachExit, OnEachLeft, PaysAll, PaysNumber, PaysPlace, PaysReturn, PaysToRow, PaysWay};
-ghost use Rattle.check_ways.specs.Pays.{IsLone, MeetsTime, Pays, PaysCall, PaysOut, PaysTo, constant_sum, cost_before, potential_of};
+ghost use Rattle.check_ways.specs.Pays.{IsLone, IsWithinTime, Pays, PaysCall, PaysOut, PaysTo, constant_sum, cost_before, potential_of};
 ghost use Rattle.check_ways.specs.Ways.{behind_of, step_of};
 
-use crate::meeting::is_lone;
+use crate::overlapping::is_lone;
 use crate::subject::Subject;
 use crate::ways::Way;
 use abs_step::{Next, NextKind};
@@ -267,8 +267,8 @@ fn linear_of(time: u32) -> Linear
 }
 
 /// Whether the row's potential and the T-states before the entry are within its procedure's time.
-fn meets_time(subject: &Subject) -> bool
-    ensures { IsTrue result ↔ MeetsTime subject.now.proc subject.now.row }
+fn is_within_time(subject: &Subject) -> bool
+    ensures { IsTrue result ↔ IsWithinTime subject.now.proc subject.now.row }
 {
     let left = linear_of(subject.time());
     let to = potential_of(&subject.row);
@@ -284,12 +284,12 @@ fn has_potential(subject: &Subject) -> bool
 }
 
 /// Whether the row keeps its procedure's time, if it is at the entry.
-fn meets_entry(subject: &Subject) -> bool
+fn overlaps_entry(subject: &Subject) -> bool
     ensures { IsTrue result
         ↔ (subject.now.row.address ≡ subject.now.proc.entry
-        → MeetsTime subject.now.proc subject.now.row) }
+        → IsWithinTime subject.now.proc subject.now.row) }
 {
-    subject.row.address != subject.proc.entry || meets_time(subject)
+    subject.row.address != subject.proc.entry || is_within_time(subject)
 }
 
 /// Whether a row pays, given its successors (docs/CHECKER.md, "Paying"). It has to have a potential, which pays for
@@ -302,7 +302,7 @@ pub fn pays(subject: &Subject, nexts: &[Next]) -> bool
     if !has_potential(subject) {
         return false;
     }
-    if !meets_entry(subject) {
+    if !overlaps_entry(subject) {
         return false;
     }
     nexts_pay(subject, nexts)

@@ -1,14 +1,14 @@
 // A way: a successor within a procedure, and the rows to which it leads.
 
 ghost use Rattle.std.specs.Prelude.{◌≡◌, ◌≤◌, ◌<◌, ◌↔◌, ◌⊎◌, ℕ, Contains, Some, IsTrue, length, slice_get, unwrap_or};
-ghost use Rattle.abs_state.specs.Covers.{MeetsState};
+ghost use Rattle.abs_state.specs.Covers.{OverlapsState};
 ghost use Rattle.check_cover.specs.Program.{callee_at};
 ghost use Rattle.cert_lines.specs.declared.row.Row.{Row};
 ghost use Rattle.check_ways.specs.Pays.{Lands};
 ghost use Rattle.check_ways.specs.Ways.{call_cost, jump_way, return_way};
 
 use crate::effects::effect_of_call;
-use crate::meeting::{is_lone, meets_state};
+use crate::overlapping::{is_lone, overlaps_state};
 use crate::subject::Subject;
 use abs_draft::settled;
 use abs_state::AbsState;
@@ -110,11 +110,11 @@ impl<'a> Way<'a> {
         certificate.rows_at(self.proc, self.address)
     }
 
-    /// Whether a row where the way arrives is asked: it is the only row there, or its state meets the one that arrives.
+    /// Whether a row where the way arrives is asked: it is the only row there, or its state overlaps the one that arrives.
     pub(crate) fn asks(&self, lone: bool, row: &RowRef) -> bool
-        ensures { IsTrue result ↔ (IsTrue lone ⊎ MeetsState row.now.state self.now.state) }
+        ensures { IsTrue result ↔ (IsTrue lone ⊎ OverlapsState row.now.state self.now.state) }
     {
-        lone || meets_state(row, &self.state)
+        lone || overlaps_state(row, &self.state)
     }
 
     /// Whether the way arrives at this row of the certificate, and the row is asked.

@@ -4,7 +4,7 @@ use Rattle.intervals.specs.declared.pair.Pair.{Pair}
 use Rattle.intervals.specs.declared.reg_pair.RegPair.{RegPair}
 use Rattle.intervals.specs.Domain.{Entry}
 use Rattle.intervals.specs.RegPair.{place_of_pair}
-use Rattle.intervals.specs.Range.{RangeView, Within, Covers, Meets, hull, full, intersection}
+use Rattle.intervals.specs.Range.{RangeView, Within, Covers, Overlaps, hull, full, intersection}
 
 -- The word and its two bytes lie in their ranges. With an origin, the word is what that pair was at the entry.
 pub record HoldsPair (p : Pair) (entry : Entry) (v : ℕ) : Type 0 where
@@ -21,10 +21,10 @@ pub record CoversPair (a b : Pair) : Type 0 where
   pub origin : IfSome a.origin (λ r. b.origin ≡ Some r)
 
 -- the words share a value, the high bytes do, and the low bytes do
-pub record MeetsPair (a b : Pair) : Type 0 where
-  pub word : Meets a.word b.word
-  pub high : Meets a.high b.high
-  pub low : Meets a.low b.low
+pub record OverlapsPair (a b : Pair) : Type 0 where
+  pub word : Overlaps a.word b.word
+  pub high : Overlaps a.high b.high
+  pub low : Overlaps a.low b.low
 
 -- the origin if both have the same
 abbrev pub shared_origin : Option RegPair → Option RegPair → Option RegPair

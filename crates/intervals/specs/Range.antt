@@ -32,8 +32,8 @@ abbrev pub hull : RangeView → RangeView → RangeView
 hull a b = record { low = min a.low b.low; high = max a.high b.high }
 
 -- the ranges share a value
-abbrev pub Meets : RangeView → RangeView → Type 0
-Meets a b = (a.low ≤ b.high) × (b.low ≤ a.high)
+abbrev pub Overlaps : RangeView → RangeView → Type 0
+Overlaps a b = (a.low ≤ b.high) × (b.low ≤ a.high)
 
 -- the values that lie in both ranges, if there are any
 abbrev pub intersection : RangeView → RangeView → Option RangeView

@@ -1,7 +1,7 @@
 // Ranges of bytes: constructors, membership, cuts and joins.
 ghost use Rattle.std.specs.Prelude.{◌≡◌, ℕ, ◌≤◌, ◌≢◌, ◌↔◌, IsTrue, SomeIff, IsSomeAnd};
 ghost use Rattle.std.proofs.Common.{rules};
-ghost use Rattle.intervals.specs.Range.{Within, Covers, Meets, single, full, between, hull, intersection, without};
+ghost use Rattle.intervals.specs.Range.{Within, Covers, Overlaps, single, full, between, hull, intersection, without};
 
 use crate::domain::Domain;
 use crate::range::ByteRange;
@@ -98,8 +98,8 @@ impl ByteRange {
     }
 
     /// Whether the ranges share a byte.
-    pub fn meets(self, other: ByteRange) -> bool
-        ensures { IsTrue result ↔ Meets self other }
+    pub fn overlaps(self, other: ByteRange) -> bool
+        ensures { IsTrue result ↔ Overlaps self other }
     {
         self.low <= other.high && other.low <= self.high
     }

@@ -58,7 +58,7 @@ impl WordRange {
 }
 
 impl Pair {
-    ghost use Rattle.intervals.specs.Pair.{HoldsPair, MeetsPair, full_pair, normal_form, written_word, written_bytes, with_word_cut, with_high_cut, with_low_cut};
+    ghost use Rattle.intervals.specs.Pair.{HoldsPair, OverlapsPair, full_pair, normal_form, written_word, written_bytes, with_word_cut, with_high_cut, with_low_cut};
 
     /// A pair about which nothing is known.
     pub fn full() -> Pair
@@ -90,10 +90,10 @@ impl Pair {
     }
 
     /// Whether the words share a value, the high bytes do, and the low bytes do. Origins are not compared.
-    pub fn meets(self, other: Pair) -> bool
-        ensures { IsTrue result ↔ MeetsPair self other }
+    pub fn overlaps(self, other: Pair) -> bool
+        ensures { IsTrue result ↔ OverlapsPair self other }
     {
-        self.word.meets(other.word) && self.high.meets(other.high) && self.low.meets(other.low)
+        self.word.overlaps(other.word) && self.high.overlaps(other.high) && self.low.overlaps(other.low)
     }
 
     /// The pair after the three cuts of the normal form, or None if one of them leaves nothing. The cuts are not

@@ -26,10 +26,10 @@ fn right_if(is_wanted: bool) -> Came {
 }
 
 /// The outcome of `order`, with the expected procedures: an order, or a cycle.
-fn ordered(alloc: Global, calls: &[Edge], wanted: &[ProcId], is_circle: bool) -> Came {
+fn ordered(alloc: Global, calls: &[Edge], wanted: &[ProcId], is_cycle: bool) -> Came {
     match order(alloc, calls) {
-        Ok(list) => right_if(!is_circle && list.as_slice() == wanted),
-        Err(GraphFault::Cycle(list)) => right_if(is_circle && list.as_slice() == wanted),
+        Ok(list) => right_if(!is_cycle && list.as_slice() == wanted),
+        Err(GraphFault::Cycle(list)) => right_if(is_cycle && list.as_slice() == wanted),
         Err(GraphFault::NoMemory) => Came::Refused,
     }
 }
@@ -53,7 +53,7 @@ fn callees_first(rt: HostRuntime) {
 }
 
 /// Calls, and the cycle reported for them.
-const CIRCLES: &[(&[Edge], &[ProcId])] = &[
+const CYCLES: &[(&[Edge], &[ProcId])] = &[
     // A procedure that calls itself.
     (calls!(7 7), &[7]),
     // The highest number.
@@ -85,11 +85,11 @@ const CIRCLES: &[(&[Edge], &[ProcId])] = &[
 
 /// The lowest of the shortest cycles.
 #[test]
-fn circles_are_told(rt: HostRuntime) {
-    for (place, &(calls, circle)) in CIRCLES.iter().enumerate() {
+fn cycles_are_told(rt: HostRuntime) {
+    for (place, &(calls, cycle)) in CYCLES.iter().enumerate() {
         assert!(rt;
-            ordered(rt.alloc(), calls, circle, true) == Came::Right,
-            "circle {place}"
+            ordered(rt.alloc(), calls, cycle, true) == Came::Right,
+            "cycle {place}"
         );
     }
 }
@@ -121,12 +121,12 @@ const CALL: Edge = Edge {
 };
 
 #[test]
-fn a_chain_of_all_and_a_circle(rt: HostRuntime) {
-    let (mut chain, mut circle) = ([CALL; 1023], [CALL; 1024]);
+fn a_chain_of_all_and_a_cycle(rt: HostRuntime) {
+    let (mut chain, mut cycle) = ([CALL; 1023], [CALL; 1024]);
     link(&mut chain);
-    link(&mut circle);
+    link(&mut cycle);
     assert!(rt; ordered(rt.alloc(), &chain, &numbers(1023, 0xFFFF), false) == Came::Right);
-    assert!(rt; ordered(rt.alloc(), &circle, &numbers(0, 1), true) == Came::Right);
+    assert!(rt; ordered(rt.alloc(), &cycle, &numbers(0, 1), true) == Came::Right);
 }
 
 /// Procedure 0 calls 1 with 4 bytes held, and 2 with 2; 1 calls 2 with 6.
@@ -169,7 +169,7 @@ fn least_depths(rt: HostRuntime) {
 }
 
 /// Procedure 1 calls itself, with 2 bytes held.
-fn held_circle() -> [Held; 1]
+fn held_cycle() -> [Held; 1]
     ensures { (call : Held) → Contains result call → (call.caller < 4) × (call.callee < 4) }
 {
     [Held {
@@ -179,16 +179,16 @@ fn held_circle() -> [Held; 1]
     }]
 }
 
-fn is_circle_of_one(alloc: Global) -> bool {
-    match depths(alloc, &[1, 3, 5, 9], &held_circle()) {
+fn is_cycle_of_one(alloc: Global) -> bool {
+    match depths(alloc, &[1, 3, 5, 9], &held_cycle()) {
         Err(GraphFault::Cycle(list)) => list.as_slice() == [1].as_slice(),
         _ => false,
     }
 }
 
 #[test]
-fn no_depths_on_a_circle(rt: HostRuntime) {
-    assert!(rt; is_circle_of_one(rt.alloc()));
+fn no_depths_on_a_cycle(rt: HostRuntime) {
+    assert!(rt; is_cycle_of_one(rt.alloc()));
 }
 
 /// With one growth refused (`tools/memory.sh map_tests`), one call answers `NoMemory`, and the next one is not

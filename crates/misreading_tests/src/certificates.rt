@@ -171,7 +171,7 @@ const ROWS: &[(&[u8], &str, &str)] = &[
         end\n",
         "refused 0068 17 Time\n",
     ),
-    // Where states are split, a row has to be paid for only if it meets the state.
+    // Where states are split, a row has to be paid for only if it overlaps the state.
     // LD SP,4400H; LD A,01H; LD (7001H),A; XOR A; LD (7001H),A; JR -2; 0066: RETN; NOP; RET: with the fact, no
     // registers reach the RET
     (

@@ -115,7 +115,7 @@ const ROWS: &[(&[u8], &str, &str)] = &[
         ),
         TABLE,
     ),
-    // A row can change more than 5,000 times before its ranges are dropped. Two contradictory facts narrow HL and DE by
+    // A row can change more than 5,000 times before its ranges are dropped. Two contradictory facts restrict HL and DE by
     // one at each end in each turn of the DJNZ, about 8,000 times. Then the row before it has a successor that it does
     // not cover.
     // LD SP,4400H; LD A,(6000H); AND 3FH; LD H,A; LD A,(6000H); LD L,A; LD D,H; LD E,L; LD A,(6000H); AND 07H; LD B,A;

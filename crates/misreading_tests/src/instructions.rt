@@ -115,7 +115,7 @@ const ROWS: &[(&[u8], &str, &str)] = &[
         said!(""),
         "refused 000B 6 WriteRom\n",
     ),
-    // What a callee knows about a pair that it preserves does not narrow the caller's range.
+    // What a callee knows about a pair that it preserves does not restrict the caller's range.
     // LD SP,4400H; LD BC,(4000H); CALL 0014H; LD A,B; ADD A,40H; LD H,A; LD (HL),00H; JR -2; NOP; NOP; LD A,B; CP
     // 10H; JR NC,-2; RET
     (

@@ -6,7 +6,7 @@ use thiserror::Error;
 #[derive(Clone, Copy, Debug, Error, PartialEq, Eq)]
 pub enum TimeFault {
     /// Its rows have a cycle. This is the lowest address of a row on one.
-    #[error("the rows of the procedure go round at {0:04X}")]
+    #[error("the rows of the procedure form a cycle at {0:04X}")]
     Cycle(u16),
     /// The procedure has no time.
     #[error("the procedure has no time")]

@@ -176,8 +176,8 @@ fn bytes_hold() -> bool {
         && range.join(&bytes(20, 30)) == bytes(4, 30)
         && range.covers(&bytes(5, 9))
         && !range.covers(&bytes(5, 10))
-        && range.meets(bytes(9, 20))
-        && !range.meets(bytes(10, 20))
+        && range.overlaps(bytes(9, 20))
+        && !range.overlaps(bytes(10, 20))
         && range.value().is_none()
         && ByteRange::single(7).value() == Some(7)
 }
@@ -301,8 +301,8 @@ fn joins_hold() -> bool {
     let high = Pair::of_word(words(0x4200, 0x4201));
     let both = low.join(&high);
     is_of(both, words(0x4000, 0x4201), bytes(0x40, 0x42), bytes(0, 3))
-        && !low.meets(high)
-        && both.meets(high)
+        && !low.overlaps(high)
+        && both.overlaps(high)
         && both.covers(&low)
         && !low.is_full()
 }

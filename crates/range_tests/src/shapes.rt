@@ -176,7 +176,7 @@ fn changes_by_the_table(rt: HostRuntime) {
     assert!(rt; nothing_is_taken_of_none());
 }
 
-/// Two shapes, whether the first covers the second, whether the second covers the first, and whether they meet.
+/// Two shapes, whether the first covers the second, whether the second covers the first, and whether they overlap.
 type Pairing = (&'static [Known], &'static [Known], bool, bool, bool);
 
 const PAIRINGS: &[Pairing] = &[
@@ -231,12 +231,12 @@ const PAIRINGS: &[Pairing] = &[
     ),
 ];
 
-fn are_as_told((one, other, covers, covered, meet): Pairing) -> bool {
+fn are_as_told((one, other, covers, covered, overlap): Pairing) -> bool {
     let (one, other) = (shape_of(one), shape_of(other));
     one.covers(&other) == covers
         && other.covers(&one) == covered
-        && one.meets(&other) == meet
-        && other.meets(&one) == meet
+        && one.overlaps(&other) == overlap
+        && other.overlaps(&one) == overlap
 }
 
 #[test]

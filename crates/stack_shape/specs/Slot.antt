@@ -2,7 +2,7 @@
 use Rattle.std.specs.Prelude.{ℕ}
 use Rattle.stack_shape.specs.declared.slot.Slot.{Slot}
 use Rattle.intervals.specs.Domain.{Entry}
-use Rattle.intervals.specs.Pair.{HoldsPair, CoversPair, MeetsPair, hull_of_pairs}
+use Rattle.intervals.specs.Pair.{HoldsPair, CoversPair, OverlapsPair, hull_of_pairs}
 
 -- the word is in the slot's pair
 abbrev pub HoldsSlot : Slot → Entry → ℕ → Type 0
@@ -13,8 +13,8 @@ abbrev pub CoversSlot : Slot → Slot → Type 0
 CoversSlot a b = CoversPair a.pair b.pair
 
 -- the ranges of the two pairs share a value each
-abbrev pub MeetsSlot : Slot → Slot → Type 0
-MeetsSlot a b = MeetsPair a.pair b.pair
+abbrev pub OverlapsSlot : Slot → Slot → Type 0
+OverlapsSlot a b = OverlapsPair a.pair b.pair
 
 -- the join of the two pairs
 abbrev pub hull_of_slots : Slot → Slot → Slot

@@ -48,7 +48,7 @@ impl Clone for Shape {
 impl Shape {
     ghost use Rattle.stack_shape.specs.declared.slot.Slot.{Slot};
     ghost use Rattle.stack_shape.specs.Slot.{HoldsSlot};
-    ghost use Rattle.stack_shape.specs.Shape.{HoldsShape, CoversShape, MeetsShape, hull_of_shapes};
+    ghost use Rattle.stack_shape.specs.Shape.{HoldsShape, CoversShape, OverlapsShape, hull_of_shapes};
 
     /// The shape without slots, with which an activation begins.
     pub fn empty() -> Shape
@@ -165,12 +165,12 @@ impl Shape {
         Some(before)
     }
 
-    /// Whether the shapes have one length and their slots meet, place by place.
-    pub fn meets(&self, other: &Shape) -> bool
-        ensures { IsTrue result ↔ MeetsShape self.now other.now }
+    /// Whether the shapes have one length and their slots overlap, place by place.
+    pub fn overlaps(&self, other: &Shape) -> bool
+        ensures { IsTrue result ↔ OverlapsShape self.now other.now }
     {
         let (mine, theirs) = (self.slots(), other.slots());
-        mine.len() == theirs.len() && mine.iter().zip(theirs).all(|(a, b)| a.pair.meets(b.pair))
+        mine.len() == theirs.len() && mine.iter().zip(theirs).all(|(a, b)| a.pair.overlaps(b.pair))
     }
 
     /// Whether this shape covers the other: they have one length, and each slot covers the other's at its place.

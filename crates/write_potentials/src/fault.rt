@@ -8,7 +8,7 @@ use thiserror::Error;
 #[derive(Clone, Copy, Debug, Error, PartialEq, Eq)]
 pub enum PotentialFault {
     /// The rows have a cycle that passes no loop's row. This is the lowest address of a row on such a cycle.
-    #[error("no loop bounds the rows that go round at {0:04X}")]
+    #[error("no loop bounds the cycle of rows at {0:04X}")]
     Unbounded(u16),
     /// A potential is above 1,000,000,000 T-states, or a turn of a loop costs more than 1,000,000.
     #[error("a certificate has no room for a potential")]

@@ -12,7 +12,7 @@ use call_graph::ProcId;
 use cert_contents::Certificate;
 use loop_bounds::{Linear, Variable};
 use std::alloc::Global;
-use write_requests::{Placed, Requests, Turns, placed_rows, requests_of, rows_on_circles};
+use write_requests::{Placed, Requests, Turns, placed_rows, requests_of, rows_on_cycles};
 
 /// A potential for each row of a procedure, in the order of the rows (docs/ANALYSIS.md, "Potentials"). `times` has the
 /// T-states of procedures by their numbers. The ROM has to have as many bytes as the certificate says.
@@ -63,8 +63,8 @@ fn apart_from_loops(
     named: &[bool],
 ) -> Result<Vec<Placed>, PotentialFault> {
     let apart = placed_rows(alloc, all, named)?;
-    let on_circles = rows_on_circles(alloc, all, &apart)?;
-    match on_circles.iter().position(|on_one| *on_one) {
+    let on_cycles = rows_on_cycles(alloc, all, &apart)?;
+    match on_cycles.iter().position(|on_one| *on_one) {
         None => Ok(apart),
         Some(row) => {
             let id = first.saturating_add(row.min(65_535) as u32);
@@ -86,7 +86,7 @@ fn solved<'a>(
 ) -> Result<Solving<'a>, PotentialFault> {
     let none = vec![in alloc; false; all.len()]?;
     let placed = placed_rows(alloc, all, &none)?;
-    let on_circles = rows_on_circles(alloc, all, &placed)?;
+    let on_cycles = rows_on_cycles(alloc, all, &placed)?;
     let sorted = by_groups(alloc, &placed)?;
     let mut turns = Turns::new(alloc, all, &placed, named)?;
     let mut solving = Solving::new(alloc, certificate, first, all)?;
@@ -99,7 +99,7 @@ fn solved<'a>(
             &mut solving,
             &mut turns,
             rows,
-            &on_circles,
+            &on_cycles,
             counters,
             apart,
         )?;
@@ -129,14 +129,14 @@ fn solve(
     solving: &mut Solving,
     turns: &mut Turns,
     rows: &[Placed],
-    on_circles: &[bool],
+    on_cycles: &[bool],
     counters: &[Option<Variable>],
     apart: &[Placed],
 ) -> Result<(), PotentialFault> {
     let Some(first) = rows.first().copied() else {
         return Ok(());
     };
-    if on_circles.get(usize::from(first.row)).copied() == Some(true) {
+    if on_cycles.get(usize::from(first.row)).copied() == Some(true) {
         let mut group = group_of(alloc, turns, rows, counters, apart)?;
         return solving.solve(&mut group);
     }

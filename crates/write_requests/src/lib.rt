@@ -2,12 +2,12 @@
 // (docs/ANALYSIS.md, "Potentials").
 #![tactic(auto)]
 
-mod circles;
+mod cycles;
 mod groups;
 mod requests;
 mod turns;
 
-pub use circles::rows_on_circles;
+pub use cycles::rows_on_cycles;
 pub use groups::{Placed, placed_rows};
 pub use requests::{Request, Requests, requests_of};
 pub use turns::Turns;

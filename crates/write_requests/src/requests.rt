@@ -10,7 +10,7 @@ use address_map::{Map, Rom};
 use call_graph::ProcId;
 use cert_contents::{Certificate, RowId};
 use check_cover::{Callee, callee_at};
-use check_ways::{Subject, is_lone, meets_state};
+use check_ways::{Subject, is_lone, overlaps_state};
 use loop_bounds::Effect;
 use std::alloc::{AllocError, Global};
 
@@ -48,10 +48,10 @@ fn greater(one: Option<u32>, other: u32) -> Option<u32> {
     }
 }
 
-/// Whether the row with this number meets a state.
+/// Whether the row with this number overlaps a state.
 fn is_met(certificate: &Certificate, id: RowId, state: &AbsState) -> bool {
     match certificate.row(id) {
-        Some(row) => meets_state(&row, state),
+        Some(row) => overlaps_state(&row, state),
         None => false,
     }
 }

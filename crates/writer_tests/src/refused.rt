@@ -19,7 +19,7 @@ const PLAIN: Said = These(plain!(""));
 const WITH_NMI: Said = These(with_nmi!(""));
 
 /// Two procedures that call each other, and one that calls the second of them.
-const CIRCLE: [u8; 24] = [
+const CYCLE: [u8; 24] = [
     0x31, 0x00, 0x44, 0xCD, 0x0C, 0x00, 0xCD, 0x10, 0x00, 0x18, 0xFE, 0x00, 0xCD, 0x14, 0x00, 0xC9,
     0xCD, 0x14, 0x00, 0xC9, 0xCD, 0x0C, 0x00, 0xC9,
 ];
@@ -100,7 +100,7 @@ const REFUSED: &[(&[u8], &[u8], Said, Why)] = &[
         Recursion(&[0x0008]),
     ),
     // The cycle begins at the lowest.
-    (&CIRCLE, &[], PLAIN, Recursion(&[0x000C, 0x0014])),
+    (&CYCLE, &[], PLAIN, Recursion(&[0x000C, 0x0014])),
     (
         &ENABLING,
         &[0xC5, 0x06, 0x08, 0x10, 0xFE, 0xC1, 0xC9],

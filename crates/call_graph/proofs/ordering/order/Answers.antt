@@ -5,7 +5,7 @@ use Rattle.call_graph.specs.declared.edge.Edge.{Edge}
 use Rattle.call_graph.specs.declared.fault.GraphFault.{GraphFault}
 use Rattle.std.specs.List.Sorted.{IsPermutation}
 use Rattle.call_graph.proofs.SortedCalls.{sorted_calls}
-use Rattle.call_graph.proofs.OrderLemmas.{no_circle, order_same, fault_same}
+use Rattle.call_graph.proofs.OrderLemmas.{no_cycle, order_same, fault_same}
 use Rattle.call_graph.proofs.ordering.order.Goals as goal
 
 pub order_by_caller-requires : goal.order_by_caller-requires
@@ -16,7 +16,7 @@ order_by_caller-requires c =
 outcome : (edges sorted : List Edge) → IsPermutation edges sorted → (result : Result (Vec ℕ Global) GraphFault) → IfOk result (λ list. IsCallOrder sorted list.items) → IfErr result (IsFaultOf sorted) →
     IfOk result (λ list. IsCallOrder edges list.items) × OnOk result ((list : List ℕ) → IsCycle edges list → ⊥) × IfErr result (IsFaultOf edges)
 outcome edges sorted moved (Ok list) order fault =
-    let same = order_same edges sorted list.items moved order in (same, λ circle. no_circle edges list.items circle same, tt)
+    let same = order_same edges sorted list.items moved order in (same, λ cycle. no_cycle edges list.items cycle same, tt)
 outcome edges sorted moved (Err fault) order named = (tt, tt, fault_same edges sorted moved fault named)
 
 pub returns : goal.returns

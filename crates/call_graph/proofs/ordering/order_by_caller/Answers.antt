@@ -1,8 +1,8 @@
 use Rattle.call_graph.proofs.OrderLemmas.{order_of, lowest_start}
 use Rattle.call_graph.proofs.ordering.order_by_caller.Goals as goal
 
-pub circle_fault-requires-clause-lowest : goal.circle_fault-requires-clause-lowest
-circle_fault-requires-clause-lowest c =
+pub cycle_fault-requires-clause-lowest : goal.cycle_fault-requires-clause-lowest
+cycle_fault-requires-clause-lowest c =
     let w = c.in-Ok.walk in
     let g = c.in-Ok.ensures in
     let z = c.in-Some.ensures.some in

@@ -9,5 +9,5 @@ returns-clause-told c =
     let s = c.args.subject.now in
     passes s reasons.Rank 14 refl refl
     (passes s reasons.NotCovered 13 refl refl
-    (passes s reasons.StackDepth 12 refl refl (leads_further s c.args.nexts.now c.requires.step c.requires.below) (c.if-not-is_deep.ensures.0 refl))
+    (passes s reasons.StackDepth 12 refl refl (leads_further s c.args.nexts.now c.requires.step c.requires.below) (c.if-not-fits_depth.ensures.0 refl))
     (c.if-not-goes_on.ensures.exact.0 refl)) (c.if-not-ranks_fall.ensures.0 refl)

@@ -6,11 +6,11 @@ use Rattle.check_ways.proofs.paying.pays.Goals as goal
 pub returns : goal.returns
 returns c =
     let whole =
-    all_pay c.args.subject.now c.args.nexts.now c.requires (c.has_potential.ensures.0 c.if-not-has_potential.false) (c.meets_entry.ensures.0 c.if-not-meets_entry.false) in
+    all_pay c.args.subject.now c.args.nexts.now c.requires (c.has_potential.ensures.0 c.if-not-has_potential.false) (c.overlaps_entry.ensures.0 c.if-not-overlaps_entry.false) in
     ((λ told. whole.0 (c.nexts_pay.ensures.0 told)), (λ pays. c.nexts_pay.ensures.1 (whole.1 pays)))
 
-pub returns-then-not-meets_entry : goal.returns-then-not-meets_entry
-returns-then-not-meets_entry c = (
+pub returns-then-not-overlaps_entry : goal.returns-then-not-overlaps_entry
+returns-then-not-overlaps_entry c = (
   (λ told. absurd (false≢true told)),
-  (λ pays. sym c.if-not-meets_entry.true ∙ c.meets_entry.ensures.1 pays.entry),
+  (λ pays. sym c.if-not-overlaps_entry.true ∙ c.overlaps_entry.ensures.1 pays.entry),
 )

@@ -1,5 +1,5 @@
 use Rattle.std.proofs.Common.{◌≡◌, ℕ, ◌<◌, true, IfSome}
-use Rattle.abs_state.specs.Narrowing.{byte_is}
+use Rattle.abs_state.specs.Restricting.{byte_is}
 use Rattle.check_cover.specs.Covering.{SomeCovers}
 use Rattle.check_cover.proofs.covering.Coverer.covers_each.Given as goal
 
