@@ -149,24 +149,24 @@ fault_same edges others moved (Cycle list) fault = record {
 fault_same edges others moved NoMemory h = tt
 
 -- along a cycle the places in an order would fall
-descends : (edges : List Edge) (list cycle : List ℕ) → IsCallOrder edges list → IsCycle edges cycle → (first : ℕ) → first < length list → get_or list first 0 ≡ get_or cycle 0 0 →
-    (i : ℕ) → i < length cycle → (k : ℕ) × (k < length list) × (get_or list k 0 ≡ get_or cycle i 0) × (k + i ≤ first)
-descends edges list cycle order cycle first inside is zero h = (first, inside, is, omega arith)
-descends edges list cycle order cycle first inside is (suc i) h =
-    let before = descends edges list cycle order cycle first inside is i (omega arith) in
+descends : (edges : List Edge) (list procs : List ℕ) → IsCallOrder edges list → IsCycle edges procs → (first : ℕ) → first < length list → get_or list first 0 ≡ get_or procs 0 0 →
+    (i : ℕ) → i < length procs → (k : ℕ) × (k < length list) × (get_or list k 0 ≡ get_or procs i 0) × (k + i ≤ first)
+descends edges list procs order cycle first inside is zero h = (first, inside, is, omega arith)
+descends edges list procs order cycle first inside is (suc i) h =
+    let before = descends edges list procs order cycle first inside is i (omega arith) in
     let step : i + 1 ≡ suc i = omega arith in
-    let call : Calls edges (get_or cycle i 0) (get_or cycle (suc i) 0) = rw step at (cycle.next i (omega arith)) in
-    let place = place_in list (get_or cycle (suc i) 0) (order.listed (get_or cycle (suc i) 0) (get_or cycle i 0, inr call)) in
+    let call : Calls edges (get_or procs i 0) (get_or procs (suc i) 0) = rw step at (cycle.next i (omega arith)) in
+    let place = place_in list (get_or procs (suc i) 0) (order.listed (get_or procs (suc i) 0) (get_or procs i 0, inr call)) in
     let lower : place.0 < before.0 = order.callees_first before.0 place.0 before.1 place.1 (rw (before.2, place.2) call) in
     let far : before.0 + i ≤ first = before.3 in
     (place.0, place.1, place.2, omega arith)
 
-pub no_cycle : (edges : List Edge) (list cycle : List ℕ) → IsCallOrder edges list → IsCycle edges cycle → ⊥
-no_cycle edges list cycle order cycle =
-    let some : 0 < length cycle = cycle.some in
-    let last : ℕ = length cycle - 1 in
-    let place = place_in list (get_or cycle 0 0) (order.listed (get_or cycle 0 0) (get_or cycle last 0, inr cycle.back)) in
-    let end = descends edges list cycle order cycle place.0 place.1 place.2 last (omega arith) in
+pub no_cycle : (edges : List Edge) (list procs : List ℕ) → IsCallOrder edges list → IsCycle edges procs → ⊥
+no_cycle edges list procs order cycle =
+    let some : 0 < length procs = cycle.some in
+    let last : ℕ = length procs - 1 in
+    let place = place_in list (get_or procs 0 0) (order.listed (get_or procs 0 0) (get_or procs last 0, inr cycle.back)) in
+    let end = descends edges list procs order cycle place.0 place.1 place.2 last (omega arith) in
     let lower : place.0 < end.0 = order.callees_first end.0 place.0 end.1 place.1 (rw (end.2, place.2) cycle.back) in
     let far : end.0 + last ≤ place.0 = end.3 in
     omega arith
