@@ -1,3 +1,4 @@
+pub mod BoundsLemmas
 pub mod LastLemmas
 pub mod LineLemmas
 pub mod MigratingLemmas

@@ -1,2 +1,3 @@
--- Definition of a certificate's parts.
+-- Definitions of a certificate's parts, and of one with other bounds.
+pub mod Bounds
 pub mod Parts

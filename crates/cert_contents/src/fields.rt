@@ -132,6 +132,6 @@ impl Certificate {
     {
         // By the form, the rows rise by place.
         self.is_in_form();
-        self.rows().before(proc, address) as u32
+        self.draft.rows.before(proc, address) as u32
     }
 }

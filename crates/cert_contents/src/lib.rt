@@ -1,7 +1,8 @@
-// A certificate's value (docs/CERTIFICATE.md): its fields, how it is made of lines or of parts, and migration to
-// version 2.
+// A certificate's value (docs/CERTIFICATE.md): its fields, how it is made of lines or of parts, the bounds that can be
+// set, and migration to version 2.
 #![tactic(auto)]
 
+mod bounds;
 mod fields;
 mod migrating;
 mod parts;

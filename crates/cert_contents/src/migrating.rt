@@ -16,5 +16,5 @@ pub fn migrate(certificate: Certificate) -> Certificate
 {
     let mut draft = certificate.into_draft();
     draft.version = Version::Two;
-    Certificate::made(draft)
+    Certificate { draft }
 }

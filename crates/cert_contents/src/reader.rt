@@ -123,6 +123,6 @@ impl Reader {
         if self.stage != Stage::Nothing {
             return Err(self.bad_line());
         }
-        Ok(Certificate::made(self.draft))
+        Ok(Certificate { draft: self.draft })
     }
 }

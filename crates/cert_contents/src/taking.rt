@@ -116,13 +116,6 @@ impl Reader {
         Ok(())
     }
 
-    /// Whether a procedure with this number was read.
-    fn has_proc(&self, proc: u16) -> bool
-        ensures { IsTrue result ↔ (proc < length self.now.contents.procs) }
-    {
-        usize::from(proc) < self.draft.procs.len()
-    }
-
     pub(crate) fn take_split(&mut self, split: Split) -> Result<(), CertFault>
         ensures line { TakesLine self.old (Line.Split split) result self.new }
         ensures err { OnErr result (self.new ≡ self.old) }
@@ -196,7 +189,7 @@ impl Reader {
     {
         self.is_open_to(Stage::Rows)
             && place_may_follow(&self.draft.rows, place)
-            && self.has_proc(place.proc)
+            && usize::from(place.proc) < self.draft.procs.len()
             && self.may_arm(place.mode, place.armed)
     }
 

@@ -71,7 +71,7 @@ impl Unfinished {
 /// A certificate in form (docs/CERTIFICATE.md).
 #[derive(Drop)]
 pub struct Certificate {
-    draft: Unfinished,
+    pub(crate) draft: Unfinished,
 }
 
 impl Model for Certificate {
@@ -86,13 +86,6 @@ impl Model for Certificate {
 }
 
 impl Certificate {
-    pub(crate) fn made(draft: Unfinished) -> Certificate
-        requires { IsInForm draft }
-        ensures { result ≡ draft }
-    {
-        Certificate { draft }
-    }
-
     pub(crate) fn into_draft(self) -> Unfinished
         ensures value { result ≡ self }
         ensures form { IsInForm result }
@@ -176,12 +169,6 @@ impl Certificate {
         ensures { result.now ≡ self.now.cells }
     {
         self.draft.cells.as_slice()
-    }
-
-    pub(crate) fn rows(&self) -> &Rows
-        ensures { result.now ≡ self.now.rows }
-    {
-        &self.draft.rows
     }
 
     /// The number of rows, 0 to 65,535. A `RowId` counts them from 0.

@@ -1,6 +1,7 @@
 -- Lemmas about certificates, their lines and their texts.
 pub mod Agreement
 pub mod BadLines
+pub mod ChangedLemmas
 pub mod Completes
 pub mod Cuts
 pub mod GoesOn

@@ -1,8 +1,9 @@
--- Rows whose shapes are stored by number.
-use Rattle.std.specs.Prelude.{◌<◌, List, [], length, slice_index_or}
+-- Rows whose shapes are stored by number, and a row with another potential.
+use Rattle.std.specs.Prelude.{ℕ, zero, suc, ◌<◌, List, [], ◌∷◌, Some, length, slice_index_or}
 use Rattle.std.specs.List.{AllByRecursion}
 use Rattle.cert_lines.specs.declared.row.Row.{Row}
 use Rattle.cert_form.specs.declared.rows.NumberedRow.{NumberedRow}
+use Rattle.loop_bounds.specs.Linear.{LinearView}
 use Rattle.stack_shape.specs.declared.slot.Slot.{Slot}
 
 -- a row with this shape in place of the shape's number
@@ -22,3 +23,13 @@ with_its_shape shapes row = row_with_shape row (slice_index_or shapes row.shape 
 -- each row has the number of a shape
 abbrev pub HaveShapes : List (List Slot) → List NumberedRow → Type 0
 HaveShapes shapes rows = AllByRecursion (λ row. row.shape < length shapes) rows
+
+-- a list in which the element with this number, if there is one, is changed
+abbrev pub changed_at : {X : Type 0} → (X → X) → ℕ → List X → List X
+changed_at change number [] = []
+changed_at change zero (x ∷ xs) = change x ∷ xs
+changed_at change (suc number) (x ∷ xs) = x ∷ changed_at change number xs
+
+-- a row with this potential
+abbrev pub with_potential : LinearView → Row → Row
+with_potential potential row = record row { potential = Some potential }

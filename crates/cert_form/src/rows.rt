@@ -3,7 +3,7 @@
 ghost use Rattle.std.specs.Prelude.{◌≡◌, ◌<◌, ◌≤◌, ◌∷◌, [], ◌++◌, ℕ, List, Some, MatchOption, OnOk, OnErr, length, slice_get};
 ghost use Rattle.cert_lines.specs.declared.row.Row.{Row};
 ghost use Rattle.cert_form.specs.Form.{RisePlaces, place_number};
-ghost use Rattle.cert_form.specs.Rows.{row_with_shape};
+ghost use Rattle.cert_form.specs.Rows.{changed_at, row_with_shape, with_potential};
 
 use crate::shapes::Shapes;
 use abs_state::{AbsState, FlagFact, Mode, Pairs};
@@ -115,6 +115,15 @@ impl Rows {
             shape: number,
         })?;
         Ok(())
+    }
+
+    /// Sets the potential of the row with this number. If there is none, the rows stay as they were.
+    pub fn set_potential(&mut self, number: usize, potential: Linear)
+        ensures { self.new ≡ changed_at (with_potential potential) number self.old }
+    {
+        if number < self.rows.len() {
+            self.rows[number].potential = Some(potential);
+        }
     }
 
     /// The row with this number, borrowed; None if there is none.
