@@ -13,7 +13,7 @@ use Rattle.check_cover.specs.declared.program.Callee.{Callee}
 use Rattle.cert_lines.specs.declared.row.Row.{Row}
 use Rattle.cert_lines.specs.declared.version.Version.{Version}
 use Rattle.cert_form.specs.Contents.{CertificateView}
-use Rattle.check_rules.specs.Acceptance.{Accepts, AreConsistent, Begins, CoversEntries, EntryFails, FitsRom, FitsWorkRam, IsRefused, WholeRefused}
+use Rattle.check_rules.specs.Acceptance.{Accepts, AreConsistent, Begins, CoversEntries, EntryFails, FitsRom, IsRefused, WholeRefused}
 use Rattle.check_rules.specs.Table.{HasNoStack, IsConsistent, FitsDepth, IsLowest, Passes}
 use Rattle.check_ways.specs.Pays.{LeadsToRow, Pays, PaysCall}
 use Rattle.check_ways.specs.Ways.{CallsCallee, EntersCallee, GoesOn, IsExit, IsSubject, IsWay, SubjectView, WayView}
@@ -158,9 +158,6 @@ is_lowest v s reason h = record {
 fits_rom : (v : Version) (rom : List ℕ) (c : CertificateView) → FitsRom rom c → FitsRom rom (in_version v c)
 fits_rom v rom c h = record { some = h.some; fits = h.fits; same = h.same }
 
-fits_work_ram : (v : Version) (c : CertificateView) → FitsWorkRam c → FitsWorkRam (in_version v c)
-fits_work_ram v c h = record { low = h.low; some = h.some; top = h.top; cells = h.cells }
-
 rows : (v : Version) (rom : List ℕ) (c : CertificateView) (upto : ℕ) → AreConsistent rom c upto → AreConsistent rom (in_version v c) upto
 rows v rom c upto h number s low same at is =
     consistent s.cert.version (moved c.version s) (h number (moved c.version s) low (same.0, ap (in_version c.version) same.1) at (subject c.version s is))
@@ -168,7 +165,7 @@ rows v rom c upto h number s low same at is =
 accepts : (v : Version) (rom : List ℕ) (c : CertificateView) → Accepts rom c → Accepts rom (in_version v c)
 accepts v rom c h = record {
   fits_rom = fits_rom v rom c h.fits_rom;
-  fits_work_ram = fits_work_ram v c h.fits_work_ram;
+  fits_work_ram = h.fits_work_ram;
   entries = entries v c h.entries;
   rows = rows v rom c (length c.rows) h.rows;
   depth = h.depth;
@@ -178,7 +175,7 @@ accepts v rom c h = record {
 begins : (v : Version) (rom : List ℕ) (c : CertificateView) → Begins rom c → Begins rom (in_version v c)
 begins v rom c h = record {
   fits_rom = fits_rom v rom c h.fits_rom;
-  fits_work_ram = fits_work_ram v c h.fits_work_ram;
+  fits_work_ram = h.fits_work_ram;
   entries = entries v c h.entries;
 }
 
@@ -188,8 +185,8 @@ entry_fails v c address (inr nmi) = inr (nmi.0, covered v c _ _ nmi.1, λ h. nmi
 
 whole : (v : Version) (rom : List ℕ) (c : CertificateView) (address : ℕ) (reason : Reason) → WholeRefused rom c address reason → WholeRefused rom (in_version v c) address reason
 whole v rom c address reasons.Rom w = (w.0, λ h. w.1 (fits_rom c.version rom (in_version v c) h))
-whole v rom c address reasons.Region w = (w.0, fits_rom v rom c w.1, λ h. w.2 (fits_work_ram c.version (in_version v c) h))
-whole v rom c address reasons.Entry w = (entry_fails v c address w.0, fits_rom v rom c w.1, fits_work_ram v c w.2)
+whole v rom c address reasons.Region w = (w.0, fits_rom v rom c w.1, w.2)
+whole v rom c address reasons.Entry w = (entry_fails v c address w.0, fits_rom v rom c w.1, w.2)
 whole v rom c address reasons.StackDepth w = (w.0, begins v rom c w.1, rows v rom c (length c.rows) w.2, w.3)
 whole v rom c address reasons.Budget w = (w.0, begins v rom c w.1, rows v rom c (length c.rows) w.2, w.3, w.4)
 whole v rom c address _ w = w

@@ -25,12 +25,16 @@ pub record FitsRom (rom : List ℕ) (cert : CertificateView) : Type 0 where
 abbrev pub LiesOutside : Region → KeptCell → Type 0
 LiesOutside region cell = region.low ≤ cell.at → cell.at < region.top → ⊥
 
--- 2: the stack region is not empty, lies in the first 400h addresses of work RAM, and has no kept cell in it
-pub record FitsWorkRam (cert : CertificateView) : Type 0 where
-  pub low : work_start (map_of_board cert) ≤ cert.region.low
-  pub some : cert.region.low < cert.region.top
-  pub top : cert.region.top ≤ work_start (map_of_board cert) + 1024
-  pub cells : All (LiesOutside cert.region) cert.cells
+-- a stack region is not empty, lies in the first 400h addresses from this start of work RAM, and has no kept cell in it
+pub record RegionFits (start : ℕ) (region : Region) (kept : List KeptCell) : Type 0 where
+  pub low : start ≤ region.low
+  pub some : region.low < region.top
+  pub top : region.top ≤ start + 1024
+  pub cells : All (LiesOutside region) kept
+
+-- 2: the stack region fits, with the kept cells, in work RAM
+abbrev pub FitsWorkRam : CertificateView → Type 0
+FitsWorkRam cert = RegionFits (work_start (map_of_board cert)) cert.region cert.cells
 
 -- 3: the state at the entry of main is covered, and so is that of the NMI routine if there is one
 pub record CoversEntries (cert : CertificateView) : Type 0 where

@@ -7,7 +7,7 @@ ghost use Rattle.check_rules.specs.Acceptance.{Accepts, AreConsistent, Begins, I
 
 use crate::refused::Refused;
 use crate::rows::check_row;
-use crate::whole::{fits_work_ram, has_depth, has_budget, rom_for, uncovered_entry};
+use crate::whole::{has_budget, has_depth, region_fits, rom_for, uncovered_entry};
 use abs_step::Reason;
 use address_map::{Map, Rom};
 use cert_contents::{Certificate, RowId};
@@ -32,7 +32,7 @@ pub fn examine(alloc: Global, rom: &[u8], certificate: &Certificate) -> Result<(
         return Err(of_whole(0, Reason::Rom));
     };
     let map = certificate.board().map(certificate.rom_len());
-    if !fits_work_ram(&map, certificate) {
+    if !region_fits(&map, certificate.region(), certificate.cells()) {
         return Err(of_whole(0, Reason::Region));
     }
     let mut coverer = Coverer::new(alloc, certificate);

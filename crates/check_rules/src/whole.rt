@@ -4,8 +4,9 @@ ghost use Rattle.std.specs.Prelude.{◌≡◌, ◌↔◌, ◌<◌, ◌≤◌, �
 ghost use Rattle.std.specs.List.{All};
 ghost use Rattle.check_cover.specs.Arrival.{first_arrival};
 ghost use Rattle.check_cover.specs.Covering.{Covered, CoversMain, CoversNmi};
-ghost use Rattle.cert_form.specs.Contents.{map_of_board, nmi_of};
-ghost use Rattle.check_rules.specs.Acceptance.{CoversEntries, EntryFails, FitsRom, FitsWorkRam, HasDepth, LiesOutside, HasBudget, depth_of, main_depth};
+ghost use Rattle.address_map.specs.WorkRam.{work_start};
+ghost use Rattle.cert_form.specs.Contents.{nmi_of};
+ghost use Rattle.check_rules.specs.Acceptance.{CoversEntries, EntryFails, FitsRom, HasDepth, LiesOutside, RegionFits, HasBudget, depth_of, main_depth};
 
 use abs_state::{AbsState, KeptCell};
 use address_map::{Map, Region, Rom};
@@ -27,17 +28,16 @@ pub(crate) fn rom_for<'r>(bytes: &'r [u8], certificate: &Certificate) -> Option<
     }
 }
 
-/// Whether the stack region is not empty, lies in the first 400h addresses of work RAM, and has no kept cell in it.
-pub(crate) fn fits_work_ram(map: &Map, certificate: &Certificate) -> bool
-    requires { map.now ≡ map_of_board certificate.now }
-    ensures { IsTrue result ↔ FitsWorkRam certificate.now }
+/// Whether a stack region is not empty, lies in the first 400h addresses of work RAM, and has none of the kept cells in
+/// it: reason 2 does not apply. There may be more cells than a certificate can have.
+pub fn region_fits(map: &Map, region: Region, cells: &[KeptCell]) -> bool
+    ensures { IsTrue result ↔ RegionFits (work_start map.now) region cells.now }
 {
-    let region = certificate.region();
     let start = map.work_start();
     start <= region.low
         && region.low < region.top
         && u32::from(region.top) <= u32::from(start) + 0x400
-        && all_outside(region, certificate.cells())
+        && all_outside(region, cells)
 }
 
 fn all_outside(region: Region, cells: &[KeptCell]) -> bool
