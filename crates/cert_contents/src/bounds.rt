@@ -1,4 +1,4 @@
-// The bounds of a certificate, which can be set: the depths and times of its procedures, and the potentials of its rows.
+// Sets the bounds of a certificate: the depths and times of its procedures, and the potentials of its rows.
 
 ghost use Rattle.std.specs.Bool.{OnFalse, OnTrue};
 ghost use Rattle.std.specs.Prelude.{◌≡◌, ◌↔◌, IsTrue};

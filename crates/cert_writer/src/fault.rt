@@ -1,6 +1,7 @@
 // Why the writer gives no certificate.
 
 use analysis::FlowFault;
+use cert_checker::CheckFault;
 use certificate::CertFault;
 use check_rules::Refused;
 use std::alloc::{AllocError, AllocFailed};
@@ -40,6 +41,15 @@ impl From<CertFault> for WriterFault {
         match fault {
             CertFault::NoMemory => WriterFault::NoMemory,
             CertFault::Line(_) | CertFault::Limit => WriterFault::Limit,
+        }
+    }
+}
+
+impl From<CheckFault> for WriterFault {
+    fn from(fault: CheckFault) -> WriterFault {
+        match fault {
+            CheckFault::Refused(refused) => WriterFault::Refused(refused),
+            CheckFault::NoMemory => WriterFault::NoMemory,
         }
     }
 }

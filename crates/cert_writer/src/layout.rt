@@ -73,14 +73,15 @@ impl Layout {
         }
     }
 
-    /// The procedure with this rank, depth and time.
-    pub(crate) fn proc(&self, id: usize, rank: u16, depth: u16, time: Option<u32>) -> Proc {
+    /// The procedure with this rank. It has no depth yet, and no time except that the NMI routine has to have one.
+    pub(crate) fn proc(&self, id: usize, rank: u16) -> Proc {
+        let kind = self.kind_at(id);
         Proc {
-            kind: self.kind_at(id),
+            kind,
             entry: self.entry_at(id),
             rank,
-            depth,
-            time,
+            depth: 0,
+            time: if kind == ProcKind::Nmi { Some(0) } else { None },
         }
     }
 }

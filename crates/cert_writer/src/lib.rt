@@ -2,11 +2,12 @@
 #![tactic(auto)]
 
 mod analysing;
+mod bounding;
 mod calls;
 mod fault;
 mod layout;
 mod parts;
 mod times;
 
-pub use analysing::analyse;
+pub use analysing::{analyse, certify};
 pub use fault::WriterFault;

@@ -3,13 +3,11 @@
 use crate::calls::Under;
 use crate::fault::WriterFault;
 use crate::layout::Layout;
-use crate::times::Timed;
 use analysis::{Flow, Noted, ProgramPoint, Task, facts_at, names_slots_below};
 use annotations::{Annotations, FactNote};
 use cert_fields::Facts;
 use cert_form::SPLIT_LIMIT;
 use certificate::{BoardMap, Proc, Row, Split, Version};
-use loop_bounds::Linear;
 use stack_shape::Shape;
 use std::alloc::Global;
 
@@ -74,61 +72,39 @@ fn facts_of(notes: &[FactNote], shape: &Shape) -> Facts {
     facts
 }
 
-fn row_of(
-    said: &Annotations,
-    layout: &Layout,
-    place: ProgramPoint,
-    noted: &Noted,
-    potential: Option<Linear>,
-) -> Row {
+fn row_of(said: &Annotations, layout: &Layout, place: ProgramPoint, noted: &Noted) -> Row {
     Row {
         proc: layout.id_of(place.proc),
         address: place.address,
         state: noted.state.copied(),
         facts: facts_of(facts_at(said.facts(), place.address), &noted.state.shape),
-        potential,
+        potential: None,
     }
 }
 
-/// The rows that an analysis found, with these potentials.
+/// The rows that an analysis found, without potentials.
 pub(crate) fn rows_of(
     alloc: Global,
     said: &Annotations,
     flow: &Flow,
     layout: &Layout,
-    potentials: &[Option<Linear>],
 ) -> Result<Vec<Row>, WriterFault> {
     let mut rows = Vec::new(alloc);
-    let mut id = 0usize;
     for (number, noted) in flow.rows().iter() {
-        let potential = potentials.get(id).copied().flatten();
-        rows.push(row_of(said, layout, ProgramPoint::of(*number), noted, potential))?;
-        id = id.saturating_add(1);
+        rows.push(row_of(said, layout, ProgramPoint::of(*number), noted))?;
     }
     Ok(rows)
 }
 
-/// The procedures with their ranks and depths; the timed ones have these times.
+/// The procedures with their ranks, without depths and times.
 pub(crate) fn procs_of(
     alloc: Global,
-    flow: &Flow,
     layout: &Layout,
     under: &[Under],
-    times: &[u32],
 ) -> Result<Vec<Proc>, WriterFault> {
     let mut procs = Vec::new(alloc);
     for id in 0..under.len() {
-        if let Some(below) = under.get(id).copied() {
-            let Ok(depth) = u16::try_from(below.depth) else {
-                return Err(WriterFault::Limit);
-            };
-            let time = if flow.is_timed(layout.proc_at(id)) {
-                Some(times.get(id).copied().unwrap_or(0))
-            } else {
-                None
-            };
-            procs.push(layout.proc(id, below.rank, depth, time))?;
-        }
+        procs.push(layout.proc(id, under[id].rank))?;
     }
     Ok(procs)
 }
