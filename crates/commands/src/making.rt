@@ -8,9 +8,9 @@ ghost use Rattle.texts.specs.Device.{FailsAmid, HasFailed, CountsNoFailure, Take
 
 use crate::stop::Stop;
 use annotations::Annotations;
-use cert_writer::{WriterFault, analyse};
+use cert_writer::{WriterFault, certify};
 use command_verdicts::{refused_line, unbounded_line, write_recursion};
-use runner::cert_checker::{Accepted, CheckFault, check};
+use runner::cert_checker::Accepted;
 use std::alloc::Global;
 use texts::{DeviceFault, Sink, put};
 
@@ -35,19 +35,16 @@ pub fn make<'r, W: Sink>(
     ensures told { result ≢ Err Stop.Device → CountsNoFailure (W.state out.old) (W.state out.new) }
     ensures memory { result ≡ Err Stop.OutOfMemory → out.new ≡ out.old }
 {
-    let certificate = match analyse(alloc, rom, said) {
-        Ok(certificate) => certificate,
-        Err(WriterFault::NoMemory) => return Err(Stop::OutOfMemory),
+    match certify(alloc, rom, said) {
+        Ok(accepted) => {
+            accepted.certificate().is_in_form();
+            Ok(accepted)
+        }
+        Err(WriterFault::NoMemory) => Err(Stop::OutOfMemory),
         Err(fault) => {
             tell(&fault, out)?;
-            return Err(Stop::Refused);
+            Err(Stop::Refused)
         }
-    };
-    certificate.is_in_form();
-    match check(alloc, rom, certificate) {
-        Ok(accepted) => Ok(accepted),
-        Err(CheckFault::NoMemory) => Err(Stop::OutOfMemory),
-        Err(CheckFault::Refused(_)) => unreachable!(),
     }
 }
 
