@@ -14,7 +14,7 @@ use Rattle.cert_form.specs.Contents.{CertificateView}
 use Rattle.cert_form.specs.Form.{AreInOrder, AreRows, AreSplits, AreSubs, IsInForm, IsRowOf, SuitsVersion, place_number}
 use Rattle.cert_form.specs.Rows.{changed_at, with_potential}
 use Rattle.cert_form.proofs.ChangedLemmas.{all_changed, at_changed, follow_changed, length_changed}
-use Rattle.cert_contents.specs.Bounds.{bounded_at, paying_at, with_bounds}
+use Rattle.cert_contents.specs.Bounds.{with_bounds_at, with_potential_at, with_bounds}
 
 -- the version suits a certificate with this board and these cells
 suits : (v : Version) (c d : CertificateView) → d.board ≡ c.board → d.cells ≡ c.cells → SuitsVersion v c → SuitsVersion v d
@@ -42,13 +42,13 @@ order_bounded depth time (Some budget) (suc zero) (main ∷ nmi ∷ subs) order 
 order_bounded depth time (Some budget) (suc (suc i)) (main ∷ nmi ∷ subs) order = (order.0, order.1, subs_bounded depth time i subs order.2)
 
 pub bounds_in_form : (c : CertificateView) (id depth : ℕ) (time : Option ℕ) (proc : Proc) → IsInForm c → slice_get c.procs id ≡ Some proc →
-    IsProc (with_bounds depth time proc) → IsInForm (bounded_at c id depth time)
+    IsProc (with_bounds depth time proc) → IsInForm (with_bounds_at c id depth time)
 bounds_in_form c id depth time proc form at is =
     let whole = form.certificate in
     let same : length (changed_at (with_bounds depth time) id c.procs) ≡ length c.procs = length_changed (with_bounds depth time) id c.procs in
     record {
       certificate = record {
-        version = suits c.version c (bounded_at c id depth time) refl refl whole.version;
+        version = suits c.version c (with_bounds_at c id depth time) refl refl whole.version;
         rom_len = whole.rom_len;
         region = whole.region;
         budget = whole.budget;
@@ -72,13 +72,13 @@ bounds_in_form c id depth time proc form at is =
 
 -- and the changed procedure of a certificate in form is in form
 pub bounds_of_form : (c : CertificateView) (id depth : ℕ) (time : Option ℕ) (proc : Proc) → slice_get c.procs id ≡ Some proc →
-    IsInForm (bounded_at c id depth time) → IsProc (with_bounds depth time proc)
+    IsInForm (with_bounds_at c id depth time) → IsProc (with_bounds depth time proc)
 bounds_of_form c id depth time proc at form = at_changed IsProc (with_bounds depth time) id c.procs proc at form.certificate.procs
 
 -- ---- a row
 
-row_pays : (v : Version) (row : Row) (potential : LinearView) → IsRow v row → IsSum (length row.state.shape) potential → IsRow v (with_potential potential row)
-row_pays v row potential form sum = record {
+row_with_potential : (v : Version) (row : Row) (potential : LinearView) → IsRow v row → IsSum (length row.state.shape) potential → IsRow v (with_potential potential row)
+row_with_potential v row potential form sum = record {
   place = form.place;
   pairs = form.pairs;
   flag = form.flag;
@@ -95,13 +95,13 @@ sum_below many slots potential sum below =
     record { constant = sum.constant; coefficients = sum.coefficients; rising = sum.rising; within_shape = below }
 
 pub potential_in_form : (c : CertificateView) (id : ℕ) (potential : LinearView) (row : Row) (many : ℕ) → IsInForm c → slice_get c.rows id ≡ Some row →
-    IsSum many potential → IsShort potential → HasSlotsBelow (length row.state.shape) potential → IsInForm (paying_at c id potential)
+    IsSum many potential → IsShort potential → HasSlotsBelow (length row.state.shape) potential → IsInForm (with_potential_at c id potential)
 potential_in_form c id potential row many form at any short below =
     let whole = form.certificate in
     let sum = sum_below many (length row.state.shape) potential any below in
     record {
       certificate = record {
-        version = suits c.version c (paying_at c id potential) refl refl whole.version;
+        version = suits c.version c (with_potential_at c id potential) refl refl whole.version;
         rom_len = whole.rom_len;
         region = whole.region;
         budget = whole.budget;
@@ -113,7 +113,7 @@ potential_in_form c id potential row many form at any short below =
         rows = record {
           each = all_changed (IsRowOf c.version (length c.procs) (length c.cells)) (with_potential potential) id c.rows whole.rows.each
               (λ other there of. record {
-                form = row_pays c.version other potential of.form
+                form = row_with_potential c.version other potential of.form
                     (subst (λ r. IsSum (length r.state.shape) potential) (same_Some row other (sym at ∙ there)) sum);
                 proc = of.proc;
                 armed = of.armed;
@@ -135,7 +135,7 @@ potential_in_form c id potential row many form at any short below =
 
 -- the potential of a row of a certificate in form names only slots of the row's shape
 pub potential_of_form : (c : CertificateView) (id : ℕ) (potential : LinearView) (row : Row) → slice_get c.rows id ≡ Some row →
-    IsInForm (paying_at c id potential) → HasSlotsBelow (length row.state.shape) potential
+    IsInForm (with_potential_at c id potential) → HasSlotsBelow (length row.state.shape) potential
 potential_of_form c id potential row at form =
     let of = at_changed (IsRowOf c.version (length c.procs) (length c.cells)) (with_potential potential) id c.rows row at form.certificate.rows.each in
     of.form.potential.within_shape

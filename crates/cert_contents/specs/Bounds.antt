@@ -11,19 +11,19 @@ abbrev pub with_bounds : ℕ → Option ℕ → Proc → Proc
 with_bounds depth time proc = record proc { depth = depth; time = time }
 
 -- a certificate in which the procedure with this number, if there is one, has these bounds
-abbrev pub bounded_at : CertificateView → ℕ → ℕ → Option ℕ → CertificateView
-bounded_at c id depth time = record c { procs = changed_at (with_bounds depth time) id c.procs }
+abbrev pub with_bounds_at : CertificateView → ℕ → ℕ → Option ℕ → CertificateView
+with_bounds_at c id depth time = record c { procs = changed_at (with_bounds depth time) id c.procs }
 
 -- a certificate in which the row with this number, if there is one, has this potential
-abbrev pub paying_at : CertificateView → ℕ → LinearView → CertificateView
-paying_at c id potential = record c { rows = changed_at (with_potential potential) id c.rows }
+abbrev pub with_potential_at : CertificateView → ℕ → LinearView → CertificateView
+with_potential_at c id potential = record c { rows = changed_at (with_potential potential) id c.rows }
 
 -- there is a procedure with this number, and with these bounds of it the certificate is in form
 pub record TakesBounds (c : CertificateView) (id depth : ℕ) (time : Option ℕ) : Type 0 where
   pub within : id < length c.procs
-  pub form : IsInForm (bounded_at c id depth time)
+  pub form : IsInForm (with_bounds_at c id depth time)
 
 -- there is a row with this number, and with this potential of it the certificate is in form
 pub record TakesPotential (c : CertificateView) (id : ℕ) (potential : LinearView) : Type 0 where
   pub within : id < length c.rows
-  pub form : IsInForm (paying_at c id potential)
+  pub form : IsInForm (with_potential_at c id potential)

@@ -2,7 +2,7 @@
 
 ghost use Rattle.std.specs.Bool.{OnFalse, OnTrue};
 ghost use Rattle.std.specs.Prelude.{◌≡◌, ◌↔◌, IsTrue};
-ghost use Rattle.cert_contents.specs.Bounds.{TakesBounds, TakesPotential, bounded_at, paying_at};
+ghost use Rattle.cert_contents.specs.Bounds.{TakesBounds, TakesPotential, with_bounds_at, with_potential_at};
 
 use crate::value::{Certificate, RowId, Unfinished};
 use call_graph::ProcId;
@@ -16,7 +16,7 @@ impl Certificate {
     /// may not have this time, the answer is false and the certificate stays as it was.
     pub fn set_bounds(&mut self, id: ProcId, depth: u16, time: Option<u32>) -> bool
         ensures takes { IsTrue result ↔ TakesBounds self.old id depth time }
-        ensures set { OnTrue result (self.new ≡ bounded_at self.old id depth time) }
+        ensures set { OnTrue result (self.new ≡ with_bounds_at self.old id depth time) }
         ensures unchanged { OnFalse result (self.new ≡ self.old) }
     {
         let Some(proc) = self.proc(id) else {
@@ -38,7 +38,7 @@ impl Certificate {
     /// there is no such row or no such slot, the answer is false and the certificate stays as it was.
     pub fn set_potential(&mut self, id: RowId, potential: Linear) -> bool
         ensures takes { IsTrue result ↔ TakesPotential self.old id potential }
-        ensures set { OnTrue result (self.new ≡ paying_at self.old id potential) }
+        ensures set { OnTrue result (self.new ≡ with_potential_at self.old id potential) }
         ensures unchanged { OnFalse result (self.new ≡ self.old) }
     {
         let Some(row) = self.row(id) else {
@@ -56,7 +56,7 @@ impl Certificate {
 impl Unfinished {
     /// Sets the depth and the time of the procedure with this number, if there is one.
     fn set_bounds(&mut self, id: ProcId, depth: u16, time: Option<u32>)
-        ensures { self.new ≡ bounded_at self.old id depth time }
+        ensures { self.new ≡ with_bounds_at self.old id depth time }
     {
         let number = usize::from(id);
         if number < self.procs.len() {
@@ -68,7 +68,7 @@ impl Unfinished {
 
     /// Sets the potential of the row with this number, if there is one.
     fn set_potential(&mut self, id: RowId, potential: Linear)
-        ensures { self.new ≡ paying_at self.old id potential }
+        ensures { self.new ≡ with_potential_at self.old id potential }
     {
         self.rows.set_potential(id as usize, potential);
     }

@@ -2,7 +2,7 @@ use Rattle.std.proofs.Common.{sym, subst, rules}
 use Rattle.std.proofs.lemmas.Option.{slice_get_within}
 use Rattle.cert_form.specs.Contents.{CertificateView}
 use Rattle.cert_form.specs.Form.{IsInForm}
-use Rattle.cert_contents.specs.Bounds.{bounded_at}
+use Rattle.cert_contents.specs.Bounds.{with_bounds_at}
 use Rattle.cert_contents.proofs.BoundsLemmas.{bounds_in_form, bounds_of_form}
 use Rattle.cert_contents.proofs.value.Certificate.set_bounds.Goals as goal
 use Rattle.cert_contents.proofs.value.Certificate.set_bounds.Goals.{After-set_bounds}
@@ -15,7 +15,7 @@ returns-then-not-is_in_form-clause-takes c = (
 )
 
 -- the certificate with these bounds
-in_form : (c : After-set_bounds) → IsInForm (bounded_at c.args.self.now c.args.id c.args.depth c.args.time)
+in_form : (c : After-set_bounds) → IsInForm (with_bounds_at c.args.self.now c.args.id c.args.depth c.args.time)
 in_form c =
     bounds_in_form c.args.self.now c.args.id c.args.depth c.args.time c.in-Some.proc (subst (λ (d : CertificateView). IsInForm d) c.self.view_is c.self.invariant)
     (sym (c.in-Some.ensures {u = tt})) ((c.if-not-is_in_form.ensures {u = tt}).0 (search rules))
@@ -23,7 +23,7 @@ in_form c =
 pub invariant_of-self : goal.invariant_of-self
 invariant_of-self c =
     rw c.set_bounds.ensures
-    (subst (λ (d : CertificateView). IsInForm (bounded_at d c.args.id c.args.depth c.args.time)) (sym c.self.view_is) (in_form c))
+    (subst (λ (d : CertificateView). IsInForm (with_bounds_at d c.args.id c.args.depth c.args.time)) (sym c.self.view_is) (in_form c))
 
 pub returns-clause-takes : goal.returns-clause-takes
 returns-clause-takes c = (

@@ -4,7 +4,7 @@ use Rattle.cert_fields.specs.Linear.{HasSlotsBelow}
 use Rattle.cert_lines.specs.declared.row.Row.{Row}
 use Rattle.cert_form.specs.Contents.{CertificateView}
 use Rattle.cert_form.specs.Form.{IsInForm}
-use Rattle.cert_contents.specs.Bounds.{paying_at}
+use Rattle.cert_contents.specs.Bounds.{with_potential_at}
 use Rattle.cert_contents.proofs.BoundsLemmas.{potential_in_form, potential_of_form}
 use Rattle.cert_contents.proofs.value.Certificate.set_potential.Goals as goal
 use Rattle.cert_contents.proofs.value.Certificate.set_potential.Goals.{After-set_potential}
@@ -18,7 +18,7 @@ returns-then-not-stays_within-clause-takes c =
     )
 
 -- the certificate with this potential
-in_form : (c : After-set_potential) → IsInForm (paying_at c.args.self.now c.args.id c.args.potential)
+in_form : (c : After-set_potential) → IsInForm (with_potential_at c.args.self.now c.args.id c.args.potential)
 in_form c =
     let slots = c.len.ensures.value ∙ ap (λ (row : Row). length row.state.shape) c.row-2.view_is in
     potential_in_form c.args.self.now c.args.id c.args.potential c.in-Some.row 64 (subst (λ (d : CertificateView). IsInForm d) c.self.view_is c.self.invariant)
@@ -28,7 +28,7 @@ in_form c =
 pub invariant_of-self : goal.invariant_of-self
 invariant_of-self c =
     rw c.set_potential.ensures
-    (subst (λ (d : CertificateView). IsInForm (paying_at d c.args.id c.args.potential)) (sym c.self.view_is) (in_form c))
+    (subst (λ (d : CertificateView). IsInForm (with_potential_at d c.args.id c.args.potential)) (sym c.self.view_is) (in_form c))
 
 pub returns-clause-takes : goal.returns-clause-takes
 returns-clause-takes c = (

@@ -1,7 +1,7 @@
 use Rattle.std.proofs.Common.{sym, ap, refl, ◌∙◌, ◌≤◌, length, arith}
 use Rattle.cert_form.specs.Contents.{CertificateView}
 use Rattle.cert_form.specs.Rows.{changed_at}
-use Rattle.cert_contents.specs.Bounds.{bounded_at, with_bounds}
+use Rattle.cert_contents.specs.Bounds.{with_bounds_at, with_bounds}
 use Rattle.cert_contents.specs.contracts.value.Unfinished.{the_view}
 use Rattle.cert_form.proofs.ChangedLemmas.{changed_past, set_changed}
 use Rattle.cert_contents.proofs.value.Unfinished.set_bounds.Goals as goal
@@ -13,7 +13,7 @@ returns-then-number-len c =
     ap (λ all. record (the_view c.self.inside) { procs = all })
     (set_changed change procs c.from-number.result c.index_mut-proc.result.now _ (omega arith) c.index_mut-proc.ensures.value refl
     ∙ ap (λ number. changed_at change number procs) c.from-number.ensures)
-    ∙ ap (λ (d : CertificateView). bounded_at d c.args.id c.args.depth c.args.time) c.self.view_is
+    ∙ ap (λ (d : CertificateView). with_bounds_at d c.args.id c.args.depth c.args.time) c.self.view_is
 
 pub returns-else-number-len : goal.returns-else-number-len
 returns-else-number-len c =
