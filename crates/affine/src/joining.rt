@@ -1,0 +1,199 @@
+// Joins: the least space with all values of two.
+
+use crate::space::{DIRECTIONS, Space};
+use crate::tracked::TRACKED;
+use crate::vector::Vector;
+
+/// The greatest coefficient of a direction.
+const GREATEST_COEFFICIENT: u32 = 32_767;
+
+impl Space {
+    /// Joins another space: this one then has the values of both. The result says whether it grew.
+    pub fn join(&mut self, other: &Space) -> bool {
+        if self.known == 0 || self.covers(other) {
+            return false;
+        }
+        let grown = self.grown(other);
+        if grown.knowledge() < self.knowledge() && grown.covers(self) && grown.covers(other) {
+            *self = grown;
+        } else {
+            *self = Space::full();
+        }
+        true
+    }
+
+    /// A number that falls when the space grows.
+    fn knowledge(&self) -> usize {
+        9 * self.known.count_ones() as usize + (DIRECTIONS - self.count)
+    }
+
+    /// The join, as it is found.
+    fn grown(&self, other: &Space) -> Space {
+        let mut next = *self;
+        next.restrict(other.known);
+        for index in 0..other.count {
+            next.insert(&other.direction(index));
+        }
+        match self.difference(other) {
+            Some(difference) => next.insert(&difference),
+            None => next = Space::full(),
+        }
+        next
+    }
+
+    /// Forgets all variables that are not in the mask.
+    pub(crate) fn restrict(&mut self, mask: u64) {
+        let lost = self.known & !mask;
+        if lost != 0 {
+            for rank in 0..TRACKED {
+                if (lost >> rank) & 1 == 1 {
+                    self.forget(rank);
+                }
+            }
+            self.repair();
+        }
+    }
+
+    /// Gives each direction a pivot that no other direction changes, where some have lost theirs.
+    pub(crate) fn repair(&mut self) {
+        let old = *self;
+        for index in (0..old.count).rev() {
+            if !old.has_pivot(index) && index < self.count {
+                self.remove(index);
+            }
+        }
+        for index in 0..old.count {
+            if !old.has_pivot(index) {
+                self.insert(&old.direction(index));
+            }
+        }
+        self.settle();
+    }
+
+    /// Whether no other direction changes the pivot of this one.
+    fn has_pivot(&self, index: usize) -> bool {
+        let pivot = usize::from(self.pivots[index]);
+        if !self.knows(pivot) {
+            return false;
+        }
+        for other in 0..self.count {
+            if (self.columns[pivot][other] != 0) != (other == index) {
+                return false;
+            }
+        }
+        true
+    }
+
+    /// Removes a direction; the last one takes its place.
+    fn remove(&mut self, index: usize) {
+        let last = self.count - 1;
+        for rank in 0..TRACKED {
+            self.columns[rank][index] = self.columns[rank][last];
+            self.columns[rank][last] = 0;
+        }
+        self.pivots[index] = self.pivots[last];
+        self.count = last;
+    }
+
+    /// Adds a vector to the directions, as far as there is room; else the variables that it changes are forgotten.
+    fn insert(&mut self, vector: &Vector) {
+        match self.remainder(vector) {
+            Some(rest) => self.add(&rest.reduced()),
+            None => *self = Space::full(),
+        }
+    }
+
+    /// What the directions leave of a vector when its entries at their pivots are made 0.
+    fn remainder(&self, vector: &Vector) -> Option<Vector> {
+        let mut rest = vector.restricted(self.known);
+        for index in 0..self.count {
+            let pivot = usize::from(self.pivots[index]);
+            if pivot < TRACKED && rest.entries[pivot] != 0 {
+                rest = rest.without(&self.direction(index), pivot)?;
+            }
+        }
+        Some(rest)
+    }
+
+    /// Adds a vector whose entries at the pivots are 0.
+    fn add(&mut self, vector: &Vector) {
+        let Some(pivot) = vector.least() else {
+            return;
+        };
+        if self.count == DIRECTIONS || !fits(vector) || vector.terms() == 1 {
+            self.forget_all(vector);
+            self.settle();
+            return;
+        }
+        for index in (0..self.count).rev() {
+            if index < self.count && self.columns[pivot][index] != 0 {
+                self.clear(index, vector, pivot);
+            }
+        }
+        let left = vector.restricted(self.known);
+        self.append(&left, pivot);
+        self.settle();
+    }
+
+    /// Makes the coefficient of a direction at `pivot` 0 by the vector.
+    fn clear(&mut self, index: usize, vector: &Vector, pivot: usize) {
+        match self.direction(index).without(vector, pivot) {
+            Some(row) => {
+                let row = row.reduced();
+                if fits(&row) {
+                    self.set_direction(index, &row);
+                } else {
+                    self.remove(index);
+                    self.forget_all(&row);
+                }
+            }
+            None => *self = Space::full(),
+        }
+    }
+
+    fn append(&mut self, vector: &Vector, pivot: usize) {
+        if self.count < DIRECTIONS {
+            self.count += 1;
+            self.pivots[self.count - 1] = pivot as u8;
+            self.set_direction(self.count - 1, vector);
+        }
+    }
+
+    fn set_direction(&mut self, index: usize, vector: &Vector) {
+        for rank in 0..TRACKED {
+            self.columns[rank][index] = i16::try_from(vector.entries[rank]).unwrap_or(0);
+        }
+    }
+
+    /// Forgets the variables that a vector changes.
+    fn forget_all(&mut self, vector: &Vector) {
+        for rank in 0..TRACKED {
+            if vector.entries[rank] != 0 {
+                self.forget(rank);
+            }
+        }
+    }
+
+    /// Removes each direction that changes at most one variable; that variable is then forgotten.
+    fn settle(&mut self) {
+        for index in (0..self.count).rev() {
+            if index < self.count {
+                let row = self.direction(index);
+                if row.terms() <= 1 {
+                    self.remove(index);
+                    self.forget_all(&row);
+                } else {
+                    self.set_direction(index, &row.reduced());
+                }
+            }
+        }
+    }
+}
+
+/// Whether each entry fits a direction.
+fn fits(vector: &Vector) -> bool {
+    vector
+        .entries
+        .iter()
+        .all(|entry| entry.unsigned_abs() <= GREATEST_COEFFICIENT)
+}

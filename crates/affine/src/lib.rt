@@ -1,0 +1,14 @@
+// Affine spaces: the linear equalities between the registers and the stack slots of a row.
+#![tactic(auto)]
+
+mod joining;
+mod relations;
+mod space;
+mod spans;
+mod steps;
+mod tracked;
+mod vector;
+
+pub use relations::{GREATEST_FACTOR, MOST_RELATIONS, Relations};
+pub use space::{DIRECTIONS, GREATEST_COORDINATE, Space};
+pub use tracked::{TRACKED, TRACKED_SLOTS};
