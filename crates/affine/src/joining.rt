@@ -1,4 +1,8 @@
 // Joins: the least space with all values of two.
+ghost use Rattle.std.specs.Prelude.{◌≡◌, ◌<◌, ℤ};
+ghost use Rattle.std.specs.Bool.{OnTrue, OnFalse};
+ghost use Rattle.loop_bounds.specs.declared.variable.Variable.{Variable};
+ghost use Rattle.affine.specs.Space.{LiesOn, knowledge_of};
 
 use crate::space::{DIRECTIONS, Space};
 use crate::tracked::TRACKED;
@@ -8,8 +12,14 @@ use crate::vector::Vector;
 const GREATEST_COEFFICIENT: u32 = 32_767;
 
 impl Space {
-    /// Joins another space: this one then has the values of both. The result says whether it grew.
-    pub fn join(&mut self, other: &Space) -> bool {
+    /// Joins another space: all values of both then lie on this one. The result says whether it grew. It grows only
+    /// finitely often.
+    pub fn join(&mut self, other: &Space) -> bool
+        ensures own { (x : Variable → ℤ) → LiesOn self.old x → LiesOn self.new x }
+        ensures other { (x : Variable → ℤ) → LiesOn other.now x → LiesOn self.new x }
+        ensures unchanged { OnFalse result (self.new ≡ self.old) }
+        ensures grows { OnTrue result (knowledge_of self.new < knowledge_of self.old) }
+    {
         if self.known == 0 || self.covers(other) {
             return false;
         }
@@ -22,8 +32,10 @@ impl Space {
         true
     }
 
-    /// A number that falls when the space grows.
-    fn knowledge(&self) -> usize {
+    /// Nine for each known variable, and one for each direction that is missing.
+    fn knowledge(&self) -> usize
+        ensures { result ≡ knowledge_of self.now }
+    {
         9 * self.known.count_ones() as usize + (DIRECTIONS - self.count)
     }
 
@@ -71,7 +83,9 @@ impl Space {
     }
 
     /// Whether no other direction changes the pivot of this one.
-    fn has_pivot(&self, index: usize) -> bool {
+    fn has_pivot(&self, index: usize) -> bool
+        requires { index < 8 }
+    {
         let pivot = usize::from(self.pivots[index]);
         if !self.knows(pivot) {
             return false;
@@ -85,7 +99,9 @@ impl Space {
     }
 
     /// Removes a direction; the last one takes its place.
-    fn remove(&mut self, index: usize) {
+    fn remove(&mut self, index: usize)
+        requires { index < self.old.count }
+    {
         let last = self.count - 1;
         for rank in 0..TRACKED {
             self.columns[rank][index] = self.columns[rank][last];
@@ -136,7 +152,9 @@ impl Space {
     }
 
     /// Makes the coefficient of a direction at `pivot` 0 by the vector.
-    fn clear(&mut self, index: usize, vector: &Vector, pivot: usize) {
+    fn clear(&mut self, index: usize, vector: &Vector, pivot: usize)
+        requires { index < self.old.count }
+    {
         match self.direction(index).without(vector, pivot) {
             Some(row) => {
                 let row = row.reduced();
@@ -151,7 +169,10 @@ impl Space {
         }
     }
 
-    fn append(&mut self, vector: &Vector, pivot: usize) {
+    /// Adds a direction, if there is room.
+    fn append(&mut self, vector: &Vector, pivot: usize)
+        requires { pivot < 48 }
+    {
         if self.count < DIRECTIONS {
             self.count += 1;
             self.pivots[self.count - 1] = pivot as u8;
@@ -159,7 +180,10 @@ impl Space {
         }
     }
 
-    fn set_direction(&mut self, index: usize, vector: &Vector) {
+    /// Sets the coefficients of a direction.
+    fn set_direction(&mut self, index: usize, vector: &Vector)
+        requires { index < 8 }
+    {
         for rank in 0..TRACKED {
             self.columns[rank][index] = i16::try_from(vector.entries[rank]).unwrap_or(0);
         }

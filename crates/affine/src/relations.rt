@@ -1,7 +1,7 @@
 // Linear equalities that hold on a space.
 
 use crate::space::{DIRECTIONS, Space};
-use crate::tracked::{TRACKED, is_half, rank, variable};
+use crate::tracked::{TRACKED, is_half, variable};
 use crate::vector::common_divisor;
 use loop_bounds::{Linear, Term, Variable};
 
@@ -70,7 +70,8 @@ impl Space {
     pub fn triples(&self, with: Variable) -> Relations {
         let mut found = Relations::none();
         let moving = self.moving();
-        if let Some(with) = rank(with) {
+        let with = usize::from(with.rank());
+        if with < TRACKED {
             if (moving >> with) & 1 == 1 {
                 for first in 0..TRACKED {
                     if first != with && (moving >> first) & 1 == 1 {
@@ -90,7 +91,7 @@ impl Space {
     fn moving(&self) -> u64 {
         let mut moving = 0;
         for rank in 0..TRACKED {
-            if self.knows(rank) && self.moves(rank) {
+            if self.moves(rank) {
                 moving |= 1 << rank;
             }
         }
@@ -115,7 +116,7 @@ impl Space {
 
     /// Factors with which two columns sum to 0.
     fn ratio(&self, first: usize, second: usize) -> Option<(i64, i64)> {
-        if is_half(variable(first)?, variable(second)?) {
+        if is_half(first, second) {
             return None;
         }
         let mut place = 0;
@@ -170,11 +171,7 @@ impl Space {
 
     /// Factors other than 0 with which three columns sum to 0, if they are determined.
     fn null_vector(&self, with: usize, first: usize, second: usize) -> Option<(i64, i64, i64)> {
-        let (at_with, at_first, at_second) = (variable(with)?, variable(first)?, variable(second)?);
-        if is_half(at_with, at_first)
-            || is_half(at_with, at_second)
-            || is_half(at_first, at_second)
-        {
+        if is_half(with, first) || is_half(with, second) || is_half(first, second) {
             return None;
         }
         let (one, two, three) = (
@@ -257,9 +254,7 @@ impl Space {
     fn vanishes_at(&self, linear: &Linear) -> bool {
         let mut sum = i64::from(linear.constant());
         for term in linear.terms() {
-            let Some(rank) = rank(term.variable) else {
-                return false;
-            };
+            let rank = usize::from(term.variable.rank());
             if !self.knows(rank) {
                 return false;
             }
@@ -273,7 +268,8 @@ impl Space {
         for index in 0..self.count {
             let mut sum: i64 = 0;
             for term in linear.terms() {
-                if let Some(rank) = rank(term.variable) {
+                let rank = usize::from(term.variable.rank());
+                if rank < TRACKED {
                     sum = sum.saturating_add(i64::from(term.coefficient).saturating_mul(i64::from(
                         self.columns[rank][index],
                     )));

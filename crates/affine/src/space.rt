@@ -1,7 +1,9 @@
 // Affine spaces over the registers and the stack slots of a row.
-ghost use Rattle.std.specs.Prelude.{◌≤◌};
+ghost use Rattle.std.specs.Prelude.{◌≡◌, ◌↔◌, ◌≢◌, ℕ, ◌<◌, ◌≤◌, ℤ, pos, ◌-ℤ◌, IsTrue, IsSome, IfSome, length, slice_index_or, false};
+ghost use Rattle.loop_bounds.specs.declared.variable.Variable.{Variable};
+ghost use Rattle.loop_bounds.specs.Variable.{rank_of};
 
-use crate::tracked::{TRACKED, rank};
+use crate::tracked::TRACKED;
 use crate::vector::Vector;
 use loop_bounds::Variable;
 
@@ -9,7 +11,7 @@ use loop_bounds::Variable;
 pub const DIRECTIONS: usize = 8;
 
 /// The greatest coordinate of a space's point, in size.
-pub const GREATEST_COORDINATE: i32 = 1_000_000;
+pub const GREATEST_COORDINATE: u32 = 1_000_000;
 
 /// A set of values of the variables: a point, and directions. Of some variables it knows nothing.
 #[derive(Clone, Copy)]
@@ -28,8 +30,14 @@ pub struct Space {
 }
 
 impl Space {
+    ghost use Rattle.affine.specs.Space.{LiesOn, IsKnownAt, IsSameAt, coordinate_at, coefficient_at, knowledge_of};
+    ghost use Rattle.affine.specs.Vector.{entry_at};
+
     /// The space of all values.
-    pub fn full() -> Space {
+    pub fn full() -> Space
+        ensures all { (x : Variable → ℤ) → LiesOn result x }
+        ensures least { knowledge_of result ≡ 8 }
+    {
         Space {
             known: 0,
             point: [0; TRACKED],
@@ -39,14 +47,18 @@ impl Space {
         }
     }
 
-    /// Whether something is known of the variable of this rank.
-    pub(crate) fn knows(&self, rank: usize) -> bool {
+    /// Whether something is known of the variable of a rank.
+    pub(crate) fn knows(&self, rank: usize) -> bool
+        ensures { IsTrue result ↔ IsKnownAt self.now rank }
+    {
         rank < TRACKED && (self.known >> rank) & 1 == 1
     }
 
     /// The value of a variable, if it has only one.
-    pub fn constant(&self, variable: Variable) -> Option<i32> {
-        let rank = rank(variable)?;
+    pub fn constant(&self, variable: Variable) -> Option<i32>
+        ensures { IfSome result (λ k. (x : Variable → ℤ) → LiesOn self.now x → x variable ≡ k) }
+    {
+        let rank = usize::from(variable.rank());
         if self.knows(rank) && !self.moves(rank) {
             Some(self.point[rank])
         } else {
@@ -54,16 +66,28 @@ impl Space {
         }
     }
 
-    /// Whether some direction changes the variable of this rank.
-    pub(crate) fn moves(&self, rank: usize) -> bool {
-        self.columns[rank]
-            .iter()
-            .take(self.count)
-            .any(|coefficient| *coefficient != 0)
+    /// Whether something is known of the variable of a rank, and some direction changes it.
+    pub(crate) fn moves(&self, rank: usize) -> bool
+        ensures { IsKnownAt self.now rank → result ≡ false
+            → (i : ℕ) → i < self.now.count → coefficient_at self.now rank i ≡ pos 0 }
+    {
+        if !self.knows(rank) {
+            return false;
+        }
+        for index in 0..self.count {
+            if self.columns[rank][index] != 0 {
+                return true;
+            }
+        }
+        false
     }
 
     /// The coefficients of a direction.
-    pub(crate) fn direction(&self, index: usize) -> Vector {
+    pub(crate) fn direction(&self, index: usize) -> Vector
+        requires { index < 8 }
+        ensures { (rank : ℕ) → rank < 48
+            → entry_at result rank ≡ coefficient_at self.now rank index }
+    {
         let mut entries = [0; TRACKED];
         for rank in 0..TRACKED {
             entries[rank] = i32::from(self.columns[rank][index]);
@@ -72,7 +96,10 @@ impl Space {
     }
 
     /// The point of another space minus this one's, or None if a difference does not fit.
-    pub(crate) fn difference(&self, other: &Space) -> Option<Vector> {
+    pub(crate) fn difference(&self, other: &Space) -> Option<Vector>
+        ensures { IfSome result (λ d. (rank : ℕ) → rank < 48
+            → entry_at d rank ≡ coordinate_at other.now rank -ℤ coordinate_at self.now rank) }
+    {
         let mut entries = [0; TRACKED];
         for rank in 0..TRACKED {
             entries[rank] = other.point[rank].checked_sub(self.point[rank])?;
@@ -80,8 +107,28 @@ impl Space {
         Some(Vector { entries })
     }
 
-    /// Forgets the variable of this rank.
-    pub(crate) fn forget(&mut self, rank: usize) {
+    /// Makes the variable of a rank a known one, with a value and coefficients.
+    pub(crate) fn set(&mut self, rank: usize, value: i32, column: [i16; DIRECTIONS])
+        requires { rank < 48 }
+        ensures known { IsKnownAt self.new rank }
+        ensures value { coordinate_at self.new rank ≡ value }
+        ensures column { (i : ℕ) → coefficient_at self.new rank i
+            ≡ slice_index_or column i (pos 0) }
+        ensures others { (r : ℕ) → r < 48 → r ≢ rank → IsSameAt self.old self.new r }
+        ensures count { self.new.count ≡ self.old.count }
+    {
+        self.known |= 1 << rank;
+        self.point[rank] = value;
+        self.columns[rank] = column;
+    }
+
+    /// Forgets the variable of a rank.
+    pub(crate) fn forget(&mut self, rank: usize)
+        requires { rank < 48 }
+        ensures unknown { ¬ IsKnownAt self.new rank }
+        ensures others { (r : ℕ) → r < 48 → r ≢ rank → IsSameAt self.old self.new r }
+        ensures count { self.new.count ≡ self.old.count }
+    {
         self.known &= !(1 << rank);
         self.point[rank] = 0;
         self.columns[rank] = [0; DIRECTIONS];

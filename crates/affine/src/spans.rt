@@ -1,4 +1,9 @@
 // Whether a space has all values of another.
+ghost use Rattle.std.specs.Prelude.{◌≡◌, ℕ, ◌<◌, ◌≤◌, ◌*◌, ◌^◌, ℤ, pos, ◌*ℤ◌, IsTrue, IfSome, All, unsigned_abs, slice_index_or};
+ghost use Rattle.loop_bounds.specs.declared.variable.Variable.{Variable};
+ghost use Rattle.loop_bounds.specs.Variable.{rank_of};
+ghost use Rattle.affine.specs.Space.{combination, coefficient_at, IsSpanned, LiesOn};
+ghost use Rattle.affine.specs.Vector.{entry_at};
 
 use crate::space::{DIRECTIONS, Space};
 use crate::tracked::TRACKED;
@@ -10,18 +15,35 @@ const GREATEST_SCALE: u32 = 1_000_000;
 /// The greatest factor of a direction, in size.
 const GREATEST_MULTIPLE: u64 = 1 << 44;
 
+/// A factor times a coefficient.
+fn product(factor: i64, coefficient: i16) -> i64
+    requires { unsigned_abs factor ≤ 2 ^ 44 }
+    ensures value { result ≡ factor *ℤ coefficient }
+    ensures size { unsigned_abs result ≤ 2 ^ 59 }
+{
+    factor * i64::from(coefficient)
+}
+
+/// A scale times an entry.
+fn scaled(scale: u32, entry: i32) -> i64
+    requires { scale ≤ 1000000 }
+    ensures { result ≡ pos scale *ℤ entry }
+{
+    i64::from(scale) * i64::from(entry)
+}
+
 impl Space {
     /// A number that the coefficient of each direction at its pivot divides, or None if it is too great.
-    fn scale(&self) -> Option<u32> {
+    fn scale(&self) -> Option<u32>
+        ensures { IfSome result (λ scale. (0 < scale) × (scale ≤ 1000000)) }
+    {
         let mut scale: u32 = 1;
         for index in 0..self.count {
-            let pivot = usize::from(self.pivots[index]);
-            let leading = match self.columns.get(pivot) {
-                Some(column) => column[index].unsigned_abs(),
+            let leading = match self.columns.get(usize::from(self.pivots[index])) {
+                Some(column) => u32::from(column[index].unsigned_abs()),
                 None => return None,
             };
             if leading != 1 {
-                let leading = u32::from(leading);
                 let divisor = common_divisor(scale, leading).max(1);
                 scale = (scale / divisor).checked_mul(leading)?;
             }
@@ -33,21 +55,18 @@ impl Space {
         }
     }
 
-    /// The factors of the directions in `scale` times the vector, if it is a combination of them.
-    fn factors(&self, vector: &Vector, scale: u32) -> Option<[i64; DIRECTIONS]> {
+    /// The factors of the directions in `scale` times the vector, if it is a sum of multiples of them.
+    fn factors(&self, vector: &Vector, scale: u32) -> Option<[i64; DIRECTIONS]>
+        ensures { IfSome result (λ factors. All (λ f. unsigned_abs f ≤ 2 ^ 44) factors) }
+    {
         let mut factors = [0; DIRECTIONS];
         for index in 0..self.count {
             let pivot = usize::from(self.pivots[index]);
             if pivot >= TRACKED {
                 return None;
             }
-            let leading = i64::from(self.columns[pivot][index]);
-            if leading == 0 {
-                return None;
-            }
-            let factor = i64::from(vector.entries[pivot]).saturating_mul(i64::from(
-                scale,
-            ).checked_div(leading)?);
+            let multiple = i64::from(scale).checked_div(i64::from(self.columns[pivot][index]))?;
+            let factor = multiple.checked_mul(i64::from(vector.entries[pivot]))?;
             if factor.unsigned_abs() > GREATEST_MULTIPLE {
                 return None;
             }
@@ -56,19 +75,25 @@ impl Space {
         Some(factors)
     }
 
-    /// The sum of the factors times the coefficients at a variable.
-    fn combined(&self, factors: &[i64; DIRECTIONS], rank: usize) -> i64 {
-        let mut sum: i64 = 0;
+    /// The sum of the factors times the coefficients at the variable of a rank.
+    fn combined(&self, factors: &[i64; DIRECTIONS], rank: usize) -> i64
+        requires rank { rank < 48 }
+        requires small { All (λ f. unsigned_abs f ≤ 2 ^ 44) factors.now }
+        ensures { result ≡ combination self.now.count (λ i. slice_index_or factors.now i (pos 0))
+            (coefficient_at self.now rank) }
+    {
+        let mut sum = 0;
         for index in 0..self.count {
-            sum = sum.saturating_add(factors[index].saturating_mul(i64::from(
-                self.columns[rank][index],
-            )));
+            sum += product(factors[index], self.columns[rank][index]);
         }
         sum
     }
 
-    /// Whether the vector is a combination of the directions, at the known variables.
-    fn spans(&self, vector: &Vector) -> bool {
+    /// Whether the vector is a sum of multiples of the directions, at the known variables. The answer may be no where a
+    /// number grows too great.
+    fn spans(&self, vector: &Vector) -> bool
+        ensures { IsTrue result → IsSpanned self.now (λ v. entry_at vector.now (rank_of v)) }
+    {
         let Some(scale) = self.scale() else {
             return false;
         };
@@ -76,18 +101,20 @@ impl Space {
             return false;
         };
         for rank in 0..TRACKED {
-            if self.knows(rank) {
-                let scaled = i64::from(vector.entries[rank]).saturating_mul(i64::from(scale));
-                if scaled != self.combined(&factors, rank) {
-                    return false;
-                }
+            if self.knows(rank)
+                && scaled(scale, vector.entries[rank]) != self.combined(&factors, rank)
+            {
+                return false;
             }
         }
         true
     }
 
-    /// Whether each direction of the other space is a combination of the directions of this one.
-    fn spans_directions(&self, other: &Space) -> bool {
+    /// Whether each direction of the other space is a sum of multiples of the directions of this one.
+    fn spans_directions(&self, other: &Space) -> bool
+        ensures { IsTrue result → (i : ℕ) → i < other.now.count
+            → IsSpanned self.now (λ v. coefficient_at other.now (rank_of v) i) }
+    {
         for index in 0..other.count {
             if !self.spans(&other.direction(index)) {
                 return false;
@@ -96,8 +123,10 @@ impl Space {
         true
     }
 
-    /// Whether this space has all values of the other.
-    pub(crate) fn covers(&self, other: &Space) -> bool {
+    /// Whether this space has all values of the other. The answer may be no where a number grows too great.
+    pub(crate) fn covers(&self, other: &Space) -> bool
+        ensures { IsTrue result → (x : Variable → ℤ) → LiesOn other.now x → LiesOn self.now x }
+    {
         if self.known & !other.known != 0 {
             return false;
         }

@@ -1,202 +1,254 @@
 // Steps: what an effect leaves of a space.
+ghost use Rattle.std.specs.Prelude.{◌≡◌, ◌≢◌, ℕ, ◌<◌, ◌≤◌, ℤ};
+ghost use Rattle.loop_bounds.specs.declared.variable.Variable.{Variable};
+ghost use Rattle.loop_bounds.specs.Variable.{rank_of};
+ghost use Rattle.loop_bounds.specs.Effect.{Valuation, whole, change_of};
+ghost use Rattle.affine.specs.Space.{LiesOn, IsKnownAt, IsSameAt, IsEmptied, Forgets};
+ghost use Rattle.affine.specs.Step.{LeadsTo, IsMoved, IsTakenAt, first_written};
 
 use crate::space::{DIRECTIONS, GREATEST_COORDINATE, Space};
-use crate::tracked::{REGISTERS, TRACKED, TRACKED_SLOTS, rank};
-use loop_bounds::{Change, Effect, Part, Variable};
+use crate::tracked::{REGISTERS, TRACKED, TRACKED_SLOTS, variable};
+use loop_bounds::{Change, Effect, Variable};
 
 /// The variable from which a change takes its value.
-fn source(change: Change) -> Option<Variable> {
-    match change {
+fn source(change: &Change) -> Option<Variable> {
+    match *change {
         Change::Old(from) | Change::Raised(from) | Change::Lowered(from) => Some(from),
         Change::Constant(_) | Change::Unknown => None,
     }
 }
 
-/// The parts of the slot that an effect writes.
-fn slot_variables(effect: &Effect) -> Option<[Variable; 3]> {
-    match effect.slot {
-        Some(slot) => Some([
-            Variable::Slot(slot.number, Part::Word),
-            Variable::Slot(slot.number, Part::High),
-            Variable::Slot(slot.number, Part::Low),
-        ]),
-        None => None,
+/// Whether a change takes its value from the variable of a rank.
+fn takes(change: &Change, rank: usize) -> bool {
+    match source(change) {
+        Some(from) => usize::from(from.rank()) == rank,
+        None => false,
     }
 }
 
-/// How many variables take their value from this one.
-fn images(effect: &Effect, from: Variable) -> usize {
-    let mut count = match from {
-        Variable::Slot(_, _) if source(effect.change(from)) == Some(from) => 1,
-        _ => 0,
-    };
-    for variable in REGISTERS {
-        if source(effect.change(variable)) == Some(from) {
-            count += 1;
+/// The lowest rank of the slot that an effect writes; the number of tracked variables if it writes no tracked one.
+fn first_written(effect: &Effect) -> usize
+    ensures value { result ≡ first_written effect.now.slot }
+    ensures low { 12 ≤ result }
+    ensures high { result ≤ 48 }
+{
+    match effect.slot {
+        Some(slot) => (REGISTERS + 3 * usize::from(slot.number.number())).min(TRACKED),
+        None => TRACKED,
+    }
+}
+
+/// What an effect leaves in the variable of a rank.
+fn change_at(effect: &Effect, rank: usize) -> Change
+    ensures { rank < 48 → (v : Variable) → rank_of v ≡ rank → result ≡ change_of effect.now v }
+{
+    match variable(rank) {
+        Some(variable) => effect.change(variable),
+        None => Change::Unknown,
+    }
+}
+
+/// The lowest rank of a slot from number `slots` on.
+fn end_of(slots: usize) -> usize
+    ensures { result ≤ 48 }
+{
+    REGISTERS + 3 * slots.min(TRACKED_SLOTS)
+}
+
+/// Whether a variable other than that of rank `but` takes its value from the variable of rank `from`.
+fn is_read(effect: &Effect, from: usize, but: usize) -> bool {
+    for rank in 0..REGISTERS {
+        if rank != but && takes(&change_at(effect, rank), from) {
+            return true;
         }
     }
-    if let Some(variables) = slot_variables(effect) {
-        for variable in variables {
-            if variable != from && source(effect.change(variable)) == Some(from) {
-                count += 1;
-            }
+    let first = first_written(effect);
+    for rank in first..(first + 3).min(TRACKED) {
+        if rank != but && takes(&change_at(effect, rank), from) {
+            return true;
         }
     }
-    count
+    false
 }
 
 impl Space {
-    /// What a step with this effect leaves. Of slots from number `slots` on nothing is known then.
-    pub fn after(&self, effect: &Effect, slots: usize) -> Space {
+    /// What a step with this effect leaves, where the stack shape has `slots` slots after the step. Nothing is known
+    /// then of slots from that number on, nor of slots that are not tracked.
+    pub fn after(&self, effect: &Effect, slots: usize) -> Space
+        ensures { (before : Valuation) (x : Variable → ℤ) → LiesOn self.now (whole before)
+            → LeadsTo effect.now before x → LiesOn result x }
+    {
         let mut shared = *self;
-        shared.share(effect);
-        let mut next = shared;
-        next.take_all(&shared, effect);
+        shared.share(effect, slots);
+        let mut next = shared.taken(effect);
         next.keep_slots(slots);
-        if !shared.is_disturbed(effect, slots) {
-            return next;
+        if shared.is_disturbed(effect, slots) {
+            next.repaired()
+        } else {
+            next
         }
-        let mut tidy = next;
+    }
+
+    /// The space with pivots for all directions.
+    fn repaired(&self) -> Space
+        ensures { (x : Variable → ℤ) → LiesOn self.now x → LiesOn result x }
+    {
+        let mut tidy = *self;
         tidy.repair();
-        if tidy.covers(&next) {
+        if tidy.covers(self) {
             tidy
         } else {
             Space::full()
         }
     }
 
-    /// Gives a direction of its own to each unknown variable from which several variables take their value.
-    fn share(&mut self, effect: &Effect) {
-        for variable in REGISTERS {
-            self.share_source(effect, variable);
+    /// Gives each unknown variable a direction of its own from which several variables take their value.
+    fn share(&mut self, effect: &Effect, slots: usize)
+        ensures { (x : Variable → ℤ) → LiesOn self.old x → LiesOn self.new x }
+    {
+        for rank in 0..REGISTERS {
+            self.share_source(effect, rank, slots);
         }
-        if let Some(variables) = slot_variables(effect) {
-            for variable in variables {
-                self.share_source(effect, variable);
+        let first = first_written(effect);
+        for rank in first..(first + 3).min(TRACKED) {
+            self.share_source(effect, rank, slots);
+        }
+    }
+
+    /// Gives the unknown variable from which the one of this rank takes its value a direction, if another has that
+    /// value after the step too.
+    fn share_source(&mut self, effect: &Effect, rank: usize, slots: usize)
+        ensures { (x : Variable → ℤ) → LiesOn self.old x → LiesOn self.new x }
+    {
+        if let Some(variable) = source(&change_at(effect, rank)) {
+            if self.is_shared(&variable, effect, rank, slots) {
+                self.release(&variable);
             }
         }
     }
 
-    fn share_source(&mut self, effect: &Effect, variable: Variable) {
-        if let Some(from) = source(effect.change(variable)) {
-            if from != variable && images(effect, from) > 1 {
-                if let Some(rank) = rank(from) {
-                    if !self.knows(rank) {
-                        self.release(rank);
-                    }
-                }
-            }
-        }
+    /// Whether a variable is unknown, and its value is that of the variable of `rank` and of another one after the step.
+    fn is_shared(&self, variable: &Variable, effect: &Effect, rank: usize, slots: usize) -> bool {
+        let from = usize::from(variable.rank());
+        from != rank
+            && !self.knows(from)
+            && (is_read(effect, from, rank)
+                || (from < end_of(slots) && takes(&change_at(effect, from), from)))
     }
 
     /// Gives an unknown variable a direction of its own, if there is room.
-    fn release(&mut self, rank: usize) {
-        if self.count < DIRECTIONS {
-            for place in 0..TRACKED {
-                self.columns[place][self.count] = 0;
-            }
-            self.columns[rank] = [0; DIRECTIONS];
-            self.columns[rank][self.count] = 1;
-            self.point[rank] = 0;
-            self.pivots[self.count] = rank as u8;
-            self.known |= 1 << rank;
-            self.count += 1;
+    fn release(&mut self, variable: &Variable)
+        ensures { (x : Variable → ℤ) → LiesOn self.old x → LiesOn self.new x }
+    {
+        let rank = usize::from(variable.rank());
+        let index = self.count;
+        if index < DIRECTIONS && rank < TRACKED {
+            let mut column = [0; DIRECTIONS];
+            column[index] = 1;
+            self.empty(index);
+            self.set(rank, 0, column);
+            self.pivots[index] = rank as u8;
+            self.count = index + 1;
         }
     }
 
-    fn take_all(&mut self, from: &Space, effect: &Effect) {
-        for variable in REGISTERS {
-            self.take(variable, effect.change(variable), from);
-        }
-        if let Some(variables) = slot_variables(effect) {
-            for variable in variables {
-                self.take(variable, effect.change(variable), from);
-            }
+    /// Makes all coefficients of a direction 0.
+    fn empty(&mut self, index: usize)
+        requires { index < 8 }
+        ensures { IsEmptied self.old self.new index }
+    {
+        for rank in 0..TRACKED {
+            self.columns[rank][index] = 0;
         }
     }
 
-    /// Sets a variable to what a change leaves.
-    fn take(&mut self, variable: Variable, change: Change, from: &Space) {
+    /// What a step with this effect leaves in each variable.
+    fn taken(&self, effect: &Effect) -> Space
+        ensures each { (v : Variable) → IsTakenAt self.now result (rank_of v)
+            (change_of effect.now v) }
+        ensures count { result.count ≡ self.now.count }
+    {
+        let mut next = *self;
+        for rank in 0..REGISTERS {
+            next.take(rank, change_at(effect, rank), self);
+        }
+        let first = first_written(effect);
+        for rank in first..(first + 3).min(TRACKED) {
+            next.take(rank, change_at(effect, rank), self);
+        }
+        next
+    }
+
+    /// Sets the variable of a rank to what a change leaves.
+    fn take(&mut self, rank: usize, change: Change, from: &Space)
+        requires { rank < 48 }
+        ensures taken { IsTakenAt from.now self.new rank change }
+        ensures others { (r : ℕ) → r < 48 → r ≢ rank → IsSameAt self.old self.new r }
+        ensures count { self.new.count ≡ self.old.count }
+    {
         match change {
-            Change::Old(source) => self.copy(variable, from, source, 0),
-            Change::Raised(source) => self.copy(variable, from, source, 1),
-            Change::Lowered(source) => self.copy(variable, from, source, -1),
-            Change::Constant(value) => self.set_constant(variable, i32::from(value)),
-            Change::Unknown => self.forget_variable(variable),
+            Change::Old(source) => self.copy(rank, from, source, 0),
+            Change::Raised(source) => self.copy(rank, from, source, 1),
+            Change::Lowered(source) => self.copy(rank, from, source, -1),
+            Change::Constant(value) => self.set(rank, i32::from(value), [0; DIRECTIONS]),
+            Change::Unknown => self.forget(rank),
         }
     }
 
-    fn copy(&mut self, variable: Variable, from: &Space, source: Variable, by: i32) {
-        match (rank(variable), rank(source)) {
-            (Some(to), Some(source)) if from.knows(source) => {
-                let value = from.point[source].saturating_add(by);
-                if value.unsigned_abs() <= GREATEST_COORDINATE as u32 {
-                    self.known |= 1 << to;
-                    self.point[to] = value;
-                    self.columns[to] = from.columns[source];
-                } else {
-                    self.forget(to);
+    /// Sets the variable of a rank to another one's value plus a number.
+    fn copy(&mut self, rank: usize, from: &Space, source: Variable, by: i32)
+        requires rank { rank < 48 }
+        ensures taken { IsKnownAt self.new rank
+            → IsMoved from.now self.new rank (rank_of source) by }
+        ensures others { (r : ℕ) → r < 48 → r ≢ rank → IsSameAt self.old self.new r }
+        ensures count { self.new.count ≡ self.old.count }
+    {
+        let source = usize::from(source.rank());
+        if from.knows(source) {
+            if let Some(value) = from.point[source].checked_add(by) {
+                if value.unsigned_abs() <= GREATEST_COORDINATE {
+                    self.set(rank, value, from.columns[source]);
+                    return;
                 }
             }
-            (Some(to), _) => self.forget(to),
-            (None, _) => {}
         }
+        self.forget(rank);
     }
 
-    fn set_constant(&mut self, variable: Variable, value: i32) {
-        if let Some(to) = rank(variable) {
-            self.known |= 1 << to;
-            self.point[to] = value;
-            self.columns[to] = [0; DIRECTIONS];
-        }
-    }
-
-    fn forget_variable(&mut self, variable: Variable) {
-        if let Some(to) = rank(variable) {
-            self.forget(to);
-        }
-    }
-
-    /// Forgets the slots from number `slots` on.
-    fn keep_slots(&mut self, slots: usize) {
-        if slots < TRACKED_SLOTS {
-            let first = 12 + 3 * slots;
-            if self.known >> first != 0 {
-                for rank in first..TRACKED {
-                    self.forget(rank);
-                }
+    /// Forgets the slots from a number on.
+    fn keep_slots(&mut self, slots: usize)
+        ensures { Forgets self.old self.new }
+    {
+        for rank in end_of(slots)..TRACKED {
+            if self.knows(rank) {
+                self.forget(rank);
             }
         }
     }
 
     /// Whether a step overwrites or forgets a variable that some direction changes.
     fn is_disturbed(&self, effect: &Effect, slots: usize) -> bool {
-        for variable in REGISTERS {
-            if source(effect.change(variable)) != Some(variable) && self.has_moving(variable) {
+        for rank in 0..REGISTERS {
+            if self.is_overwritten(effect, rank) {
                 return true;
             }
         }
-        if let Some(variables) = slot_variables(effect) {
-            for variable in variables {
-                if source(effect.change(variable)) != Some(variable) && self.has_moving(variable) {
-                    return true;
-                }
+        let first = first_written(effect);
+        for rank in first..(first + 3).min(TRACKED) {
+            if self.is_overwritten(effect, rank) {
+                return true;
             }
         }
-        if slots < TRACKED_SLOTS {
-            for rank in 12 + 3 * slots..TRACKED {
-                if self.knows(rank) && self.moves(rank) {
-                    return true;
-                }
+        for rank in end_of(slots)..TRACKED {
+            if self.moves(rank) {
+                return true;
             }
         }
         false
     }
 
-    fn has_moving(&self, variable: Variable) -> bool {
-        match rank(variable) {
-            Some(rank) => self.knows(rank) && self.moves(rank),
-            None => false,
-        }
+    /// Whether some direction changes the variable of a rank, and the step gives it a value from elsewhere.
+    fn is_overwritten(&self, effect: &Effect, rank: usize) -> bool {
+        self.moves(rank) && !takes(&change_at(effect, rank), rank)
     }
 }

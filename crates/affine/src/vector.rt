@@ -1,4 +1,5 @@
 // Vectors over the tracked variables.
+ghost use Rattle.std.specs.Prelude.{◌<◌, IfSome};
 
 use crate::tracked::TRACKED;
 
@@ -35,7 +36,9 @@ impl Vector {
     }
 
     /// The rank of an entry that is least in size among those that are not 0. None if all are 0.
-    pub(crate) fn least(&self) -> Option<usize> {
+    pub(crate) fn least(&self) -> Option<usize>
+        ensures { IfSome result (λ rank. rank < 48) }
+    {
         let mut least = None;
         let mut size = u32::MAX;
         for rank in 0..TRACKED {

@@ -1,0 +1,7 @@
+use Rattle.std.proofs.Common.{◌≡◌, ◌≢◌, ℕ, ◌<◌, length, pos}
+use Rattle.affine.specs.Space.{coefficient_at}
+use Rattle.affine.proofs.EmptiedBelow.{EmptiedBelow}
+use Rattle.affine.proofs.space.Space.empty.Given as goal
+
+abbrev pub invariant-loop-rank : goal.invariant-loop-rank
+invariant-loop-rank l = EmptiedBelow l.initial.self l.self l.index l.rank
