@@ -8,3 +8,4 @@ mod Taking
 mod EmptiedBelow
 mod Releasing
 mod StepLemmas
+mod EqualityLemmas

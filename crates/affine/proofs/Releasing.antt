@@ -60,10 +60,10 @@ module _ (old new : Space) (variable : Variable) (rank : ℕ) (is : rank ≡ ran
     not_zero = on.not_zero;
     factors = factors;
     sums = λ v k. elim (cases_eq (rank_of v) rank) [
-      inl e ↦
-      let v_is = same_from_rank variable v (sym is ∙ sym e) in
-      subst (λ (w : Variable). on.scale *ℤ (x w -ℤ coordinate_at new (rank_of w)) ≡ combination new.count factors (coefficient_at new (rank_of w))) v_is
-      (subst (λ (r : ℕ). on.scale *ℤ (x variable -ℤ coordinate_at new r) ≡ combination new.count factors (coefficient_at new r)) is of_variable)
+      | inl e ↦
+          let v_is = same_from_rank variable v (sym is ∙ sym e) in
+          subst (λ (w : Variable). on.scale *ℤ (x w -ℤ coordinate_at new (rank_of w)) ≡ combination new.count factors (coefficient_at new (rank_of w))) v_is
+          (subst (λ (r : ℕ). on.scale *ℤ (x variable -ℤ coordinate_at new r) ≡ combination new.count factors (coefficient_at new r)) is of_variable)
       | inr n ↦ of_other v k n
     ];
   }

@@ -1,14 +1,16 @@
--- A running sum of products fits 64 bits.
-use Rattle.std.proofs.Common.{◌≡◌, ℕ, ◌+◌, ◌*◌, ◌<◌, ◌≤◌, ◌^◌, ℤ, ◌+ℤ◌, ◌*ℤ◌, sym, ap, ◌∙◌, arith, unsigned_abs, FitsSigned, to_z, of_z, add-one}
+-- Running sums fit 64 bits.
+use Rattle.std.proofs.Common.{◌≡◌, ℕ, ◌+◌, ◌*◌, ◌<◌, ◌≤◌, ◌^◌, List, [], ◌∷◌, ◌++◌, length, take, get_or, ℤ, ◌+ℤ◌, ◌*ℤ◌, sym, ap, ◌∙◌, arith, unsigned_abs, FitsSigned, to_z, of_z, add-one}
 use Rattle.std.specs.Int.{w64}
 use Rattle.std.proofs.lemmas.Int.{ints, to_z-of_z, fits_signed_from_abs}
+use Rattle.std.proofs.lemmas.List.{take_more}
+use Rattle.loop_bounds.specs.declared.linear.Term.{Term}
+use Rattle.loop_bounds.specs.declared.variable.Variable.{Variable}
+use Rattle.loop_bounds.specs.Linear.{total}
+use Rattle.loop_bounds.proofs.FormLemmas.{total_push}
 use Rattle.affine.specs.Space.{combination}
 
-combination-next : (n : ℕ) (f g : ℕ → ℤ) → combination (n + 1) f g ≡ combination n f g +ℤ f n *ℤ g n
-combination-next n f g = ap (λ k. combination k f g) (add-one n)
-
-module _ (n : ℕ) (f g : ℕ → ℤ) (sum product : ℤ) (is : sum ≡ combination n f g) (size : unsigned_abs sum ≤ 2 ^ 59 * n) (next : product ≡ f n *ℤ g n) (small : unsigned_abs product ≤ 2 ^ 59) (few : n < 8) where
-  size_next : unsigned_abs (sum +ℤ product) ≤ 2 ^ 59 * (n + 1)
+module _ (sum product : ℤ) (bound n : ℕ) (size : unsigned_abs sum ≤ bound * n) (small : unsigned_abs product ≤ bound) (fits : bound * (n + 1) < 2 ^ 63) where
+  size_next : unsigned_abs (sum +ℤ product) ≤ bound * (n + 1)
   size_next = omega (arith, ints)
 
   fits_next : FitsSigned w64 (sum +ℤ product)
@@ -20,7 +22,18 @@ module _ (n : ℕ) (f g : ℕ → ℤ) (sum product : ℤ) (is : sum ≡ combina
   kept : to_z w64 (of_z w64 (sum +ℤ to_z w64 (of_z w64 product))) ≡ sum +ℤ product
   kept = ap (λ z. to_z w64 (of_z w64 (sum +ℤ z))) (to_z-of_z w64 product fits_product) ∙ to_z-of_z w64 (sum +ℤ product) fits_next
 
-  pub sum_next : (to_z w64 (of_z w64 (sum +ℤ to_z w64 (of_z w64 product))) ≡ combination (n + 1) f g) × (unsigned_abs (to_z w64 (of_z w64 (sum +ℤ to_z w64 (of_z w64 product)))) ≤ 2 ^ 59 * (n + 1))
-  sum_next =
-      let value : sum +ℤ product ≡ combination n f g +ℤ f n *ℤ g n = cc in
-      (kept ∙ value ∙ sym (combination-next n f g), rw kept size_next)
+  -- the next sum, where the sum of both is this value
+  pub sum_next : (value : ℤ) → sum +ℤ product ≡ value → (to_z w64 (of_z w64 (sum +ℤ to_z w64 (of_z w64 product))) ≡ value) × (unsigned_abs (to_z w64 (of_z w64 (sum +ℤ to_z w64 (of_z w64 product)))) ≤ bound * (n + 1))
+  sum_next value is = (kept ∙ is, rw kept size_next)
+
+pub combination_next : (n : ℕ) (f g : ℕ → ℤ) (sum product : ℤ) → sum ≡ combination n f g → product ≡ f n *ℤ g n → sum +ℤ product ≡ combination (n + 1) f g
+combination_next n f g sum product is next =
+    let more = ap (λ k. combination k f g) (add-one n) in
+    let both : sum +ℤ product ≡ combination n f g +ℤ f n *ℤ g n = cc in
+    both ∙ sym more
+
+pub total_next : (x : Variable → ℤ) (terms : List Term) (n : ℕ) (t : Term) (sum product : ℤ) → n < length terms → t ≡ get_or terms n t → sum ≡ total x (take n terms) → product ≡ t.coefficient *ℤ x t.variable → sum +ℤ product ≡ total x (take (n + 1) terms)
+total_next x terms n t sum product low is_t is next =
+    let more = take_more terms n t low ∙ ap (λ (u : Term). take n terms ++ u ∷ []) (sym is_t) in
+    let both : sum +ℤ product ≡ total x (take n terms) +ℤ t.coefficient *ℤ x t.variable = cc in
+    both ∙ sym (total_push x (take n terms) t) ∙ sym (ap (total x) more)

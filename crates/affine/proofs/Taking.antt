@@ -120,7 +120,7 @@ module _ (old next : Space) (effect : Effect) (first : ℕ) (up : 12 ≤ first) 
   untouched v e h side =
       subst (λ (d : Change). IsTakenAt old next (rank_of v) d) (sym e)
       (elim (cases_lt (rank_of v) 48) [
-        inl low ↦ left_old old next v (elim side [ inl below ↦ t.before (rank_of v) h below low | inr above ↦ t.behind (rank_of v) h above low ])
+        | inl low ↦ left_old old next v (elim side [ inl below ↦ t.before (rank_of v) h below low | inr above ↦ t.behind (rank_of v) h above low ])
         | inr high ↦ not_tracked old next (rank_of v) (Old v) high
       ])
 
@@ -132,7 +132,7 @@ module _ (old next : Space) (effect : Effect) (first : ℕ) (up : 12 ≤ first) 
   written s n p f e =
       let low = part_low p in
       elim (cases_lt (rank_of (Slot n p)) 48) [
-        inl h ↦ t.slot (Slot n p) (omega arith) (omega arith)
+        | inl h ↦ t.slot (Slot n p) (omega arith) (omega arith)
         | inr h ↦ not_tracked old next (rank_of (Slot n p)) (change_of effect (Slot n p)) h
       ]
 
@@ -141,7 +141,7 @@ module _ (old next : Space) (effect : Effect) (first : ℕ) (up : 12 ≤ first) 
   taken_slot (Some s) e f n p =
       let low = part_low p in
       elim (cases_eq s.number n) [
-        inl same ↦ written s n p f same
+        | inl same ↦ written s n p f same
         | inr other ↦ not_written n p (ap (λ (o : Option SlotChange). slot_change o n p) e ∙ other_slot s n p other) (λ h. omega arith)
       ]
 

@@ -2,3 +2,4 @@
 pub mod Space
 pub mod Vector
 pub mod Step
+pub mod Equality

@@ -1,6 +1,7 @@
 // Affine spaces: the linear equalities between the registers and the stack slots of a row.
 #![tactic(auto)]
 
+mod equalities;
 mod joining;
 mod relations;
 mod space;
@@ -9,6 +10,7 @@ mod steps;
 mod tracked;
 mod vector;
 
-pub use relations::{GREATEST_FACTOR, MOST_RELATIONS, Relations};
+pub use equalities::GREATEST_FACTOR;
+pub use relations::{MOST_RELATIONS, Relations};
 pub use space::{DIRECTIONS, GREATEST_COORDINATE, Space};
 pub use tracked::{TRACKED, TRACKED_SLOTS};

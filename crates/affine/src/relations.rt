@@ -1,28 +1,39 @@
 // Linear equalities that hold on a space.
+ghost use Rattle.std.specs.Prelude.{◌≡◌, ◌<◌, ◌≤◌, [], ◌∷◌, ◌++◌, length, All};
+ghost use Rattle.loop_bounds.specs.Linear.{LinearView};
+ghost use Rattle.affine.specs.Equality.{IsZeroOn};
 
-use crate::space::{DIRECTIONS, Space};
-use crate::tracked::{TRACKED, is_half, variable};
-use crate::vector::common_divisor;
-use loop_bounds::{Linear, Term, Variable};
+use crate::equalities::Factor;
+use crate::space::Space;
+use crate::tracked::{TRACKED, is_half};
+use loop_bounds::{Linear, Variable};
+use std::marker::Model;
 
 /// The equalities that `relations` and `triples` answer at most.
 pub const MOST_RELATIONS: usize = 24;
-
-/// The greatest coefficient of an equality, in size.
-pub const GREATEST_FACTOR: u32 = 1_000;
 
 /// At most 24 linears that are 0 on a space.
 #[derive(Drop)]
 pub struct Relations {
     linears: [Linear; MOST_RELATIONS],
     count: usize,
-    ghost few: { count ≤ 24 },
 }
 
-ghost use Rattle.std.specs.Prelude.{◌≤◌};
+impl Model for Relations {
+    ghost use Rattle.std.specs.Prelude.{List, ◌≤◌, take};
+    ghost use Rattle.loop_bounds.specs.Linear.{LinearView};
+
+    ghost Value = { List LinearView };
+
+    ghost view = { λ r. take r.count r.linears };
+
+    ghost invariant = { λ r. r.count ≤ 24 };
+}
 
 impl Relations {
-    fn none() -> Relations {
+    fn none() -> Relations
+        ensures { result ≡ [] }
+    {
         Relations {
             linears: [Linear::zero(); MOST_RELATIONS],
             count: 0,
@@ -30,11 +41,17 @@ impl Relations {
     }
 
     /// The linears, in their order.
-    pub fn as_slice(&self) -> &[Linear] {
+    pub fn as_slice(&self) -> &[Linear]
+        ensures { result.now ≡ self.now }
+    {
         &self.linears[..self.count]
     }
 
-    fn push(&mut self, linear: Linear) {
+    /// Adds a linear, if there is room.
+    fn push(&mut self, linear: Linear)
+        ensures room { length self.old < 24 → self.new ≡ self.old ++ linear ∷ [] }
+        ensures full { 24 ≤ length self.old → self.new ≡ self.old }
+    {
         if self.count < MOST_RELATIONS {
             self.linears[self.count] = linear;
             self.count += 1;
@@ -42,45 +59,36 @@ impl Relations {
     }
 }
 
-/// A variable with its factor.
-#[derive(Clone, Copy)]
-struct Factor {
-    rank: usize,
-    factor: i64,
-}
-
 impl Space {
-    /// The equalities `a*x + b*y + c = 0` of two variables that hold on the space.
-    pub fn relations(&self) -> Relations {
+    /// The equalities `a*x + b*y + c = 0` of two variables that hold on the space, in the order of `x`, then of `y`. The
+    /// coefficients have no common divisor and are at most 1,000 in size; `a` is positive. A variable with a constant
+    /// value is in none. Nor are two of which one is a half of the other, as H of HL. There are at most 24; further ones
+    /// are left out.
+    pub fn relations(&self) -> Relations
+        ensures { All (IsZeroOn self.now) result }
+    {
         let mut found = Relations::none();
         let moving = self.moving();
         for first in 0..TRACKED {
             if (moving >> first) & 1 == 1 {
-                for second in first + 1..TRACKED {
-                    if (moving >> second) & 1 == 1 {
-                        self.add_pair(first, second, &mut found);
-                    }
-                }
+                self.add_pairs(first, moving, &mut found);
             }
         }
         found
     }
 
-    /// The equalities of `with` and two further variables that hold on the space.
-    pub fn triples(&self, with: Variable) -> Relations {
+    /// The equalities of three variables that hold on the space, one of them `with`, where no two of them are in an
+    /// equality by themselves. Their order, coefficients and number are as in `relations`.
+    pub fn triples(&self, with: Variable) -> Relations
+        ensures { All (IsZeroOn self.now) result }
+    {
         let mut found = Relations::none();
         let moving = self.moving();
         let with = usize::from(with.rank());
-        if with < TRACKED {
-            if (moving >> with) & 1 == 1 {
-                for first in 0..TRACKED {
-                    if first != with && (moving >> first) & 1 == 1 {
-                        for second in first + 1..TRACKED {
-                            if second != with && (moving >> second) & 1 == 1 {
-                                self.add_triple(with, first, second, &mut found);
-                            }
-                        }
-                    }
+        if with < TRACKED && (moving >> with) & 1 == 1 {
+            for first in 0..TRACKED {
+                if (moving >> first) & 1 == 1 && first != with && !is_half(first, with) {
+                    self.add_triples(with, first, moving, &mut found);
                 }
             }
         }
@@ -98,187 +106,71 @@ impl Space {
         moving
     }
 
-    fn add_pair(&self, first: usize, second: usize, found: &mut Relations) {
-        if let Some((left, right)) = self.ratio(first, second) {
-            let factors = [
-                Factor {
-                    rank: first,
-                    factor: left,
-                },
-                Factor {
-                    rank: second,
-                    factor: right,
-                },
-            ];
-            self.add_relation(&factors, found);
-        }
-    }
-
-    /// Factors with which two columns sum to 0.
-    fn ratio(&self, first: usize, second: usize) -> Option<(i64, i64)> {
-        if is_half(first, second) {
-            return None;
-        }
-        let mut place = 0;
-        while place < DIRECTIONS && self.columns[first][place] == 0 {
-            place += 1;
-        }
-        if place == DIRECTIONS {
-            return None;
-        }
-        let (left, right) = (
-            i64::from(self.columns[second][place]),
-            -i64::from(self.columns[first][place]),
-        );
-        if left == 0 {
-            return None;
-        }
-        for index in 0..self.count {
-            if left * i64::from(self.columns[first][index])
-                + right * i64::from(self.columns[second][index])
-                != 0
-            {
-                return None;
-            }
-        }
-        Some((left, right))
-    }
-
-    fn add_triple(&self, with: usize, first: usize, second: usize, found: &mut Relations) {
-        if let Some((at_with, at_first, at_second)) = self.null_vector(with, first, second) {
-            let with = Factor {
-                rank: with,
-                factor: at_with,
-            };
-            let first = Factor {
-                rank: first,
-                factor: at_first,
-            };
-            let second = Factor {
-                rank: second,
-                factor: at_second,
-            };
-            let factors = if with.rank < first.rank {
-                [with, first, second]
-            } else if with.rank < second.rank {
-                [first, with, second]
-            } else {
-                [first, second, with]
-            };
-            self.add_relation(&factors, found);
-        }
-    }
-
-    /// Factors other than 0 with which three columns sum to 0, if they are determined.
-    fn null_vector(&self, with: usize, first: usize, second: usize) -> Option<(i64, i64, i64)> {
-        if is_half(with, first) || is_half(with, second) || is_half(first, second) {
-            return None;
-        }
-        let (one, two, three) = (
-            &self.columns[with],
-            &self.columns[first],
-            &self.columns[second],
-        );
-        let mut base: Option<(i64, i64, i64)> = None;
-        for index in 0..self.count {
-            let row = (
-                i64::from(one[index]),
-                i64::from(two[index]),
-                i64::from(three[index]),
-            );
-            match base {
-                None => {
-                    if row != (0, 0, 0) {
-                        base = Some(row);
-                    }
-                }
-                Some((a, b, c)) => {
-                    let (d, e, f) = row;
-                    let cross = (b * f - c * e, c * d - a * f, a * e - b * d);
-                    if cross != (0, 0, 0) {
-                        if cross.0 == 0 || cross.1 == 0 || cross.2 == 0 {
-                            return None;
-                        }
-                        return Some(cross);
-                    }
+    /// Adds the equalities of a variable and one of a higher rank.
+    fn add_pairs(&self, first: usize, moving: u64, found: &mut Relations)
+        requires rank { first < 48 }
+        requires zero { All (IsZeroOn self.now) found.old }
+        ensures { All (IsZeroOn self.now) found.new }
+    {
+        for second in first + 1..TRACKED {
+            if (moving >> second) & 1 == 1 && !is_half(first, second) {
+                if let Some((left, right)) = self.ratio(first, second) {
+                    let factors = [Factor::new(first, left), Factor::new(second, right)];
+                    self.add_equality(&factors, found);
                 }
             }
         }
-        None
     }
 
-    /// Adds the equality with these factors, if it holds and can be said.
-    fn add_relation(&self, factors: &[Factor], found: &mut Relations) {
+    /// Adds the equalities of two variables and a third one of a higher rank than the second.
+    fn add_triples(&self, with: usize, first: usize, moving: u64, found: &mut Relations)
+        requires with { with < 48 }
+        requires first { first < 48 }
+        requires zero { All (IsZeroOn self.now) found.old }
+        ensures { All (IsZeroOn self.now) found.new }
+    {
+        for second in first + 1..TRACKED {
+            if (moving >> second) & 1 == 1 && second != with {
+                if let Some(factors) = self.triple(with, first, second) {
+                    self.add_equality(&factors, found);
+                }
+            }
+        }
+    }
+
+    /// Adds the equality with these factors, if it holds.
+    fn add_equality(&self, factors: &[Factor], found: &mut Relations)
+        requires { All (IsZeroOn self.now) found.old }
+        ensures { All (IsZeroOn self.now) found.new }
+    {
         if let Some(linear) = self.equality(factors) {
-            if self.vanishes_at(&linear) {
+            if self.has_zero(&linear) {
                 found.push(linear);
             }
         }
     }
 
-    /// The linear with these factors, reduced, that is 0 at the point.
-    fn equality(&self, factors: &[Factor]) -> Option<Linear> {
-        let mut divisor = 0;
-        for factor in factors {
-            divisor = common_divisor(u32::try_from(factor.factor.unsigned_abs()).ok()?, divisor);
+    /// Factors of three variables by rising rank, if no two of them are halves of one another.
+    fn triple(&self, with: usize, first: usize, second: usize) -> Option<[Factor; 3]>
+        requires with { with < 48 }
+        requires first { first < 48 }
+        requires second { second < 48 }
+    {
+        if is_half(second, with) || is_half(first, second) {
+            return None;
         }
-        let mut divisor = i64::from(divisor.max(1));
-        if let Some(factor) = factors.first() {
-            if factor.factor < 0 {
-                divisor = -divisor;
-            }
-        }
-        let mut constant: i64 = 0;
-        for factor in factors {
-            constant = constant.saturating_sub(
-                (factor.factor.checked_div(divisor)?).saturating_mul(i64::from(
-                    self.point[factor.rank],
-                )),
-            );
-        }
-        let mut linear = Linear::of_constant(i32::try_from(constant).ok()?)?;
-        for factor in factors {
-            let coefficient = i32::try_from(factor.factor.checked_div(divisor)?).ok()?;
-            if coefficient.unsigned_abs() > GREATEST_FACTOR {
-                return None;
-            }
-            linear = linear.with_term(Term {
-                coefficient,
-                variable: variable(factor.rank)?,
-            })?;
-        }
-        Some(linear)
-    }
-
-    /// Whether the linear is 0 at all values of the space.
-    fn vanishes_at(&self, linear: &Linear) -> bool {
-        let mut sum = i64::from(linear.constant());
-        for term in linear.terms() {
-            let rank = usize::from(term.variable.rank());
-            if !self.knows(rank) {
-                return false;
-            }
-            sum = sum.saturating_add(i64::from(term.coefficient).saturating_mul(i64::from(
-                self.point[rank],
-            )));
-        }
-        if sum != 0 {
-            return false;
-        }
-        for index in 0..self.count {
-            let mut sum: i64 = 0;
-            for term in linear.terms() {
-                let rank = usize::from(term.variable.rank());
-                if rank < TRACKED {
-                    sum = sum.saturating_add(i64::from(term.coefficient).saturating_mul(i64::from(
-                        self.columns[rank][index],
-                    )));
-                }
-            }
-            if sum != 0 {
-                return false;
-            }
-        }
-        true
+        let ranks = if with < first {
+            [with, first, second]
+        } else if with < second {
+            [first, with, second]
+        } else {
+            [first, second, with]
+        };
+        let [one, two, three] = self.balance(ranks[0], ranks[1], ranks[2])?;
+        Some([
+            Factor::new(ranks[0], one),
+            Factor::new(ranks[1], two),
+            Factor::new(ranks[2], three),
+        ])
     }
 }

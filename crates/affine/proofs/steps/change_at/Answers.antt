@@ -1,4 +1,4 @@
-use Rattle.std.proofs.Common.{◌≡◌, sym, ap, ◌∙◌, arith}
+use Rattle.std.proofs.Common.{sym, ap, ◌∙◌, arith}
 use Rattle.loop_bounds.specs.Effect.{change_of}
 use Rattle.loop_bounds.proofs.VariableLemmas.{same_from_rank}
 use Rattle.affine.proofs.steps.change_at.Goals as goal

@@ -1,4 +1,4 @@
-use Rattle.std.proofs.Common.{◌≡◌, ◌∙◌, sym, FitsSigned, rules, slice_index_or, pos}
+use Rattle.std.proofs.Common.{◌≡◌, FitsSigned, rules, slice_index_or, pos}
 use Rattle.std.specs.Int.{w32}
 use Rattle.std.proofs.lemmas.Int.{to_z-of_z}
 use Rattle.loop_bounds.specs.Variable.{rank_of}

@@ -1,4 +1,4 @@
-use Rattle.std.proofs.Common.{◌≡◌, ◌<◌, ◌^◌, ◌-ℤ◌, bit_and, IsTrue, rules, arith}
+use Rattle.std.proofs.Common.{◌≡◌, ◌<◌, ◌^◌, ◌-ℤ◌, bit_and, IsTrue, rules}
 use Rattle.std.specs.Int.{bit_not, w64}
 use Rattle.loop_bounds.specs.Variable.{rank_of}
 use Rattle.affine.specs.Space.{coordinate_at}

@@ -1,5 +1,3 @@
-use Rattle.std.proofs.Common.{◌≡◌, ◌≢◌, ℕ, ◌<◌, length, pos}
-use Rattle.affine.specs.Space.{coefficient_at}
 use Rattle.affine.proofs.EmptiedBelow.{EmptiedBelow}
 use Rattle.affine.proofs.space.Space.empty.Given as goal
 

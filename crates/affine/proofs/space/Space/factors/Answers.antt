@@ -1,4 +1,4 @@
-use Rattle.std.proofs.Common.{◌≤◌, ◌^◌, FitsSigned, unsigned_abs, rules, arith, ◌∙◌}
+use Rattle.std.proofs.Common.{◌≤◌, ◌^◌, FitsSigned, unsigned_abs, rules, ◌∙◌}
 use Rattle.std.specs.Int.{w64}
 use Rattle.std.proofs.lemmas.Int.{to_z-of_z}
 use Rattle.std.proofs.lemmas.List.{length-set}

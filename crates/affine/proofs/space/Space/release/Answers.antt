@@ -1,8 +1,8 @@
-use Rattle.std.proofs.Common.{◌≡◌, ◌≢◌, ℕ, zero, suc, ◌<◌, List, [], ◌∷◌, ℤ, pos, slice_index_or, slice_set, refl, sym, ap, ◌∙◌, rules, arith}
+use Rattle.std.proofs.Common.{◌≡◌, ◌≢◌, ℕ, zero, suc, ◌<◌, List, [], ◌∷◌, ℤ, pos, slice_index_or, refl, ap, ◌∙◌, rules, arith}
 use Rattle.std.specs.Int.{bit_at}
 use Rattle.std.proofs.lemmas.List.{get_or-set_same, get_or-set_other}
 use Rattle.loop_bounds.specs.Variable.{rank_of}
-use Rattle.affine.specs.Space.{coordinate_at, coefficient_at}
+use Rattle.affine.specs.Space.{coefficient_at}
 use Rattle.affine.proofs.Releasing.{released}
 use Rattle.affine.proofs.space.Space.release.Goals as goal
 

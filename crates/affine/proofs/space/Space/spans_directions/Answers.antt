@@ -1,4 +1,4 @@
-use Rattle.std.proofs.Common.{ℕ, ◌<◌, IsTrue, below_more, rules, arith}
+use Rattle.std.proofs.Common.{ℕ, IsTrue, below_more, rules, arith}
 use Rattle.loop_bounds.specs.Variable.{rank_of}
 use Rattle.affine.specs.Space.{coefficient_at, IsSpanned}
 use Rattle.affine.specs.Vector.{entry_at}

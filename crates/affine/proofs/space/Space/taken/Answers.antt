@@ -1,4 +1,4 @@
-use Rattle.std.proofs.Common.{◌≡◌, ◌+◌, ◌<◌, ◌≤◌, min, ℕ, subst, rules, arith}
+use Rattle.std.proofs.Common.{◌≡◌, ◌+◌, ◌<◌, min, ℕ, subst, arith}
 use Rattle.affine.proofs.Taking.{RegistersTaken, SlotTaken, registers_next, slot_start, slot_next, all_taken}
 use Rattle.affine.proofs.space.Space.taken.Goals as goal
 
