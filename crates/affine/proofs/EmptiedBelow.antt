@@ -1,5 +1,5 @@
 -- The columns are emptied one after another.
-use Rattle.std.proofs.Common.{◌≡◌, ◌≢◌, ℕ, ◌<◌, length, pos}
+use Rattle.std.proofs.Common.{◌≡◌, ◌≢◌, ℕ, ◌<◌, pos}
 use Rattle.affine.specs.declared.space.Space.{Space}
 use Rattle.affine.specs.Space.{coefficient_at}
 

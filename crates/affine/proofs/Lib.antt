@@ -9,3 +9,4 @@ mod EmptiedBelow
 mod Releasing
 mod StepLemmas
 mod EqualityLemmas
+mod ValueLemmas

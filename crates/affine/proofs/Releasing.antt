@@ -1,5 +1,5 @@
 -- An unknown variable gets a direction of its own.
-use Rattle.std.proofs.Common.{◌≡◌, ◌≢◌, ℕ, suc, ◌+◌, ◌<◌, ◌⊎◌, inl, inr, ℤ, pos, ◌+ℤ◌, ◌-ℤ◌, ◌*ℤ◌, cond, eqb, refl, sym, subst, ap, ◌∙◌, arith}
+use Rattle.std.proofs.Common.{◌≡◌, ◌≢◌, ℕ, suc, ◌+◌, ◌<◌, inl, inr, ℤ, pos, ◌+ℤ◌, ◌-ℤ◌, ◌*ℤ◌, cond, eqb, sym, subst, ap, ◌∙◌, arith}
 use Rattle.std.specs.Int.{bit_at}
 use Rattle.std.proofs.Math.IntN.{one, *ℤ-one, *ℤ-zero}
 use Rattle.std.proofs.lemmas.Int.{ints}
@@ -9,7 +9,7 @@ use Rattle.loop_bounds.specs.declared.variable.Variable.{Variable}
 use Rattle.loop_bounds.specs.Variable.{rank_of}
 use Rattle.loop_bounds.proofs.VariableLemmas.{same_from_rank}
 use Rattle.affine.specs.declared.space.Space.{Space}
-use Rattle.affine.specs.Space.{combination, IsKnownAt, IsSameAt, coordinate_at, coefficient_at, LiesOn}
+use Rattle.affine.specs.Space.{combination, IsKnownAt, coordinate_at, coefficient_at, LiesOn}
 use Rattle.affine.proofs.Combinations.{combination-same, combination-zero}
 
 -- the factors with one more

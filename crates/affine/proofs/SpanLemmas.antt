@@ -1,5 +1,5 @@
 -- What a space spans, and when it has all values of another.
-use Rattle.std.proofs.Common.{◌≡◌, ◌≢◌, ℕ, zero, suc, ◌<◌, ℤ, pos, ◌+ℤ◌, ◌-ℤ◌, ◌*ℤ◌, refl, sym, subst, ap, ◌∙◌, arith}
+use Rattle.std.proofs.Common.{◌≡◌, ◌≢◌, ℕ, zero, suc, ◌<◌, ℤ, pos, ◌+ℤ◌, ◌-ℤ◌, ◌*ℤ◌, sym, subst, ap, ◌∙◌, arith}
 use Rattle.std.proofs.Math.IntN.{*ℤ-zero}
 use Rattle.std.specs.Int.{bit_at}
 use Rattle.std.proofs.lemmas.Int.{ints}
@@ -102,10 +102,5 @@ only_value s v rank same known still x on =
     omega (arith, ints, distance)
 
 -- a vector that was found to be a sum of multiples of the directions
-pub spanned_by : (s : Space) (vector : Variable → ℤ) (scale : ℕ) (factors : ℕ → ℤ) → 0 < scale → ((v : Variable) → IsKnownAt s (rank_of v) → pos scale *ℤ vector v ≡ combination s.count factors (coefficient_at s (rank_of v))) → IsSpanned s vector
-spanned_by s vector scale factors above sums = record {
-  scale = pos scale;
-  not_zero = λ e. let none : scale ≡ 0 = omega (arith, ints, e) in absurd (omega arith);
-  factors = factors;
-  sums = sums;
-}
+pub spanned_by : (s : Space) (vector : Variable → ℤ) (scale : ℤ) (factors : ℕ → ℤ) → scale ≢ pos 0 → ((v : Variable) → IsKnownAt s (rank_of v) → scale *ℤ vector v ≡ combination s.count factors (coefficient_at s (rank_of v))) → IsSpanned s vector
+spanned_by s vector scale factors not_zero sums = record { scale = scale; not_zero = not_zero; factors = factors; sums = sums }

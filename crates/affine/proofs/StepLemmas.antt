@@ -1,5 +1,5 @@
 -- The values after a step lie on the space after it.
-use Rattle.std.proofs.Common.{◌≡◌, ℕ, ◌<◌, ℤ, pos, negsuc, ◌+ℤ◌, ◌-ℤ◌, ◌*ℤ◌, refl, sym, ap, ◌∙◌, arith}
+use Rattle.std.proofs.Common.{◌≡◌, ℤ, pos, negsuc, ◌+ℤ◌, ◌-ℤ◌, ◌*ℤ◌, refl, sym, ap, ◌∙◌, arith}
 use Rattle.std.proofs.Math.IntN.{*ℤ-zero}
 use Rattle.std.proofs.lemmas.Int.{ints}
 use Rattle.loop_bounds.specs.declared.effect.Change.{Change}
@@ -9,8 +9,8 @@ use Rattle.loop_bounds.specs.declared.variable.Variable.{Variable}
 use Rattle.loop_bounds.specs.Variable.{rank_of}
 use Rattle.loop_bounds.specs.Effect.{Valuation, whole, changed, change_of}
 use Rattle.affine.specs.declared.space.Space.{Space}
-use Rattle.affine.specs.Space.{combination, IsKnownAt, IsSameAt, Forgets, coordinate_at, coefficient_at, LiesOn}
-use Rattle.affine.specs.Step.{LeadsTo, IsMoved, IsConstant, IsTakenAt}
+use Rattle.affine.specs.Space.{combination, IsKnownAt, Forgets, coordinate_at, coefficient_at, LiesOn}
+use Rattle.affine.specs.Step.{LeadsTo, IsMoved, IsTakenAt}
 use Rattle.affine.proofs.Combinations.{combination-same, combination-zero}
 use Rattle.affine.proofs.Taking.{known_before}
 

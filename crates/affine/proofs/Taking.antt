@@ -1,6 +1,5 @@
 -- The variables are taken one after another.
-use Rattle.std.proofs.Common.{◌≡◌, ◌≢◌, ℕ, ◌+◌, ◌*◌, ◌<◌, ◌≤◌, min, ◌⊎◌, inl, inr, Option, Some, None, ℤ, pos, ◌+ℤ◌, eqb, cond, true, false, refl, sym, subst, ap, ◌∙◌, arith}
-use Rattle.std.specs.Int.{bit_at}
+use Rattle.std.proofs.Common.{◌≡◌, ◌≢◌, ℕ, ◌+◌, ◌*◌, ◌<◌, ◌≤◌, min, ◌⊎◌, inl, inr, Option, Some, None, ℤ, refl, sym, subst, ap, ◌∙◌, arith}
 use Rattle.std.proofs.lemmas.Int.{ints}
 use Rattle.std.proofs.lemmas.Bool.{cases_eq, cases_lt}
 use Rattle.std.proofs.lemmas.Bool.Decides.{nat_tests}
@@ -15,8 +14,8 @@ use Rattle.loop_bounds.specs.declared.variable.Part.TheVariants.{Word, High, Low
 use Rattle.loop_bounds.specs.Variable.{rank_of, part_rank}
 use Rattle.loop_bounds.specs.Effect.{change_of, slot_change}
 use Rattle.affine.specs.declared.space.Space.{Space}
-use Rattle.affine.specs.Space.{IsKnownAt, IsSameAt, coordinate_at, coefficient_at}
-use Rattle.affine.specs.Step.{IsMoved, IsConstant, IsTakenAt, first_written}
+use Rattle.affine.specs.Space.{IsKnownAt, IsSameAt}
+use Rattle.affine.specs.Step.{IsMoved, IsTakenAt, first_written}
 
 -- the variables with a rank below this one were taken
 pub record RegistersTaken (old next : Space) (effect : Effect) (rank : ℕ) : Type 0 where

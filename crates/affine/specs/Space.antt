@@ -33,6 +33,14 @@ pub record IsSpanned (s : Space) (vector : Variable → ℤ) : Type 0 where
 abbrev pub LiesOn : Space → (Variable → ℤ) → Type 0
 LiesOn s x = IsSpanned s (λ v. x v -ℤ coordinate_at s (rank_of v))
 
+-- the variable has the same value in all values that lie on the space
+abbrev pub HasValue : Space → Variable → ℤ → Type 0
+HasValue s v k = (x : Variable → ℤ) → LiesOn s x → x v ≡ k
+
+-- the variable has two values
+abbrev pub HasTwoValues : Space → Variable → Type 0
+HasTwoValues s v = (x y : Variable → ℤ) × LiesOn s x × LiesOn s y × (x v ≢ y v)
+
 -- two spaces say the same of the variable of a rank
 pub record IsSameAt (old new : Space) (rank : ℕ) : Type 0 where
   pub known : bit_at new.known rank ≡ bit_at old.known rank

@@ -7,7 +7,7 @@ ghost use Rattle.affine.specs.Equality.{IsZeroOn};
 
 use crate::space::Space;
 use crate::tracked::variable;
-use crate::vector::common_divisor;
+use crate::vector::{common_divisor, multiple};
 use loop_bounds::{Linear, Term};
 
 /// The greatest coefficient of an equality, in size.
@@ -20,12 +20,6 @@ pub(crate) struct Factor {
     pub(crate) factor: i64,
 }
 
-impl Factor {
-    pub(crate) fn new(rank: usize, factor: i64) -> Factor {
-        Factor { rank, factor }
-    }
-}
-
 /// The greatest common divisor of the factors, with the sign of the first one. None if it is too great or 0.
 fn divisor(factors: &[Factor]) -> Option<i64> {
     let mut divisor = 0;
@@ -35,15 +29,6 @@ fn divisor(factors: &[Factor]) -> Option<i64> {
     let first = factors.first()?;
     let divisor = i64::from(divisor);
     Some(if first.factor < 0 { -divisor } else { divisor })
-}
-
-/// A coefficient times a value.
-fn multiple(coefficient: i32, value: i32) -> i64
-    requires { unsigned_abs coefficient ≤ 1000000 }
-    ensures value { result ≡ coefficient *ℤ value }
-    ensures size { unsigned_abs result ≤ 2 ^ 51 }
-{
-    i64::from(coefficient) * i64::from(value)
 }
 
 impl Space {

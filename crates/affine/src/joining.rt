@@ -82,7 +82,17 @@ impl Space {
         self.settle();
     }
 
-    /// Whether no other direction changes the pivot of this one.
+    /// Whether each direction has a pivot and changes at least two variables.
+    pub(crate) fn is_settled(&self) -> bool {
+        for index in 0..self.count {
+            if !self.has_pivot(index) || self.direction(index).terms() < 2 {
+                return false;
+            }
+        }
+        true
+    }
+
+    /// Whether a direction has a pivot: something is known of that variable, and no other direction changes it.
     fn has_pivot(&self, index: usize) -> bool
         requires { index < 8 }
     {
@@ -146,8 +156,11 @@ impl Space {
                 self.clear(index, vector, pivot);
             }
         }
-        let left = vector.restricted(self.known);
-        self.append(&left, pivot);
+        if self.count < DIRECTIONS {
+            self.count += 1;
+            self.pivots[self.count - 1] = pivot as u8;
+            self.set_direction(self.count - 1, &vector.restricted(self.known));
+        }
         self.settle();
     }
 
@@ -166,17 +179,6 @@ impl Space {
                 }
             }
             None => *self = Space::full(),
-        }
-    }
-
-    /// Adds a direction, if there is room.
-    fn append(&mut self, vector: &Vector, pivot: usize)
-        requires { pivot < 48 }
-    {
-        if self.count < DIRECTIONS {
-            self.count += 1;
-            self.pivots[self.count - 1] = pivot as u8;
-            self.set_direction(self.count - 1, vector);
         }
     }
 

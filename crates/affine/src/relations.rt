@@ -115,7 +115,16 @@ impl Space {
         for second in first + 1..TRACKED {
             if (moving >> second) & 1 == 1 && !is_half(first, second) {
                 if let Some((left, right)) = self.ratio(first, second) {
-                    let factors = [Factor::new(first, left), Factor::new(second, right)];
+                    let factors = [
+                        Factor {
+                            rank: first,
+                            factor: left,
+                        },
+                        Factor {
+                            rank: second,
+                            factor: right,
+                        },
+                    ];
                     self.add_equality(&factors, found);
                 }
             }
@@ -168,9 +177,18 @@ impl Space {
         };
         let [one, two, three] = self.balance(ranks[0], ranks[1], ranks[2])?;
         Some([
-            Factor::new(ranks[0], one),
-            Factor::new(ranks[1], two),
-            Factor::new(ranks[2], three),
+            Factor {
+                rank: ranks[0],
+                factor: one,
+            },
+            Factor {
+                rank: ranks[1],
+                factor: two,
+            },
+            Factor {
+                rank: ranks[2],
+                factor: three,
+            },
         ])
     }
 }

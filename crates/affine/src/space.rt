@@ -1,5 +1,5 @@
 // Affine spaces over the registers and the stack slots of a row.
-ghost use Rattle.std.specs.Prelude.{◌≡◌, ◌↔◌, ◌≢◌, ℕ, ◌<◌, ◌≤◌, ℤ, pos, ◌-ℤ◌, IsTrue, IsSome, IfSome, length, slice_index_or, false};
+ghost use Rattle.std.specs.Prelude.{◌≡◌, ◌↔◌, ◌≢◌, ℕ, ◌<◌, ◌≤◌, ℤ, pos, ◌-ℤ◌, IsTrue, IfSome, MatchOption, slice_index_or, false};
 ghost use Rattle.loop_bounds.specs.declared.variable.Variable.{Variable};
 ghost use Rattle.loop_bounds.specs.Variable.{rank_of};
 
@@ -30,7 +30,7 @@ pub struct Space {
 }
 
 impl Space {
-    ghost use Rattle.affine.specs.Space.{LiesOn, IsKnownAt, IsSameAt, coordinate_at, coefficient_at, knowledge_of};
+    ghost use Rattle.affine.specs.Space.{LiesOn, HasValue, HasTwoValues, IsKnownAt, IsSameAt, coordinate_at, coefficient_at, knowledge_of};
     ghost use Rattle.affine.specs.Vector.{entry_at};
 
     /// The space of all values.
@@ -56,7 +56,7 @@ impl Space {
 
     /// The value of a variable, if it has only one.
     pub fn constant(&self, variable: Variable) -> Option<i32>
-        ensures { IfSome result (λ k. (x : Variable → ℤ) → LiesOn self.now x → x variable ≡ k) }
+        ensures { MatchOption result (HasTwoValues self.now variable) (HasValue self.now variable) }
     {
         let rank = usize::from(variable.rank());
         if self.knows(rank) && !self.moves(rank) {
@@ -68,8 +68,10 @@ impl Space {
 
     /// Whether something is known of the variable of a rank, and some direction changes it.
     pub(crate) fn moves(&self, rank: usize) -> bool
-        ensures { IsKnownAt self.now rank → result ≡ false
+        ensures still { IsKnownAt self.now rank → result ≡ false
             → (i : ℕ) → i < self.now.count → coefficient_at self.now rank i ≡ pos 0 }
+        ensures changed { IsTrue result
+            → (i : ℕ) × (i < self.now.count) × (coefficient_at self.now rank i ≢ pos 0) }
     {
         if !self.knows(rank) {
             return false;

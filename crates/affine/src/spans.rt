@@ -1,5 +1,5 @@
 // Whether a space has all values of another.
-ghost use Rattle.std.specs.Prelude.{◌≡◌, ℕ, ◌<◌, ◌≤◌, ◌*◌, ◌^◌, ℤ, pos, ◌*ℤ◌, IsTrue, IfSome, All, unsigned_abs, slice_index_or};
+ghost use Rattle.std.specs.Prelude.{◌≡◌, ◌≢◌, ℕ, ◌<◌, ◌≤◌, ◌*◌, ◌^◌, ℤ, pos, ◌*ℤ◌, IsTrue, IfSome, All, unsigned_abs, slice_index_or};
 ghost use Rattle.loop_bounds.specs.declared.variable.Variable.{Variable};
 ghost use Rattle.loop_bounds.specs.Variable.{rank_of};
 ghost use Rattle.affine.specs.Space.{combination, coefficient_at, IsSpanned, LiesOn};
@@ -7,7 +7,7 @@ ghost use Rattle.affine.specs.Vector.{entry_at};
 
 use crate::space::{DIRECTIONS, Space};
 use crate::tracked::TRACKED;
-use crate::vector::{Vector, common_divisor};
+use crate::vector::{Vector, common_divisor, multiple};
 
 /// The greatest scale.
 const GREATEST_SCALE: u32 = 1_000_000;
@@ -24,18 +24,10 @@ fn product(factor: i64, coefficient: i16) -> i64
     factor * i64::from(coefficient)
 }
 
-/// A scale times an entry.
-fn scaled(scale: u32, entry: i32) -> i64
-    requires { scale ≤ 1000000 }
-    ensures { result ≡ pos scale *ℤ entry }
-{
-    i64::from(scale) * i64::from(entry)
-}
-
 impl Space {
     /// A number that the coefficient of each direction at its pivot divides, or None if it is too great.
-    fn scale(&self) -> Option<u32>
-        ensures { IfSome result (λ scale. (0 < scale) × (scale ≤ 1000000)) }
+    fn scale(&self) -> Option<i32>
+        ensures { IfSome result (λ scale. (scale ≢ pos 0) × (unsigned_abs scale ≤ 1000000)) }
     {
         let mut scale: u32 = 1;
         for index in 0..self.count {
@@ -49,14 +41,14 @@ impl Space {
             }
         }
         if 0 < scale && scale <= GREATEST_SCALE {
-            Some(scale)
+            Some(scale as i32)
         } else {
             None
         }
     }
 
     /// The factors of the directions in `scale` times the vector, if it is a sum of multiples of them.
-    fn factors(&self, vector: &Vector, scale: u32) -> Option<[i64; DIRECTIONS]>
+    fn factors(&self, vector: &Vector, scale: i32) -> Option<[i64; DIRECTIONS]>
         ensures { IfSome result (λ factors. All (λ f. unsigned_abs f ≤ 2 ^ 44) factors) }
     {
         let mut factors = [0; DIRECTIONS];
@@ -102,7 +94,7 @@ impl Space {
         };
         for rank in 0..TRACKED {
             if self.knows(rank)
-                && scaled(scale, vector.entries[rank]) != self.combined(&factors, rank)
+                && multiple(scale, vector.entries[rank]) != self.combined(&factors, rank)
             {
                 return false;
             }

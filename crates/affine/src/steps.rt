@@ -82,14 +82,14 @@ impl Space {
         shared.share(effect, slots);
         let mut next = shared.taken(effect);
         next.keep_slots(slots);
-        if shared.is_disturbed(effect, slots) {
-            next.repaired()
-        } else {
+        if next.is_settled() {
             next
+        } else {
+            next.repaired()
         }
     }
 
-    /// The space with pivots for all directions.
+    /// The space with a pivot for each direction.
     fn repaired(&self) -> Space
         ensures { (x : Variable → ℤ) → LiesOn self.now x → LiesOn result x }
     {
@@ -224,31 +224,5 @@ impl Space {
                 self.forget(rank);
             }
         }
-    }
-
-    /// Whether a step overwrites or forgets a variable that some direction changes.
-    fn is_disturbed(&self, effect: &Effect, slots: usize) -> bool {
-        for rank in 0..REGISTERS {
-            if self.is_overwritten(effect, rank) {
-                return true;
-            }
-        }
-        let first = first_written(effect);
-        for rank in first..(first + 3).min(TRACKED) {
-            if self.is_overwritten(effect, rank) {
-                return true;
-            }
-        }
-        for rank in end_of(slots)..TRACKED {
-            if self.moves(rank) {
-                return true;
-            }
-        }
-        false
-    }
-
-    /// Whether some direction changes the variable of a rank, and the step gives it a value from elsewhere.
-    fn is_overwritten(&self, effect: &Effect, rank: usize) -> bool {
-        self.moves(rank) && !takes(&change_at(effect, rank), rank)
     }
 }

@@ -1,5 +1,5 @@
 // Vectors over the tracked variables.
-ghost use Rattle.std.specs.Prelude.{◌<◌, IfSome};
+ghost use Rattle.std.specs.Prelude.{◌≡◌, ◌<◌, ◌≤◌, ◌^◌, ◌*ℤ◌, IfSome, unsigned_abs};
 
 use crate::tracked::TRACKED;
 
@@ -16,6 +16,15 @@ pub(crate) fn common_divisor(one: u32, other: u32) -> u32 {
         (one, other) = (other, one % other);
     }
     one
+}
+
+/// A factor of at most 1,000,000 in size times a value.
+pub(crate) fn multiple(factor: i32, value: i32) -> i64
+    requires { unsigned_abs factor ≤ 1000000 }
+    ensures value { result ≡ factor *ℤ value }
+    ensures size { unsigned_abs result ≤ 2 ^ 51 }
+{
+    i64::from(factor) * i64::from(value)
 }
 
 impl Vector {
