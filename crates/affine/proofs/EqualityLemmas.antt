@@ -7,16 +7,16 @@ use Rattle.loop_bounds.specs.declared.variable.Variable.{Variable}
 use Rattle.loop_bounds.specs.Variable.{rank_of}
 use Rattle.loop_bounds.specs.Linear.{LinearView, total, value}
 use Rattle.affine.specs.declared.space.Space.{Space}
-use Rattle.affine.specs.Space.{combination, IsKnownAt, coordinate_at, coefficient_at, LiesOn}
+use Rattle.affine.specs.Space.{combination, KnowsAt, coordinate_at, coefficient_at, LiesOn}
 use Rattle.affine.proofs.Ring.{mul_sum, mul_swap, zero_from_product}
 use Rattle.affine.proofs.Combinations.{combination-zero}
 
 -- all variables of the terms are known
 AllKnown : Space → List Term → Type 0
 AllKnown s [] = Unit {0}
-AllKnown s (t ∷ ts) = IsKnownAt s (rank_of t.variable) × AllKnown s ts
+AllKnown s (t ∷ ts) = KnowsAt s (rank_of t.variable) × AllKnown s ts
 
-all_known : (s : Space) (ts : List Term) → All (λ t. IsKnownAt s (rank_of t.variable)) ts → AllKnown s ts
+all_known : (s : Space) (ts : List Term) → All (λ t. KnowsAt s (rank_of t.variable)) ts → AllKnown s ts
 unfolding AllKnown
 all_known s [] h = tt
 all_known s (t ∷ ts) h = (h 0 t (omega arith), all_known s ts (λ k d low. h (suc k) d (omega arith)))
@@ -29,7 +29,7 @@ total_multiple : (a : ℤ) (x : Variable → ℤ) (ts : List Term) → total (λ
 total_multiple a x [] = sym (*ℤ-zero a)
 total_multiple a x (t ∷ ts) = omega (arith, ints, total_multiple a x ts, mul_swap t.coefficient a (x t.variable), mul_sum a (t.coefficient *ℤ x t.variable) (total x ts))
 
-total_same : (s : Space) (x y : Variable → ℤ) (ts : List Term) → AllKnown s ts → ((v : Variable) → IsKnownAt s (rank_of v) → x v ≡ y v) → total x ts ≡ total y ts
+total_same : (s : Space) (x y : Variable → ℤ) (ts : List Term) → AllKnown s ts → ((v : Variable) → KnowsAt s (rank_of v) → x v ≡ y v) → total x ts ≡ total y ts
 unfolding AllKnown
 total_same s x y [] k same = refl
 total_same s x y (t ∷ ts) k same =
@@ -46,7 +46,7 @@ total_combination (suc n) f g ts =
     omega (arith, ints, total_sum (λ v. combination n f (g v)) (λ v. f n *ℤ g v n) ts, total_combination n f g ts, total_multiple (f n) (λ v. g v n) ts)
 
 -- the linear is 0 wherever the values lie on the space
-pub zero_on : (s : Space) (l : LinearView) → All (λ t. IsKnownAt s (rank_of t.variable)) l.terms → value (λ v. coordinate_at s (rank_of v)) l ≡ pos 0 → ((i : ℕ) → i < s.count → total (λ v. coefficient_at s (rank_of v) i) l.terms ≡ pos 0) → (x : Variable → ℤ) → LiesOn s x → value x l ≡ pos 0
+pub zero_on : (s : Space) (l : LinearView) → All (λ t. KnowsAt s (rank_of t.variable)) l.terms → value (λ v. coordinate_at s (rank_of v)) l ≡ pos 0 → ((i : ℕ) → i < s.count → total (λ v. coefficient_at s (rank_of v) i) l.terms ≡ pos 0) → (x : Variable → ℤ) → LiesOn s x → value x l ≡ pos 0
 zero_on s l known at_point along x on =
     let ts = l.terms in
     let all = all_known s ts known in

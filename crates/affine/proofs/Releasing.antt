@@ -9,7 +9,7 @@ use Rattle.loop_bounds.specs.declared.variable.Variable.{Variable}
 use Rattle.loop_bounds.specs.Variable.{rank_of}
 use Rattle.loop_bounds.proofs.VariableLemmas.{same_from_rank}
 use Rattle.affine.specs.declared.space.Space.{Space}
-use Rattle.affine.specs.Space.{combination, IsKnownAt, coordinate_at, coefficient_at, LiesOn}
+use Rattle.affine.specs.Space.{combination, KnowsAt, coordinate_at, coefficient_at, LiesOn}
 use Rattle.affine.proofs.Combinations.{combination-same, combination-zero}
 
 -- the factors with one more
@@ -33,11 +33,11 @@ module _ (old new : Space) (variable : Variable) (rank : ℕ) (is : rank ≡ ran
       let next : new.count ≡ suc old.count = omega arith in
       ap (λ n. combination n factors (coefficient_at new r)) next
 
-  of_other : (v : Variable) → IsKnownAt new (rank_of v) → rank_of v ≢ rank → on.scale *ℤ (x v -ℤ coordinate_at new (rank_of v)) ≡ combination new.count factors (coefficient_at new (rank_of v))
+  of_other : (v : Variable) → KnowsAt new (rank_of v) → rank_of v ≢ rank → on.scale *ℤ (x v -ℤ coordinate_at new (rank_of v)) ≡ combination new.count factors (coefficient_at new (rank_of v))
   unfolding factors
   of_other v k n =
       let r = rank_of v in
-      let before : IsKnownAt old r = (k.0, sym (same r k.0 n) ∙ k.1) in
+      let before : KnowsAt old r = (k.0, sym (same r k.0 n) ∙ k.1) in
       let sums = on.sums v before in
       let distance = ap (λ z. on.scale *ℤ (x v -ℤ z)) (point r k.0 n) in
       let first = combination-same old.count factors on.factors (coefficient_at new r) (coefficient_at old r) (λ i h. extended_below old.count (on.scale *ℤ x variable) on.factors i h) (λ i h. column r k.0 n i h) in

@@ -7,11 +7,11 @@ use Rattle.std.proofs.lemmas.Nat.Bits.{bit_at-zero}
 use Rattle.loop_bounds.specs.declared.variable.Variable.{Variable}
 use Rattle.loop_bounds.specs.Variable.{rank_of}
 use Rattle.affine.specs.declared.space.Space.{Space}
-use Rattle.affine.specs.Space.{combination, IsKnownAt, coordinate_at, coefficient_at, IsSpanned, LiesOn}
+use Rattle.affine.specs.Space.{combination, KnowsAt, coordinate_at, coefficient_at, IsSpanned, LiesOn}
 use Rattle.affine.proofs.Ring.{mul_sum, mul_assoc, mul_swap, product_not_zero, zero_from_product}
 use Rattle.affine.proofs.Combinations.{combination-multiple, combination-sum, combination-no_factors, combination-zero}
 
-pub spanned_same : (s : Space) (f g : Variable → ℤ) → ((v : Variable) → IsKnownAt s (rank_of v) → f v ≡ g v) → IsSpanned s f → IsSpanned s g
+pub spanned_same : (s : Space) (f g : Variable → ℤ) → ((v : Variable) → KnowsAt s (rank_of v) → f v ≡ g v) → IsSpanned s f → IsSpanned s g
 spanned_same s f g same h = record {
   scale = h.scale;
   not_zero = h.not_zero;
@@ -83,7 +83,7 @@ nothing_known s x none = record {
 }
 
 -- one space has all values of another
-pub covering : (s other : Space) → ((v : Variable) → IsKnownAt s (rank_of v) → IsKnownAt other (rank_of v)) → ((i : ℕ) → i < other.count → IsSpanned s (λ v. coefficient_at other (rank_of v) i)) → IsSpanned s (λ v. coordinate_at other (rank_of v) -ℤ coordinate_at s (rank_of v)) → (x : Variable → ℤ) → LiesOn other x → LiesOn s x
+pub covering : (s other : Space) → ((v : Variable) → KnowsAt s (rank_of v) → KnowsAt other (rank_of v)) → ((i : ℕ) → i < other.count → IsSpanned s (λ v. coefficient_at other (rank_of v) i)) → IsSpanned s (λ v. coordinate_at other (rank_of v) -ℤ coordinate_at s (rank_of v)) → (x : Variable → ℤ) → LiesOn other x → LiesOn s x
 covering s other known directions difference x on =
     let sums = spanned_combination s other.count on.factors (λ v. coefficient_at other (rank_of v)) directions in
     let scaled = spanned_same s (λ v. combination other.count on.factors (coefficient_at other (rank_of v))) (λ v. on.scale *ℤ (x v -ℤ coordinate_at other (rank_of v))) (λ v k. sym (on.sums v (known v k))) sums in
@@ -92,9 +92,9 @@ covering s other known directions difference x on =
     (spanned_sum s (λ v. x v -ℤ coordinate_at other (rank_of v)) (λ v. coordinate_at other (rank_of v) -ℤ coordinate_at s (rank_of v)) distance difference)
 
 -- the value of a variable that no direction changes
-pub only_value : (s : Space) (v : Variable) (rank : ℕ) → rank ≡ rank_of v → IsKnownAt s rank → ((i : ℕ) → i < s.count → coefficient_at s rank i ≡ pos 0) → (x : Variable → ℤ) → LiesOn s x → x v ≡ coordinate_at s rank
+pub only_value : (s : Space) (v : Variable) (rank : ℕ) → rank ≡ rank_of v → KnowsAt s rank → ((i : ℕ) → i < s.count → coefficient_at s rank i ≡ pos 0) → (x : Variable → ℤ) → LiesOn s x → x v ≡ coordinate_at s rank
 only_value s v rank same known still x on =
-    let here = subst (λ (r : ℕ). IsKnownAt s r) same known in
+    let here = subst (λ (r : ℕ). KnowsAt s r) same known in
     let sums : on.scale *ℤ (x v -ℤ coordinate_at s rank) ≡ combination s.count on.factors (coefficient_at s rank) =
     subst (λ (r : ℕ). on.scale *ℤ (x v -ℤ coordinate_at s r) ≡ combination s.count on.factors (coefficient_at s r)) (sym same) (on.sums v here) in
     let none = sums ∙ combination-zero s.count on.factors (coefficient_at s rank) still in
@@ -102,5 +102,5 @@ only_value s v rank same known still x on =
     omega (arith, ints, distance)
 
 -- a vector that was found to be a sum of multiples of the directions
-pub spanned_by : (s : Space) (vector : Variable → ℤ) (scale : ℤ) (factors : ℕ → ℤ) → scale ≢ pos 0 → ((v : Variable) → IsKnownAt s (rank_of v) → scale *ℤ vector v ≡ combination s.count factors (coefficient_at s (rank_of v))) → IsSpanned s vector
+pub spanned_by : (s : Space) (vector : Variable → ℤ) (scale : ℤ) (factors : ℕ → ℤ) → scale ≢ pos 0 → ((v : Variable) → KnowsAt s (rank_of v) → scale *ℤ vector v ≡ combination s.count factors (coefficient_at s (rank_of v))) → IsSpanned s vector
 spanned_by s vector scale factors not_zero sums = record { scale = scale; not_zero = not_zero; factors = factors; sums = sums }

@@ -9,8 +9,8 @@ use Rattle.loop_bounds.specs.declared.variable.Variable.{Variable}
 use Rattle.loop_bounds.specs.Variable.{rank_of}
 use Rattle.loop_bounds.specs.Effect.{Valuation, whole, changed, change_of}
 use Rattle.affine.specs.declared.space.Space.{Space}
-use Rattle.affine.specs.Space.{combination, IsKnownAt, Forgets, coordinate_at, coefficient_at, LiesOn}
-use Rattle.affine.specs.Step.{LeadsTo, IsMoved, IsTakenAt}
+use Rattle.affine.specs.Space.{combination, KnowsAt, Forgets, coordinate_at, coefficient_at, LiesOn}
+use Rattle.affine.specs.Step.{CanLeave, IsMoved, IsTakenAt}
 use Rattle.affine.proofs.Combinations.{combination-same, combination-zero}
 use Rattle.affine.proofs.Taking.{known_before}
 
@@ -30,7 +30,7 @@ forgotten old new f x on = record {
       distance ∙ sums ∙ sym few ∙ sym total;
 }
 
-module _ (old new : Space) (effect : Effect) (count : new.count ≡ old.count) (taken : (v : Variable) → IsTakenAt old new (rank_of v) (change_of effect v)) (before : Valuation) (x : Variable → ℤ) (on : LiesOn old (whole before)) (leads : LeadsTo effect before x) where
+module _ (old new : Space) (effect : Effect) (count : new.count ≡ old.count) (taken : (v : Variable) → IsTakenAt old new (rank_of v) (change_of effect v)) (before : Valuation) (x : Variable → ℤ) (on : LiesOn old (whole before)) (leads : CanLeave effect before x) where
   moved : (v w : Variable) (by : ℤ) → IsMoved old new (rank_of v) (rank_of w) by → x v ≡ pos (before w) +ℤ by → on.scale *ℤ (x v -ℤ coordinate_at new (rank_of v)) ≡ combination new.count on.factors (coefficient_at new (rank_of v))
   moved v w by m e =
       let distance : x v -ℤ coordinate_at new (rank_of v) ≡ pos (before w) -ℤ coordinate_at old (rank_of w) = omega (arith, ints, e, m.coordinate) in
@@ -38,7 +38,7 @@ module _ (old new : Space) (effect : Effect) (count : new.count ≡ old.count) (
       let few = ap (λ n. combination n on.factors (coefficient_at old (rank_of w))) count in
       ap (λ z. on.scale *ℤ z) distance ∙ on.sums w m.known ∙ sym few ∙ sym total
 
-  by_change : (v : Variable) (c : Change) → x v ≡ changed c before (x v) → IsKnownAt new (rank_of v) → IsTakenAt old new (rank_of v) c → on.scale *ℤ (x v -ℤ coordinate_at new (rank_of v)) ≡ combination new.count on.factors (coefficient_at new (rank_of v))
+  by_change : (v : Variable) (c : Change) → x v ≡ changed c before (x v) → KnowsAt new (rank_of v) → IsTakenAt old new (rank_of v) c → on.scale *ℤ (x v -ℤ coordinate_at new (rank_of v)) ≡ combination new.count on.factors (coefficient_at new (rank_of v))
   by_change v (Old w) e k t = moved v w (pos 0) (t k) (omega (arith, ints, e))
   by_change v (Raised w) e k t = moved v w (pos 1) (t k) e
   by_change v (Lowered w) e k t = moved v w (negsuc 0) (t k) e

@@ -14,7 +14,7 @@ use Rattle.loop_bounds.specs.declared.variable.Part.TheVariants.{Word, High, Low
 use Rattle.loop_bounds.specs.Variable.{rank_of, part_rank}
 use Rattle.loop_bounds.specs.Effect.{change_of, slot_change}
 use Rattle.affine.specs.declared.space.Space.{Space}
-use Rattle.affine.specs.Space.{IsKnownAt, IsSameAt}
+use Rattle.affine.specs.Space.{KnowsAt, IsSameAt}
 use Rattle.affine.specs.Step.{IsMoved, IsTakenAt, first_written}
 
 -- the variables with a rank below this one were taken
@@ -41,7 +41,7 @@ same_then a b c r p q = record {
   column = λ i. q.column i ∙ p.column i;
 }
 
-pub known_before : (a b : Space) (r : ℕ) → IsSameAt a b r → IsKnownAt b r → IsKnownAt a r
+pub known_before : (a b : Space) (r : ℕ) → IsSameAt a b r → KnowsAt b r → KnowsAt a r
 known_before a b r p k = (k.0, sym p.known ∙ k.1)
 
 moved_same : (old next last : Space) (r source : ℕ) (by : ℤ) → IsSameAt next last r → IsMoved old next r source by → IsMoved old last r source by

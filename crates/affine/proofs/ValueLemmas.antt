@@ -7,7 +7,7 @@ use Rattle.std.proofs.lemmas.Bool.Decides.{nat_tests}
 use Rattle.loop_bounds.specs.declared.variable.Variable.{Variable}
 use Rattle.loop_bounds.specs.Variable.{rank_of}
 use Rattle.affine.specs.declared.space.Space.{Space}
-use Rattle.affine.specs.Space.{combination, IsKnownAt, coordinate_at, coefficient_at, LiesOn, HasTwoValues}
+use Rattle.affine.specs.Space.{combination, KnowsAt, coordinate_at, coefficient_at, LiesOn, HasTwoValues}
 use Rattle.affine.proofs.Combinations.{combination-no_factors}
 
 times_one : (z : ℤ) → pos 1 *ℤ z ≡ z
@@ -41,19 +41,19 @@ beside_there : (s : Space) (r : ℕ) (v : Variable) → rank_of v ≢ r → besi
 unfolding beside
 beside_there s r v n = grind (arith, nat_tests)
 
-beside_lies : (s : Space) (r : ℕ) → ¬ IsKnownAt s r → LiesOn s (beside s r)
+beside_lies : (s : Space) (r : ℕ) → ¬ KnowsAt s r → LiesOn s (beside s r)
 beside_lies s r unknown = record {
   scale = pos 1;
   not_zero = λ e. (cc);
   factors = λ i. pos 0;
   sums = λ v k.
-      let other : rank_of v ≢ r = λ e. unknown (subst (λ (n : ℕ). IsKnownAt s n) e k) in
+      let other : rank_of v ≢ r = λ e. unknown (subst (λ (n : ℕ). KnowsAt s n) e k) in
       let there = beside_there s r v other in
       let none : beside s r v -ℤ coordinate_at s (rank_of v) ≡ pos 0 = omega (arith, ints, there) in
       ap (λ z. pos 1 *ℤ z) none ∙ *ℤ-zero (pos 1) ∙ sym (combination-no_factors s.count (coefficient_at s (rank_of v)));
 }
 
-pub unknown_varies : (s : Space) (v : Variable) → ¬ IsKnownAt s (rank_of v) → HasTwoValues s v
+pub unknown_varies : (s : Space) (v : Variable) → ¬ KnowsAt s (rank_of v) → HasTwoValues s v
 unfolding at_point
 unknown_varies s v unknown = (
   at_point s,
@@ -85,15 +85,15 @@ combination-before (suc c) n g h =
 combination-single : (count n : ℕ) (g : ℕ → ℤ) → n < count → combination count (single n) g ≡ g n
 combination-single zero n g h = absurd (omega arith)
 combination-single (suc c) n g h = elim (cases_eq c n) [
-  inl same ↦
-  let front = combination-before c n g (omega arith) in
-  let factor = ap (single n) same ∙ single_here n in
-  let last = ap (λ z. z *ℤ g c) factor ∙ times_one (g c) ∙ ap g same in
-  omega (arith, ints, front, last)
+  | inl same ↦
+      let front = combination-before c n g (omega arith) in
+      let factor = ap (single n) same ∙ single_here n in
+      let last = ap (λ z. z *ℤ g c) factor ∙ times_one (g c) ∙ ap g same in
+      omega (arith, ints, front, last)
   | inr other ↦
-  let front = combination-single c n g (omega arith) in
-  let last = ap (λ z. z *ℤ g c) (single_there n c other) ∙ zero-*ℤ (g c) in
-  omega (arith, ints, front, last)
+      let front = combination-single c n g (omega arith) in
+      let last = ap (λ z. z *ℤ g c) (single_there n c other) ∙ zero-*ℤ (g c) in
+      omega (arith, ints, front, last)
 ]
 
 -- the point, moved once along a direction

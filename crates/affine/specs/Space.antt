@@ -11,8 +11,8 @@ combination zero factors coefficients = pos 0
 combination (suc n) factors coefficients = combination n factors coefficients +ℤ factors n *ℤ coefficients n
 
 -- something is known of the variable of a rank
-abbrev pub IsKnownAt : Space → ℕ → Type 0
-IsKnownAt s rank = (rank < 48) × (bit_at s.known rank ≡ 1)
+abbrev pub KnowsAt : Space → ℕ → Type 0
+KnowsAt s rank = (rank < 48) × (bit_at s.known rank ≡ 1)
 
 -- the point's value for the variable of a rank
 abbrev pub coordinate_at : Space → ℕ → ℤ
@@ -27,7 +27,7 @@ pub record IsSpanned (s : Space) (vector : Variable → ℤ) : Type 0 where
   pub scale : ℤ
   pub not_zero : scale ≢ pos 0
   pub factors : ℕ → ℤ
-  pub sums : (v : Variable) → IsKnownAt s (rank_of v) → scale *ℤ vector v ≡ combination s.count factors (coefficient_at s (rank_of v))
+  pub sums : (v : Variable) → KnowsAt s (rank_of v) → scale *ℤ vector v ≡ combination s.count factors (coefficient_at s (rank_of v))
 
 -- The values lie on the space: their distance from the point is spanned by the directions.
 abbrev pub LiesOn : Space → (Variable → ℤ) → Type 0
@@ -58,7 +58,7 @@ pub record IsEmptied (old new : Space) (index : ℕ) : Type 0 where
 -- nothing changed but that some variables were forgotten
 pub record Forgets (old new : Space) : Type 0 where
   pub count : new.count ≡ old.count
-  pub rest : (rank : ℕ) → IsKnownAt new rank → IsSameAt old new rank
+  pub rest : (rank : ℕ) → KnowsAt new rank → IsSameAt old new rank
 
 -- a measure of what a space says: nine for each known variable, and one for each direction that is missing
 abbrev pub knowledge_of : Space → ℕ

@@ -2,7 +2,7 @@
 ghost use Rattle.std.specs.Prelude.{◌≡◌, ◌↔◌, ◌*◌, ◌<◌, ◌≤◌, ◌^◌, ◌*ℤ◌, length, All, IsTrue, unsigned_abs};
 ghost use Rattle.loop_bounds.specs.Variable.{rank_of};
 ghost use Rattle.loop_bounds.specs.Linear.{total};
-ghost use Rattle.affine.specs.Space.{IsKnownAt, coordinate_at, coefficient_at};
+ghost use Rattle.affine.specs.Space.{KnowsAt, coordinate_at, coefficient_at};
 ghost use Rattle.affine.specs.Equality.{IsZeroOn};
 
 use crate::space::Space;
@@ -13,27 +13,23 @@ use loop_bounds::{Linear, Term};
 /// The greatest coefficient of an equality, in size.
 pub const GREATEST_FACTOR: u32 = 1_000;
 
-/// The variable of a rank, with a factor.
-#[derive(Clone, Copy)]
-pub(crate) struct Factor {
-    pub(crate) rank: usize,
-    pub(crate) factor: i64,
-}
+/// The rank of a variable, and its factor.
+pub(crate) type Factor = (usize, i64);
 
 /// The greatest common divisor of the factors, with the sign of the first one. None if it is too great or 0.
 fn divisor(factors: &[Factor]) -> Option<i64> {
     let mut divisor = 0;
-    for factor in factors {
-        divisor = common_divisor(u32::try_from(factor.factor.unsigned_abs()).ok()?, divisor);
+    for (_, factor) in factors {
+        divisor = common_divisor(u32::try_from(factor.unsigned_abs()).ok()?, divisor);
     }
-    let first = factors.first()?;
+    let (_, first) = factors.first()?;
     let divisor = i64::from(divisor);
-    Some(if first.factor < 0 { -divisor } else { divisor })
+    Some(if *first < 0 { -divisor } else { divisor })
 }
 
 impl Space {
-    /// Factors other than 0 with which the coefficients of two variables sum to 0 in the first direction that changes one
-    /// of them.
+    /// Factors other than 0 with which the coefficients of two variables sum to 0 in the first direction that changes
+    /// one of them.
     pub(crate) fn ratio(&self, first: usize, second: usize) -> Option<(i64, i64)>
         requires first { first < 48 }
         requires second { second < 48 }
@@ -86,20 +82,20 @@ impl Space {
     pub(crate) fn equality(&self, factors: &[Factor]) -> Option<Linear> {
         let divisor = divisor(factors)?;
         let mut constant: i64 = 0;
-        for factor in factors {
-            let coefficient = factor.factor.checked_div(divisor)?;
-            let value = i64::from(*self.point.get(factor.rank)?);
+        for (rank, factor) in factors {
+            let coefficient = factor.checked_div(divisor)?;
+            let value = i64::from(*self.point.get(*rank)?);
             constant = constant.checked_sub(coefficient.checked_mul(value)?)?;
         }
         let mut linear = Linear::of_constant(i32::try_from(constant).ok()?)?;
-        for factor in factors {
-            let coefficient = i32::try_from(factor.factor.checked_div(divisor)?).ok()?;
+        for (rank, factor) in factors {
+            let coefficient = i32::try_from(factor.checked_div(divisor)?).ok()?;
             if coefficient.unsigned_abs() > GREATEST_FACTOR {
                 return None;
             }
             linear = linear.with_term(Term {
                 coefficient,
-                variable: variable(factor.rank)?,
+                variable: variable(*rank)?,
             })?;
         }
         Some(linear)
@@ -125,7 +121,7 @@ impl Space {
 
     /// Whether something is known of each variable.
     fn knows_all(&self, terms: &[Term]) -> bool
-        ensures { IsTrue result ↔ All (λ t. IsKnownAt self.now (rank_of t.variable)) terms.now }
+        ensures { IsTrue result ↔ All (λ t. KnowsAt self.now (rank_of t.variable)) terms.now }
     {
         terms
             .iter()
@@ -136,7 +132,7 @@ impl Space {
     fn total_at_point(&self, terms: &[Term]) -> i64
         requires few { length terms.now ≤ 3 }
         requires small { All (λ t. unsigned_abs t.coefficient ≤ 1000000) terms.now }
-        requires known { All (λ t. IsKnownAt self.now (rank_of t.variable)) terms.now }
+        requires known { All (λ t. KnowsAt self.now (rank_of t.variable)) terms.now }
         ensures value { result ≡ total (λ v. coordinate_at self.now (rank_of v)) terms.now }
         ensures size { unsigned_abs result ≤ 2 ^ 53 }
     {
@@ -153,7 +149,7 @@ impl Space {
         requires index { index < 8 }
         requires few { length terms.now ≤ 3 }
         requires small { All (λ t. unsigned_abs t.coefficient ≤ 1000000) terms.now }
-        requires known { All (λ t. IsKnownAt self.now (rank_of t.variable)) terms.now }
+        requires known { All (λ t. KnowsAt self.now (rank_of t.variable)) terms.now }
         ensures { result ≡ total (λ v. coefficient_at self.now (rank_of v) index) terms.now }
     {
         let mut sum = 0;

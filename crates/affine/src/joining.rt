@@ -54,7 +54,7 @@ impl Space {
     }
 
     /// Forgets all variables that are not in the mask.
-    pub(crate) fn restrict(&mut self, mask: u64) {
+    fn restrict(&mut self, mask: u64) {
         let lost = self.known & !mask;
         if lost != 0 {
             for rank in 0..TRACKED {

@@ -60,10 +60,10 @@ impl Relations {
 }
 
 impl Space {
-    /// The equalities `a*x + b*y + c = 0` of two variables that hold on the space, in the order of `x`, then of `y`. The
-    /// coefficients have no common divisor and are at most 1,000 in size; `a` is positive. A variable with a constant
-    /// value is in none. Nor are two of which one is a half of the other, as H of HL. There are at most 24; further ones
-    /// are left out.
+    /// The equalities `a*x + b*y + c = 0` of two variables that hold on the space, in the order of `x`, then of `y`.
+    /// The rank of `x` is lower than that of `y`. `a` and `b` have no common divisor and are at most 1,000 in size; `a`
+    /// is positive. A variable with one value is in no equality. There is none of a pair and its half, as HL and H.
+    /// After the first 24, further ones are left out.
     pub fn relations(&self) -> Relations
         ensures { All (IsZeroOn self.now) result }
     {
@@ -115,16 +115,7 @@ impl Space {
         for second in first + 1..TRACKED {
             if (moving >> second) & 1 == 1 && !is_half(first, second) {
                 if let Some((left, right)) = self.ratio(first, second) {
-                    let factors = [
-                        Factor {
-                            rank: first,
-                            factor: left,
-                        },
-                        Factor {
-                            rank: second,
-                            factor: right,
-                        },
-                    ];
+                    let factors = [(first, left), (second, right)];
                     self.add_equality(&factors, found);
                 }
             }
@@ -176,19 +167,6 @@ impl Space {
             [first, second, with]
         };
         let [one, two, three] = self.balance(ranks[0], ranks[1], ranks[2])?;
-        Some([
-            Factor {
-                rank: ranks[0],
-                factor: one,
-            },
-            Factor {
-                rank: ranks[1],
-                factor: two,
-            },
-            Factor {
-                rank: ranks[2],
-                factor: three,
-            },
-        ])
+        Some([(ranks[0], one), (ranks[1], two), (ranks[2], three)])
     }
 }

@@ -30,7 +30,7 @@ pub struct Space {
 }
 
 impl Space {
-    ghost use Rattle.affine.specs.Space.{LiesOn, HasValue, HasTwoValues, IsKnownAt, IsSameAt, coordinate_at, coefficient_at, knowledge_of};
+    ghost use Rattle.affine.specs.Space.{LiesOn, HasValue, HasTwoValues, KnowsAt, IsSameAt, coordinate_at, coefficient_at, knowledge_of};
     ghost use Rattle.affine.specs.Vector.{entry_at};
 
     /// The space of all values.
@@ -49,7 +49,7 @@ impl Space {
 
     /// Whether something is known of the variable of a rank.
     pub(crate) fn knows(&self, rank: usize) -> bool
-        ensures { IsTrue result ↔ IsKnownAt self.now rank }
+        ensures { IsTrue result ↔ KnowsAt self.now rank }
     {
         rank < TRACKED && (self.known >> rank) & 1 == 1
     }
@@ -68,7 +68,7 @@ impl Space {
 
     /// Whether something is known of the variable of a rank, and some direction changes it.
     pub(crate) fn moves(&self, rank: usize) -> bool
-        ensures still { IsKnownAt self.now rank → result ≡ false
+        ensures still { KnowsAt self.now rank → result ≡ false
             → (i : ℕ) → i < self.now.count → coefficient_at self.now rank i ≡ pos 0 }
         ensures changed { IsTrue result
             → (i : ℕ) × (i < self.now.count) × (coefficient_at self.now rank i ≢ pos 0) }
@@ -112,7 +112,7 @@ impl Space {
     /// Makes the variable of a rank a known one, with a value and coefficients.
     pub(crate) fn set(&mut self, rank: usize, value: i32, column: [i16; DIRECTIONS])
         requires { rank < 48 }
-        ensures known { IsKnownAt self.new rank }
+        ensures known { KnowsAt self.new rank }
         ensures value { coordinate_at self.new rank ≡ value }
         ensures column { (i : ℕ) → coefficient_at self.new rank i
             ≡ slice_index_or column i (pos 0) }
@@ -127,7 +127,7 @@ impl Space {
     /// Forgets the variable of a rank.
     pub(crate) fn forget(&mut self, rank: usize)
         requires { rank < 48 }
-        ensures unknown { ¬ IsKnownAt self.new rank }
+        ensures unknown { ¬ KnowsAt self.new rank }
         ensures others { (r : ℕ) → r < 48 → r ≢ rank → IsSameAt self.old self.new r }
         ensures count { self.new.count ≡ self.old.count }
     {

@@ -3,8 +3,8 @@ ghost use Rattle.std.specs.Prelude.{◌≡◌, ◌≢◌, ℕ, ◌<◌, ◌≤�
 ghost use Rattle.loop_bounds.specs.declared.variable.Variable.{Variable};
 ghost use Rattle.loop_bounds.specs.Variable.{rank_of};
 ghost use Rattle.loop_bounds.specs.Effect.{Valuation, whole, change_of};
-ghost use Rattle.affine.specs.Space.{LiesOn, IsKnownAt, IsSameAt, IsEmptied, Forgets};
-ghost use Rattle.affine.specs.Step.{LeadsTo, IsMoved, IsTakenAt, first_written};
+ghost use Rattle.affine.specs.Space.{LiesOn, KnowsAt, IsSameAt, IsEmptied, Forgets};
+ghost use Rattle.affine.specs.Step.{CanLeave, IsMoved, IsTakenAt, first_written};
 
 use crate::space::{DIRECTIONS, GREATEST_COORDINATE, Space};
 use crate::tracked::{REGISTERS, TRACKED, TRACKED_SLOTS, variable};
@@ -76,7 +76,7 @@ impl Space {
     /// then of slots from that number on, nor of slots that are not tracked.
     pub fn after(&self, effect: &Effect, slots: usize) -> Space
         ensures { (before : Valuation) (x : Variable → ℤ) → LiesOn self.now (whole before)
-            → LeadsTo effect.now before x → LiesOn result x }
+            → CanLeave effect.now before x → LiesOn result x }
     {
         let mut shared = *self;
         shared.share(effect, slots);
@@ -127,7 +127,7 @@ impl Space {
         }
     }
 
-    /// Whether a variable is unknown, and its value is that of the variable of `rank` and of another one after the step.
+    /// Whether a variable is unknown, and its value goes to the variable of `rank` and to another one.
     fn is_shared(&self, variable: &Variable, effect: &Effect, rank: usize, slots: usize) -> bool {
         let from = usize::from(variable.rank());
         from != rank
@@ -198,7 +198,7 @@ impl Space {
     /// Sets the variable of a rank to another one's value plus a number.
     fn copy(&mut self, rank: usize, from: &Space, source: Variable, by: i32)
         requires rank { rank < 48 }
-        ensures taken { IsKnownAt self.new rank
+        ensures taken { KnowsAt self.new rank
             → IsMoved from.now self.new rank (rank_of source) by }
         ensures others { (r : ℕ) → r < 48 → r ≢ rank → IsSameAt self.old self.new r }
         ensures count { self.new.count ≡ self.old.count }

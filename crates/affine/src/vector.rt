@@ -84,8 +84,8 @@ impl Vector {
         divisor
     }
 
-    /// A multiple of this vector less a multiple of `row`, so that the entry at `pivot` is 0. None if an entry grows too
-    /// large.
+    /// A multiple of this vector less a multiple of `row`, so that the entry at `pivot` is 0. None if an entry does not
+    /// fit.
     pub(crate) fn without(&self, row: &Vector, pivot: usize) -> Option<Vector> {
         let (keep, take) = match (row.entries.get(pivot), self.entries.get(pivot)) {
             (Some(keep), Some(take)) => (*keep, *take),

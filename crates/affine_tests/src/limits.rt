@@ -38,8 +38,8 @@ fn great_coefficients_are_not_said(rt: HostRuntime) {
     assert!(rt; are(&along(1001).relations(), &[]));
 }
 
-/// One of a direction is at most 32,767. A greater direction is not kept, and its variables are forgotten; then the join
-/// with a state in which nothing is known of them changes nothing.
+/// One of a direction is at most 32,767. A greater direction is not kept, and its variables are forgotten. Then the
+/// join with a state in which nothing is known of them changes nothing.
 #[test]
 fn great_directions_are_forgotten(rt: HostRuntime) {
     let only_a = after_all(&[load_a(7)]);

@@ -4,7 +4,7 @@ use Rattle.loop_bounds.specs.declared.linear.Term.{Term}
 use Rattle.loop_bounds.specs.declared.variable.Variable.{Variable}
 use Rattle.loop_bounds.specs.Linear.{total, value}
 use Rattle.loop_bounds.specs.Variable.{rank_of}
-use Rattle.affine.specs.Space.{IsKnownAt, coordinate_at, coefficient_at}
+use Rattle.affine.specs.Space.{KnowsAt, coordinate_at, coefficient_at}
 use Rattle.affine.proofs.EqualityLemmas.{zero_on}
 use Rattle.affine.proofs.space.Space.has_zero.Goals as goal
 
@@ -21,7 +21,7 @@ returns c = λ _.
     let s = c.args.self.now in
     let l = c.args.linear.now in
     let yes : IsTrue c.knows_all.result = search rules in
-    let known = subst (λ (ts : List Term). All (λ t. IsKnownAt s (rank_of t.variable)) ts) c.terms.ensures.value (c.knows_all.ensures.0 yes) in
+    let known = subst (λ (ts : List Term). All (λ t. KnowsAt s (rank_of t.variable)) ts) c.terms.ensures.value (c.knows_all.ensures.0 yes) in
     let x = λ (v : Variable). coordinate_at s (rank_of v) in
     let total_is : c.total_at_point.result ≡ total (λ v. coordinate_at s (rank_of v)) l.terms = c.total_at_point.ensures.value ∙ ap (total x) c.terms-2.ensures.value in
     let constant_is : c.from.result ≡ l.constant = search rules in
