@@ -1,0 +1,16 @@
+// Affine spaces: the linear equalities between the registers and the stack slots of a row.
+#![tactic(auto)]
+
+mod equalities;
+mod joining;
+mod relations;
+mod space;
+mod spans;
+mod steps;
+mod tracked;
+mod vector;
+
+pub use equalities::GREATEST_FACTOR;
+pub use relations::{MOST_RELATIONS, Relations};
+pub use space::{DIRECTIONS, GREATEST_COORDINATE, Space};
+pub use tracked::{TRACKED, TRACKED_SLOTS};
