@@ -1,0 +1,62 @@
+// Texts that name an address.
+
+use crate::closest::Closest;
+use crate::fault::ResolveFault;
+use crate::name::is_name;
+use crate::number::{marked, number};
+use crate::symbols::Symbols;
+use std::alloc::Global;
+
+impl Symbols {
+    /// The address that a text names: a name or a number in hexadecimal with a mark, perhaps with an offset. An offset
+    /// is a sign and a number, decimal or in hexadecimal with a mark: `send`, `send+5`, `nmi-1`, `$007A`, `0x7A`.
+    ///
+    /// # Errors
+    ///
+    /// `Form` if the text has another form. `Unknown` if no symbol has the name; the closest names come with it. `Range`
+    /// if the address would be below 0000 or above FFFF. `NoMemory` where memory for the error was refused.
+    pub fn resolve(&self, alloc: Global, text: &str) -> Result<u16, ResolveFault> {
+        let value = match text.split_once('+') {
+            Some((base, offset)) => self.base(alloc, base)?.checked_add(offset_of(offset)?),
+            None => match text.split_once('-') {
+                Some((base, offset)) => self.base(alloc, base)?.checked_sub(offset_of(offset)?),
+                None => Some(self.base(alloc, text)?),
+            },
+        };
+        match value {
+            Some(value) => u16::try_from(value).map_err(|_| ResolveFault::Range),
+            None => Err(ResolveFault::Range),
+        }
+    }
+
+    /// The value of a name, or a number with a mark.
+    fn base(&self, alloc: Global, text: &str) -> Result<u32, ResolveFault> {
+        let text = text.trim_ascii();
+        if let Some(number) = marked(text) {
+            return Ok(number);
+        }
+        if !is_name(text) {
+            return Err(ResolveFault::Form);
+        }
+        match self.value_of(text) {
+            Some(value) => Ok(value),
+            None => Err(self.unknown(alloc, text)),
+        }
+    }
+
+    /// The fault of a name that no symbol has.
+    fn unknown(&self, alloc: Global, name: &str) -> ResolveFault {
+        let Ok(closest) = Closest::among(alloc, self.names(), name) else {
+            return ResolveFault::NoMemory;
+        };
+        match String::from_str(alloc, name) {
+            Ok(name) => ResolveFault::Unknown { name, closest },
+            Err(_) => ResolveFault::NoMemory,
+        }
+    }
+}
+
+/// The number after a sign.
+fn offset_of(text: &str) -> Result<u32, ResolveFault> {
+    number(text.trim_ascii()).ok_or(ResolveFault::Form)
+}
