@@ -1,8 +1,7 @@
-// Whole symbol files, as the tools write them. No line of theirs is one of another form.
+// Whole symbol files, as the tools write them, and spoiled ones.
 
-use std::alloc::Global;
+use crate::said::{Named, says};
 use std::test::Fail;
-use symbols::{SymbolFault, Symbols};
 
 /// `z80asm -L`.
 const Z80ASM: &[u8] = b"\
@@ -159,8 +158,29 @@ const WLA: &[u8] = b"\
     [addr-to-line mapping v2]\n\
     00000066 00:0000 0066 0001:0000:00000005\n";
 
-/// The labels of the assemblers' example, with `equ` or `=`.
-const EXAMPLE: &[(&str, u16)] = &[
+/// A map with spoiled lines. There a line that begins with an address defines a name or has another form.
+const SPOILED_MAP: &[u8] = b"\
+    ASxxxx Linker V03.00 + NoICE + sdld,  page 1.\n\
+    0000008B  t  crt0\n\
+    0000008C\n\
+    0000008D 5\n\
+    0000008E  a  crt0 0\n\
+    nmi: equ 5\n\
+    \x20    0092  _nmi\n";
+
+/// A file of WLA with spoiled lines. In a section that has no symbols each line is passed over, up to the next heading.
+const SPOILED_WLA: &[u8] = b"\
+    [breakpoints]\n\
+    00:0066 nmi\n\
+    0 1 2 3\n\
+    [ROM checksum]\n\
+    \xFF\n\
+    [definitions]\n\
+    5 five\n\
+    00000006 six";
+
+/// The labels of the assemblers' example.
+const EXAMPLE: &[Named] = &[
     ("nmi", 0x66),
     ("start", 0x6A),
     ("loop", 0x6C),
@@ -169,7 +189,7 @@ const EXAMPLE: &[(&str, u16)] = &[
 ];
 
 /// What is defined in a program in C.
-const PROGRAM_IN_C: &[(&str, u16)] = &[
+const PROGRAM_IN_C: &[Named] = &[
     (".__.ABS.", 0),
     ("l__BSS", 0),
     ("s__CODE", 0x80),
@@ -183,73 +203,84 @@ const PROGRAM_IN_C: &[(&str, u16)] = &[
     ("_joy", 0x4081),
 ];
 
-/// Whether a file defines these names and no others, and has no line of another form.
-fn defines(alloc: Global, file: &[u8], names: &[(&str, u16)]) -> Result<bool, SymbolFault> {
-    let symbols = Symbols::read(alloc, file)?;
-    for (name, address) in names {
-        if symbols.address_of(name) != Some(*address) {
-            return Ok(false);
-        }
+/// Each file with its names, and with the numbers of its lines of another form.
+const FILES: &[(&[u8], &[Named], &[u32])] = &[
+    (Z80ASM, EXAMPLE, &[]),
+    (
+        Z80DASM,
+        &[("l006ah", 0x6A), ("l006ch", 0x6C), ("l006eh", 0x6E)],
+        &[],
+    ),
+    (PASMO, EXAMPLE, &[]),
+    (
+        SJASMPLUS,
+        &[
+            ("nmi", 0x66),
+            ("start", 0x6A),
+            ("start.loop", 0x6C),
+            ("stack", 0x4400),
+        ],
+        &[],
+    ),
+    (
+        RASM,
+        &[
+            ("NMI", 0x66),
+            ("START", 0x6A),
+            ("LOOP", 0x6C),
+            ("STACK", 0x4400),
+        ],
+        &[],
+    ),
+    (
+        NM,
+        &[
+            (".bss", 0),
+            (".data", 0),
+            (".text", 0),
+            ("nmi", 0x66),
+            ("start", 0x6A),
+            ("loop", 0x6C),
+            ("halt_", 0x6E),
+        ],
+        &[],
+    ),
+    (NOI, PROGRAM_IN_C, &[]),
+    (MAP, PROGRAM_IN_C, &[]),
+    (
+        WLA,
+        &[
+            ("nmi", 0x66),
+            ("start", 0x6A),
+            ("start@loop", 0x6C),
+            ("_sizeof_nmi", 4),
+            ("stack", 0x4400),
+        ],
+        &[],
+    ),
+    (SPOILED_MAP, &[("t", 0x8B), ("_nmi", 0x92)], &[3, 4, 5]),
+    (SPOILED_WLA, &[("six", 6)], &[5, 7]),
+    (b"", &[], &[]),
+    (
+        b"?\nnmi equ 5\n\n  what is this\n; fine\nloop equ",
+        &[("nmi", 5)],
+        &[1, 4, 6],
+    ),
+    (b"\n\n?\n", &[], &[3]),
+    // The same name may come again with the same value, however it is written. Upper and lower case differ.
+    (
+        b"nmi equ 10\nnmi: = $0A\n0000000a t nmi\nNMI equ 11\n",
+        &[("nmi", 10), ("NMI", 11)],
+        &[],
+    ),
+];
+
+#[test]
+fn whole_files(rt: HostRuntime) -> Result<(), Fail> {
+    let mut number = 0u8;
+    for (file, names, others) in FILES {
+        number = number.saturating_add(1);
+        assert!(rt; says(rt.alloc(), file, names, others)?, "file {number}");
     }
-    Ok(symbols.names().len() == names.len() && symbols.other_lines().is_empty())
-}
-
-#[test]
-fn of_assemblers(rt: HostRuntime) -> Result<(), Fail> {
-    assert!(rt; defines(rt.alloc(), Z80ASM, EXAMPLE)?);
-    assert!(rt; defines(rt.alloc(), PASMO, EXAMPLE)?);
-    let sjasmplus = [("nmi", 0x66), ("start", 0x6A), ("start.loop", 0x6C), ("stack", 0x4400)];
-    assert!(rt; defines(rt.alloc(), SJASMPLUS, &sjasmplus)?);
-    let rasm = [("NMI", 0x66), ("START", 0x6A), ("LOOP", 0x6C), ("STACK", 0x4400)];
-    assert!(rt; defines(rt.alloc(), RASM, &rasm)?);
-    Ok(())
-}
-
-#[test]
-fn of_a_disassembler(rt: HostRuntime) -> Result<(), Fail> {
-    let names = [("l006ah", 0x6A), ("l006ch", 0x6C), ("l006eh", 0x6E)];
-    assert!(rt; defines(rt.alloc(), Z80DASM, &names)?);
-    Ok(())
-}
-
-#[test]
-fn of_linkers(rt: HostRuntime) -> Result<(), Fail> {
-    assert!(rt; defines(rt.alloc(), NOI, PROGRAM_IN_C)?);
-    assert!(rt; defines(rt.alloc(), MAP, PROGRAM_IN_C)?);
-    let gnu = [
-        (".bss", 0),
-        (".data", 0),
-        (".text", 0),
-        ("nmi", 0x66),
-        ("start", 0x6A),
-        ("loop", 0x6C),
-        ("halt_", 0x6E),
-    ];
-    assert!(rt; defines(rt.alloc(), NM, &gnu)?);
-    let wla = [
-        ("nmi", 0x66),
-        ("start", 0x6A),
-        ("start@loop", 0x6C),
-        ("_sizeof_nmi", 4),
-        ("stack", 0x4400),
-    ];
-    assert!(rt; defines(rt.alloc(), WLA, &wla)?);
-    Ok(())
-}
-
-/// In a map, a line that begins with an address defines a name or has another form. In a section of WLA that has no
-/// symbols each line is passed over, up to the next heading.
-#[test]
-fn spoiled_parts(rt: HostRuntime) -> Result<(), Fail> {
-    let map = b"ASxxxx Linker V03.00 + NoICE + sdld,  page 1.\n0000008B  t  crt0\n0000008C\n\
-        0000008D 5\n0000008E  a  crt0 0\nnmi: equ 5\n     0092  _nmi\n";
-    let symbols = Symbols::read(rt.alloc(), map)?;
-    assert!(rt; symbols.value_of("t") == Some(0x8B) && symbols.value_of("_nmi") == Some(0x92));
-    assert!(rt; symbols.names().len() == 2 && symbols.other_lines() == &[3, 4, 5][..]);
-
-    let wla = b"[breakpoints]\n00:0066 nmi\n0 1 2 3\n[ROM checksum]\n\xFF\n[definitions]\n5 five\n00000006 six";
-    let symbols = Symbols::read(rt.alloc(), wla)?;
-    assert!(rt; symbols.value_of("six") == Some(6));
-    assert!(rt; symbols.names().len() == 1 && symbols.other_lines() == &[5, 7][..]);
     Ok(())
 }

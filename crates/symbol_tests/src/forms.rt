@@ -1,6 +1,7 @@
 // The forms of a line: what each says, and spoiled lines.
 
-use std::alloc::Global;
+use crate::said::{Named, says};
+use std::alloc::{AllocError, Global};
 use std::test::Fail;
 use symbols::{SymbolFault, Symbols};
 
@@ -24,6 +25,7 @@ const EQUATES: &[Defined] = &[
     ("late: equ 0abH;equ 5", "late", 0xAB),
     ("DEF equ $5", "DEF", 5),
     ("equ equ $5", "equ", 5),
+    ("\u{FC}ber equ $5", "\u{FC}ber", 5),
     ("U equ $5", "U", 5),
     ("high equ $10000", "high", 0x1_0000),
     ("five equ $1006C", "five", 0x1_006C),
@@ -36,7 +38,11 @@ const ASSIGNMENTS: &[Defined] = &[
     ("nmi: = 0x66", "nmi", 0x66),
     ("nmi = 66h", "nmi", 0x66),
     ("nmi = 102", "nmi", 102),
-    ("asm_loop                        = $006C ; addr, local, , main, , main.asm:12", "asm_loop", 0x6C),
+    (
+        "asm_loop                        = $006C ; addr, local, , main, , main.asm:12",
+        "asm_loop",
+        0x6C,
+    ),
     ("loop #6C", "loop", 0x6C),
     ("LOOP #6C B0", "LOOP", 0x6C),
     ("LOOP #C000 B31", "LOOP", 0xC000),
@@ -54,7 +60,11 @@ const LINKED: &[Defined] = &[
     ("DEF .__.ABS. 0x0", ".__.ABS.", 0),
     ("DEF l__DATA 0xC2", "l__DATA", 0xC2),
     ("00000092  _nmi", "_nmi", 0x92),
-    ("     00000446  l__CODE                         ", "l__CODE", 0x446),
+    (
+        "     00000446  l__CODE                         ",
+        "l__CODE",
+        0x446,
+    ),
     ("0000006c t", "t", 0x6C),
     ("0001006C loop", "loop", 0x1_006C),
     ("0000dead loop", "loop", 0xDEAD),
@@ -169,91 +179,81 @@ const OTHERS: &[&str] = &[
     "low = 0x4380 top = 0x4400",
 ];
 
-/// What a file of one line defines, however the line ends: with no line feed, with one, with a carriage return before it.
-fn defines(alloc: Global, line: &str, name: &str, value: u32) -> Result<bool, SymbolFault> {
+/// Whether a file of one line defines this name alone, however the line ends: with no line feed, with one, with a
+/// carriage return before it.
+fn defines(alloc: Global, line: &str, named: Named) -> Result<bool, SymbolFault> {
     for end in ["", "\n", "\r\n"] {
         let Ok(text) = format!(in alloc; "{line}{end}") else {
             return Err(SymbolFault::NoMemory);
         };
-        let symbols = Symbols::read(alloc, text.as_bytes())?;
-        if symbols.value_of(name) != Some(value) || symbols.names().len() != 1 {
-            return Ok(false);
-        }
-        if !symbols.other_lines().is_empty() {
+        if !says(alloc, text.as_bytes(), &[named], &[])? {
             return Ok(false);
         }
     }
     Ok(true)
 }
 
-/// Whether a file of one line defines no name, and has the line as one of another form, if it is to be one.
-fn defines_none(alloc: Global, line: &[u8], is_other: bool) -> Result<bool, SymbolFault> {
-    let symbols = Symbols::read(alloc, line)?;
-    let others: &[u32] = if is_other { &[1] } else { &[] };
-    Ok(symbols.names().is_empty() && symbols.other_lines() == others)
+/// Whether each line of a table defines its name.
+fn all_define(alloc: Global, table: &[Defined]) -> Result<bool, SymbolFault> {
+    for (line, name, value) in table {
+        if !defines(alloc, line, (name, *value))? {
+            return Ok(false);
+        }
+    }
+    Ok(true)
 }
 
 #[test]
-fn equates(rt: HostRuntime) -> Result<(), Fail> {
-    for (line, name, value) in EQUATES {
-        assert!(rt; defines(rt.alloc(), line, name, *value)?, "{line}");
-    }
+fn lines_with_names(rt: HostRuntime) -> Result<(), Fail> {
+    assert!(rt; all_define(rt.alloc(), EQUATES)?);
+    assert!(rt; all_define(rt.alloc(), ASSIGNMENTS)?);
+    assert!(rt; all_define(rt.alloc(), LINKED)?);
     Ok(())
 }
 
 #[test]
-fn assignments(rt: HostRuntime) -> Result<(), Fail> {
-    for (line, name, value) in ASSIGNMENTS {
-        assert!(rt; defines(rt.alloc(), line, name, *value)?, "{line}");
-    }
-    Ok(())
-}
-
-#[test]
-fn linked(rt: HostRuntime) -> Result<(), Fail> {
-    for (line, name, value) in LINKED {
-        assert!(rt; defines(rt.alloc(), line, name, *value)?, "{line}");
-    }
-    Ok(())
-}
-
-#[test]
-fn nothing(rt: HostRuntime) -> Result<(), Fail> {
+fn lines_without_names(rt: HostRuntime) -> Result<(), Fail> {
     for line in NOTHING {
-        assert!(rt; defines_none(rt.alloc(), line.as_bytes(), false)?, "{line}");
+        assert!(rt; says(rt.alloc(), line.as_bytes(), &[], &[])?, "{line}");
     }
-    Ok(())
-}
-
-#[test]
-fn others(rt: HostRuntime) -> Result<(), Fail> {
     for line in OTHERS {
-        assert!(rt; defines_none(rt.alloc(), line.as_bytes(), true)?, "{line}");
+        assert!(rt; says(rt.alloc(), line.as_bytes(), &[], &[1])?, "{line}");
     }
-    // Bytes that are no UTF-8 spoil a name, but not a comment.
-    assert!(rt; defines_none(rt.alloc(), b"l\xFCp:\tequ $006c", true)?);
-    assert!(rt; defines_none(rt.alloc(), b"\x7FELF\x01\x01", true)?);
-    assert!(rt; defines_none(rt.alloc(), b"; l\xFCp", false)?);
     Ok(())
 }
 
+/// Bytes that are no UTF-8 spoil a name, but not a comment.
 #[test]
-fn letters(rt: HostRuntime) -> Result<(), Fail> {
-    let name = "\u{FC}ber";
-    assert!(rt; defines(rt.alloc(), "\u{FC}ber equ $5", name, 5)?);
+fn other_bytes(rt: HostRuntime) -> Result<(), Fail> {
+    assert!(rt;
+        says(
+            rt.alloc(),
+            b"; l\xFCp\nl\xFCp:\tequ $006c\n\x7FELF\x01\x01",
+            &[],
+            &[2, 3]
+        )?
+    );
     Ok(())
 }
 
-/// A name of 255 bytes is one, and a name of 256 is none.
+/// What a line with a name of so many bytes says: how many names, and how many lines of another form.
+fn counts_of(alloc: Global, length: usize) -> Result<(usize, usize), AllocError> {
+    let mut line = String::new(alloc);
+    for _ in 0..length {
+        line.push_str("a")?;
+    }
+    line.push_str(":\tequ $006c")?;
+    match Symbols::read(alloc, line.as_bytes()) {
+        Ok(symbols) => Ok((symbols.names().len(), symbols.other_lines().len())),
+        Err(_) => Ok((0, 0)),
+    }
+}
+
+/// A name has 255 bytes at most.
 #[test]
 fn long_names(rt: HostRuntime) -> Result<(), Fail> {
-    let longest = vec![in rt.alloc(); b'a'; 255]?;
-    let name = str::from_utf8(longest.as_slice()).ok().ok_or("text")?;
-    let line = format!(in rt.alloc(); "{name}:\tequ $006c")?;
-    assert!(rt; defines(rt.alloc(), line.as_str(), name, 0x6C)?);
-    let line = format!(in rt.alloc(); "{name}a:\tequ $006c")?;
-    assert!(rt; defines_none(rt.alloc(), line.as_bytes(), true)?);
-    let line = format!(in rt.alloc(); "0000006c t {name}{name}")?;
-    assert!(rt; defines_none(rt.alloc(), line.as_bytes(), true)?);
+    for (length, counts) in [(1, (1, 0)), (255, (1, 0)), (256, (0, 1)), (300, (0, 1))] {
+        assert!(rt; counts_of(rt.alloc(), length)? == counts, "{length}");
+    }
     Ok(())
 }

@@ -14,3 +14,5 @@ mod lookups;
 mod memory;
 #[cfg(test)]
 mod resolved;
+#[cfg(test)]
+mod said;

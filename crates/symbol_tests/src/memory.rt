@@ -1,20 +1,28 @@
 // Memory is refused once, at each growth in turn (`tools/memory.sh symbol_tests`). The call then answers `NoMemory`, a line
 // reports it, and the next call gives the right answer.
 
+use crate::said::{Named, says};
+use std::alloc::Global;
 use std::test::Fail;
 use symbols::{ResolveFault, SymbolFault, Symbols};
 
-const NAMES: &[u8] = b"nmi equ 0x66\n?\nsend equ 0x7a\nloop equ 0x6c\nstart equ 0x6a\nstop equ 0x6e\n";
+const FILE: &[u8] =
+    b"nmi equ 0x66\n?\nsend equ 0x7a\nloop equ 0x6c\nstart equ 0x6a\nstop equ 0x6e\n";
+
+const NAMES: &[Named] = &[
+    ("nmi", 0x66),
+    ("send", 0x7A),
+    ("loop", 0x6C),
+    ("start", 0x6A),
+    ("stop", 0x6E),
+];
 
 #[test]
 fn read_again(rt: HostRuntime) -> Result<(), Fail> {
     let mut refused = 0u8;
     for _ in 0..3 {
-        match Symbols::read(rt.alloc(), NAMES) {
-            Ok(symbols) => {
-                assert!(rt; symbols.names().len() == 5 && symbols.other_lines() == &[2][..]);
-                assert!(rt; symbols.shown_at(0x6A) == Some("start"));
-            }
+        match says(rt.alloc(), FILE, NAMES, &[2]) {
+            Ok(is_right) => assert!(rt; is_right),
             Err(fault) => {
                 println!(rt; "refused in read")?;
                 assert!(rt; fault == SymbolFault::NoMemory);
@@ -26,19 +34,31 @@ fn read_again(rt: HostRuntime) -> Result<(), Fail> {
     Ok(())
 }
 
+/// Whether the second value of a name is refused, and not for memory.
+fn has_two_values(alloc: Global) -> Option<bool> {
+    match Symbols::read(alloc, b"nmi equ 1\nnmi equ 2\n") {
+        Ok(_) => Some(false),
+        Err(
+            SymbolFault::TwoValues {
+                name,
+                first,
+                second,
+            },
+        ) => { Some(name.as_str() == "nmi" && first == 1 && second == 2) }
+        Err(SymbolFault::TooLarge) => Some(false),
+        Err(SymbolFault::NoMemory) => None,
+    }
+}
+
 #[test]
 fn refused_again(rt: HostRuntime) -> Result<(), Fail> {
     let mut refused = 0u8;
     for _ in 0..3 {
-        match Symbols::read(rt.alloc(), b"nmi equ 1\nnmi equ 2\n") {
-            Ok(_) => return Err(Fail::new("not two values")),
-            Err(SymbolFault::TooLarge) => return Err(Fail::new("not two values")),
-            Err(SymbolFault::NoMemory) => {
+        match has_two_values(rt.alloc()) {
+            Some(is_right) => assert!(rt; is_right),
+            None => {
                 println!(rt; "refused in read of two values")?;
                 refused = refused.wrapping_add(1);
-            }
-            Err(SymbolFault::TwoValues { name, first, second }) => {
-                assert!(rt; name.as_str() == "nmi" && first == 1 && second == 2);
             }
         }
     }
@@ -46,26 +66,31 @@ fn refused_again(rt: HostRuntime) -> Result<(), Fail> {
     Ok(())
 }
 
+/// Whether an unknown name is refused with the names that are closest, and a known one is not; None if memory is refused.
+fn is_resolved(alloc: Global) -> Option<bool> {
+    let symbols = Symbols::read(alloc, FILE).ok()?;
+    if symbols.resolve(alloc, "send+5") != Ok(0x7F) {
+        return Some(false);
+    }
+    match symbols.resolve(alloc, "stat") {
+        Err(ResolveFault::Unknown { name, closest }) => {
+            Some(name.as_str() == "stat" && closest.names().len() == 3)
+        }
+        Err(ResolveFault::NoMemory) => None,
+        _ => Some(false),
+    }
+}
+
 #[test]
 fn resolved_again(rt: HostRuntime) -> Result<(), Fail> {
     let mut refused = 0u8;
     for _ in 0..3 {
-        // Reading takes its own memory.
-        let Ok(symbols) = Symbols::read(rt.alloc(), NAMES) else {
-            println!(rt; "refused in read before resolve")?;
-            refused = refused.wrapping_add(1);
-            continue;
-        };
-        assert!(rt; symbols.resolve(rt.alloc(), "send+5") == Ok(0x7F));
-        match symbols.resolve(rt.alloc(), "stat") {
-            Err(ResolveFault::Unknown { name, closest }) => {
-                assert!(rt; name.as_str() == "stat" && closest.names().len() == 3);
-            }
-            Err(ResolveFault::NoMemory) => {
+        match is_resolved(rt.alloc()) {
+            Some(is_right) => assert!(rt; is_right),
+            None => {
                 println!(rt; "refused in resolve")?;
                 refused = refused.wrapping_add(1);
             }
-            _ => return Err(Fail::new("not unknown")),
         }
     }
     assert!(rt; refused <= 1);

@@ -2,7 +2,7 @@
 
 use std::alloc::{AllocError, Global};
 use std::test::Fail;
-use symbols::{ResolveFault, Symbols};
+use symbols::{Closest, ResolveFault, Symbols};
 
 const NAMES: &[u8] = b"\
     nmi: equ 0x0066\n\
@@ -46,24 +46,55 @@ const TEXTS: &[(&str, u16)] = &[
 
 /// Texts of another form.
 const NO_FORMS: &[&str] = &[
-    "", " ", "+", "-", "+5", "-5", "send+", "send-", "send+x", "send+nmi", "send+5+5", "send-5+5", "send+-5",
-    "send 5", "122", "0", "007A", "7A", "$", "0x", "7h7", "$7G", "nmi+010", "nmi+A", "a,b", "(nmi)", "\"nmi\"", "5h5",
-    "$100000000", "nmi+4294967296",
+    "",
+    " ",
+    "+",
+    "-",
+    "+5",
+    "-5",
+    "send+",
+    "send-",
+    "sned+x",
+    "send+nmi",
+    "send+5+5",
+    "send-5+5",
+    "send+-5",
+    "send 5",
+    "122",
+    "0",
+    "007A",
+    "7A",
+    "$",
+    "0x",
+    "7h7",
+    "$7G",
+    "nmi+010",
+    "nmi+A",
+    "a,b",
+    "(nmi)",
+    "\"nmi\"",
+    "5h5",
+    "$100000000",
+    "nmi+4294967296",
 ];
 
 /// Texts whose address is below 0000 or above FFFF.
 const OUT_OF_RANGE: &[&str] = &[
-    "top+1", "nmi-103", "$0-1", "$10000", "end_", "far", "far+1", "far+4294967295", "nmi-4294967295", "end_+1",
+    "top+1",
+    "nmi-103",
+    "$0-1",
+    "$10000",
+    "end_",
+    "far",
+    "far+1",
+    "far+4294967295",
+    "nmi-4294967295",
+    "end_+1",
 ];
-
-/// What reading the names gives, or none if they are not read.
-fn names(alloc: Global) -> Option<Symbols> {
-    Symbols::read(alloc, NAMES).ok()
-}
 
 #[test]
 fn found(rt: HostRuntime) -> Result<(), Fail> {
-    let symbols = names(rt.alloc()).ok_or("names")?;
+    let symbols = Symbols::read(rt.alloc(), NAMES)?;
     for (text, address) in TEXTS {
         assert!(rt; symbols.resolve(rt.alloc(), text) == Ok(*address), "{text}");
     }
@@ -72,80 +103,122 @@ fn found(rt: HostRuntime) -> Result<(), Fail> {
 
 #[test]
 fn refused(rt: HostRuntime) -> Result<(), Fail> {
-    let symbols = names(rt.alloc()).ok_or("names")?;
+    let symbols = Symbols::read(rt.alloc(), NAMES)?;
     for text in NO_FORMS {
-        assert!(rt; symbols.resolve(rt.alloc(), text) == Err(ResolveFault::Form), "{text}");
+        assert!(rt;
+            symbols.resolve(rt.alloc(), text) == Err(ResolveFault::Form),
+            "{text}"
+        );
     }
     for text in OUT_OF_RANGE {
-        assert!(rt; symbols.resolve(rt.alloc(), text) == Err(ResolveFault::Range), "{text}");
+        assert!(rt;
+            symbols.resolve(rt.alloc(), text) == Err(ResolveFault::Range),
+            "{text}"
+        );
     }
     Ok(())
 }
 
-/// A label's text names its address.
+/// Whether the text of an address's label names the address; None without a label.
+fn comes_back(alloc: Global, symbols: &Symbols, address: u16) -> Result<Option<bool>, AllocError> {
+    match symbols.label_at(address) {
+        Some(label) => {
+            let text = label.to_string(alloc)?;
+            Ok(Some(symbols.resolve(alloc, text.as_str()) == Ok(address)))
+        }
+        None => Ok(None),
+    }
+}
+
+/// A label's text names its address. Here nmi labels 20 addresses, send 134, and sound, loop and h 256 each.
 #[test]
-fn labels_resolve(rt: HostRuntime) -> Result<(), Fail> {
-    let symbols = names(rt.alloc()).ok_or("names")?;
+fn labels_come_back(rt: HostRuntime) -> Result<(), Fail> {
+    let symbols = Symbols::read(rt.alloc(), NAMES)?;
     let mut labelled = 0u16;
     for address in 0..=0x500u16 {
-        if let Some(label) = symbols.label_at(address) {
-            let text = label.to_string(rt.alloc())?;
-            assert!(rt; symbols.resolve(rt.alloc(), text.as_str()) == Ok(address), "{text}");
+        let answer = comes_back(rt.alloc(), &symbols, address)?;
+        assert!(rt; answer != Some(false), "{address:04X}");
+        if answer.is_some() {
             labelled = labelled.saturating_add(1);
         }
     }
-    // nmi has 20 addresses, send 134, sound and loop 256 each, h 256: it ends at 0x3FF.
     assert_eq!(rt; labelled, 922);
     Ok(())
 }
 
-/// Unknown names, with the messages.
-const UNKNOWN: &[(&str, &str)] = &[
+/// Texts that are refused, each with its file and the message.
+const MESSAGES: &[(&[u8], &str, &str)] = &[
     // One edit, as two letters are exchanged; then three edits each for nmi, sound and end_.
-    ("sned", "no symbol sned; did you mean send, nmi or sound?"),
-    ("sned+5", "no symbol sned; did you mean send, nmi or sound?"),
+    (
+        NAMES,
+        "sned",
+        "no symbol sned; did you mean send, nmi or sound?",
+    ),
+    (
+        NAMES,
+        "sned+5",
+        "no symbol sned; did you mean send, nmi or sound?",
+    ),
     // No edit, as the case does not count; then three edits each for h, top and far.
-    ("NMI", "no symbol NMI; did you mean nmi, h or top?"),
+    (NAMES, "NMI", "no symbol NMI; did you mean nmi, h or top?"),
     // One edit, three, and four.
-    ("loops", "no symbol loops; did you mean loop, top or sound?"),
+    (
+        NAMES,
+        "loops",
+        "no symbol loops; did you mean loop, top or sound?",
+    ),
+    // Fewer names, if there are no more. Those of sections and lengths are not given.
+    (b"", "nmi", "no symbol nmi"),
+    (
+        b"l__nmi equ 1\nnm equ 1\n",
+        "nmi",
+        "no symbol nmi; did you mean nm?",
+    ),
+    (
+        b"ni equ 2\nnm equ 1\n.nmi equ 1\n",
+        "nmi",
+        "no symbol nmi; did you mean nm or ni?",
+    ),
+    (b"", "", "not a name or an address"),
+    (NAMES, "nmi-$70", "not in 0000 to FFFF"),
 ];
 
-fn message(alloc: Global, symbols: &Symbols, text: &str) -> Result<String, AllocError> {
+/// The message of the fault of a text.
+fn message(alloc: Global, file: &[u8], text: &str) -> Result<String, AllocError> {
+    let Ok(symbols) = Symbols::read(alloc, file) else {
+        return String::from_str(alloc, "no symbols");
+    };
     match symbols.resolve(alloc, text) {
-        Ok(_) => String::from_str(alloc, "an address"),
+        Ok(_) => String::from_str(alloc, "no fault"),
         Err(fault) => fault.to_string(alloc),
     }
 }
 
 #[test]
-fn unknown(rt: HostRuntime) -> Result<(), Fail> {
-    let symbols = names(rt.alloc()).ok_or("names")?;
-    for (text, expected) in UNKNOWN {
-        let said = message(rt.alloc(), &symbols, text)?;
+fn messages(rt: HostRuntime) -> Result<(), Fail> {
+    for (file, text, expected) in MESSAGES {
+        let said = message(rt.alloc(), file, text)?;
         assert!(rt; said.as_str() == *expected, "{said}");
-    }
-    match symbols.resolve(rt.alloc(), "snd") {
-        Err(ResolveFault::Unknown { name, closest }) => {
-            let closest = closest.names();
-            assert!(rt; name.as_str() == "snd");
-            assert_eq!(rt; closest.len(), 3);
-            assert!(rt; closest[0].as_str() == "send" && closest[1].as_str() == "sound");
-        }
-        _ => return Err(Fail::new("not unknown")),
     }
     Ok(())
 }
 
-/// Fewer than three names are given if there are no more. Those of sections are not given.
+/// Whether these are the three closest names.
+fn are_closest(closest: &Closest, first: &str, second: &str, third: &str) -> bool {
+    match closest.names() {
+        [a, b, c] => a.as_str() == first && b.as_str() == second && c.as_str() == third,
+        _ => false,
+    }
+}
+
 #[test]
-fn few_names(rt: HostRuntime) -> Result<(), Fail> {
-    let none = Symbols::new(rt.alloc());
-    assert!(rt; message(rt.alloc(), &none, "nmi")?.as_str() == "no symbol nmi");
-    let one = Symbols::read(rt.alloc(), b"l__nmi equ 1\nnm equ 1\n")?;
-    assert!(rt; message(rt.alloc(), &one, "nmi")?.as_str() == "no symbol nmi; did you mean nm?");
-    let two = Symbols::read(rt.alloc(), b"ni equ 2\nnm equ 1\n.nmi equ 1\n")?;
-    assert!(rt; message(rt.alloc(), &two, "nmi")?.as_str() == "no symbol nmi; did you mean nm or ni?");
-    assert!(rt; message(rt.alloc(), &two, "")?.as_str() == "not a name or an address");
-    assert!(rt; message(rt.alloc(), &two, "nm-2")?.as_str() == "not in 0000 to FFFF");
+fn unknown(rt: HostRuntime) -> Result<(), Fail> {
+    let symbols = Symbols::read(rt.alloc(), NAMES)?;
+    match symbols.resolve(rt.alloc(), "snd") {
+        Err(ResolveFault::Unknown { name, closest }) => {
+            assert!(rt; name.as_str() == "snd" && are_closest(&closest, "send", "sound", "end_"));
+        }
+        _ => return Err(Fail::new("not unknown")),
+    }
     Ok(())
 }

@@ -1,7 +1,9 @@
 // Reading the names and values of a symbol file.
 
+ghost use Rattle.std.specs.Prelude.{◌≢◌};
+
 use crate::fault::SymbolFault;
-use crate::line::{Line, Part, line_in};
+use crate::line::{FilePart, SymbolLine, line_in};
 use indexmap::IndexMap;
 use std::alloc::Global;
 
@@ -26,22 +28,31 @@ pub(crate) struct Definitions {
 impl Definitions {
     /// Reads a file. `TwoValues` at the first line that gives a name another value than an earlier line, `NoMemory`
     /// where memory was refused.
-    pub(crate) fn read(alloc: Global, text: &[u8]) -> Result<Definitions, SymbolFault> {
+    pub(crate) fn read(alloc: Global, text: &[u8]) -> Result<Definitions, SymbolFault>
+        ensures { result ≢ Err SymbolFault.TooLarge }
+    {
         let mut definitions = Definitions {
             by_name: IndexMap::new(alloc),
             other_lines: Vec::new(alloc),
         };
-        let mut part = Part::Plain;
+        let mut part = FilePart::Plain;
         let mut number = 0u32;
         for line in text.split(|byte| *byte == b'\n') {
             number = number.saturating_add(1);
             match line_in(part, line) {
-                Line::Symbol(name, value) => {
-                    definitions.add(alloc, name, Definition { value, line: number })?;
+                SymbolLine::Defines(name, value) => {
+                    definitions.add(
+                        alloc,
+                        name,
+                        Definition {
+                            value,
+                            line: number,
+                        },
+                    )?;
                 }
-                Line::Begins(next) => part = next,
-                Line::Nothing => {}
-                Line::Other => if definitions.other_lines.push(number).is_err() {
+                SymbolLine::Begins(next) => part = next,
+                SymbolLine::Nothing => {}
+                SymbolLine::Other => if definitions.other_lines.push(number).is_err() {
                     return Err(SymbolFault::NoMemory);
                 },
             }
@@ -50,12 +61,9 @@ impl Definitions {
     }
 
     /// Adds a name, unless it is there with the same value.
-    fn add(
-        &mut self,
-        alloc: Global,
-        name: &str,
-        definition: Definition,
-    ) -> Result<(), SymbolFault> {
+    fn add(&mut self, alloc: Global, name: &str, definition: Definition) -> Result<(), SymbolFault>
+        ensures { result ≢ Err SymbolFault.TooLarge }
+    {
         let Ok(owned) = String::from_str(alloc, name) else {
             return Err(SymbolFault::NoMemory);
         };

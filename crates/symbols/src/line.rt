@@ -4,11 +4,11 @@ use crate::name::is_name;
 use crate::number::{hexadecimal, number};
 
 /// What a line says.
-pub(crate) enum Line<'a> {
+pub(crate) enum SymbolLine<'a> {
     /// A name has this value.
-    Symbol(&'a str, u32),
+    Defines(&'a str, u32),
     /// Here a part of the file begins.
-    Begins(Part),
+    Begins(FilePart),
     /// No symbol, and none is missing: a blank, a comment, a heading, a command to a debugger.
     Nothing,
     /// A line of another form.
@@ -17,7 +17,7 @@ pub(crate) enum Line<'a> {
 
 /// A part of a file. It decides how the lines after its heading are read.
 #[derive(Clone, Copy)]
-pub(crate) enum Part {
+pub(crate) enum FilePart {
     /// Each line has its own form.
     Plain,
     /// The map of SDCC's linker. Lines that begin with no address are headings.
@@ -36,55 +36,55 @@ const WLA_SECTIONS: [&str; 3] = ["[labels]", "[definitions]", "[symbols]"];
 const NOICE_COMMANDS: [&str; 7] = ["LOAD", "FILE", "FUNC", "SFUNC", "ENDF", "LINE", "DEFS"];
 
 /// What a line says in a part of a file. The line is given without its line feed.
-pub(crate) fn line_in(part: Part, line: &[u8]) -> Line<'_> {
+pub(crate) fn line_in(part: FilePart, line: &[u8]) -> SymbolLine<'_> {
     let before_comment = line.split(|byte| *byte == b';').next();
     let Ok(text) = str::from_utf8(before_comment.unwrap_or(line)) else {
-        return Line::Other;
+        return SymbolLine::Other;
     };
     let text = text.trim_ascii();
     if text.is_empty() || text.starts_with('#') || text.starts_with("//") {
-        return Line::Nothing;
+        return SymbolLine::Nothing;
     }
     if let Some(begun) = heading(text) {
-        return Line::Begins(begun);
+        return SymbolLine::Begins(begun);
     }
     match part {
-        Part::Plain => plain_line(text),
-        Part::Map => map_line(text),
-        Part::Unread => Line::Nothing,
+        FilePart::Plain => plain_line(text),
+        FilePart::Map => map_line(text),
+        FilePart::Unread => SymbolLine::Nothing,
     }
 }
 
 /// The part that begins with this line.
-fn heading(text: &str) -> Option<Part> {
+fn heading(text: &str) -> Option<FilePart> {
     if text.starts_with(MAP_HEADING) {
-        return Some(Part::Map);
+        return Some(FilePart::Map);
     }
     if !text.starts_with('[') || !text.ends_with(']') {
         return None;
     }
     if WLA_SECTIONS.contains(&text) {
-        Some(Part::Plain)
+        Some(FilePart::Plain)
     } else {
-        Some(Part::Unread)
+        Some(FilePart::Unread)
     }
 }
 
 /// A line of a map: an address of 4 to 8 digits, a name, and perhaps a module. Other lines are headings.
-fn map_line(text: &str) -> Line<'_> {
+fn map_line(text: &str) -> SymbolLine<'_> {
     let mut words = text.split_ascii_whitespace();
     let first = words.next().unwrap_or(text);
     let (4..=8, Some(value)) = (first.len(), hexadecimal(first)) else {
-        return Line::Nothing;
+        return SymbolLine::Nothing;
     };
     match (words.next(), words.next(), words.next()) {
         (Some(name), _, None) => symbol(name, Some(value)),
-        _ => Line::Other,
+        _ => SymbolLine::Other,
     }
 }
 
 /// A line that has its own form.
-fn plain_line(text: &str) -> Line<'_> {
+fn plain_line(text: &str) -> SymbolLine<'_> {
     if let Some((name, value)) = text.split_once('=') {
         return symbol(name.trim_ascii(), number(value.trim_ascii()));
     }
@@ -93,27 +93,27 @@ fn plain_line(text: &str) -> Line<'_> {
     let line = match (words.next(), words.next(), words.next()) {
         (Some(second), None, _) => line_of_two(first, second),
         (Some(second), Some(third), None) => line_of_three(first, second, third),
-        _ => Line::Other,
+        _ => SymbolLine::Other,
     };
     match line {
-        Line::Other if NOICE_COMMANDS.contains(&first) => Line::Nothing,
+        SymbolLine::Other if NOICE_COMMANDS.contains(&first) => SymbolLine::Nothing,
         line => line,
     }
 }
 
 /// A line of two words: of RASM or WLA, or a name without a value in the output of nm.
-fn line_of_two<'a>(first: &'a str, second: &'a str) -> Line<'a> {
+fn line_of_two<'a>(first: &'a str, second: &'a str) -> SymbolLine<'a> {
     if second.starts_with('#') {
         return symbol(first, number(second));
     }
     if matches!(first, "U" | "w" | "v") && is_name(second) {
-        return Line::Nothing;
+        return SymbolLine::Nothing;
     }
     symbol(second, address(first))
 }
 
 /// A line of three words: of an equate, NoICE, RASM with a bank, or nm.
-fn line_of_three<'a>(first: &'a str, second: &'a str, third: &'a str) -> Line<'a> {
+fn line_of_three<'a>(first: &'a str, second: &'a str, third: &'a str) -> SymbolLine<'a> {
     if second.eq_ignore_ascii_case("equ") {
         return symbol(first, number(third));
     }
@@ -126,15 +126,15 @@ fn line_of_three<'a>(first: &'a str, second: &'a str, third: &'a str) -> Line<'a
     if is_letter(second) {
         return symbol(third, address(first));
     }
-    Line::Other
+    SymbolLine::Other
 }
 
 /// A symbol, if this is a name, perhaps with a colon, and there is a value.
-fn symbol(name: &str, value: Option<u32>) -> Line<'_> {
+fn symbol(name: &str, value: Option<u32>) -> SymbolLine<'_> {
     let name = name.strip_suffix(':').unwrap_or(name);
     match value {
-        Some(value) if is_name(name) => Line::Symbol(name, value),
-        _ => Line::Other,
+        Some(value) if is_name(name) => SymbolLine::Defines(name, value),
+        _ => SymbolLine::Other,
     }
 }
 

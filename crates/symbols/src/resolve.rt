@@ -1,5 +1,9 @@
 // Texts that name an address.
 
+ghost use Rattle.std.specs.Prelude.{◌≡◌, None, IfErr};
+ghost use Rattle.symbols.specs.Faults.{NamesUnknown};
+ghost use Rattle.symbols.specs.Names.{value_of_name};
+
 use crate::closest::Closest;
 use crate::fault::ResolveFault;
 use crate::name::is_name;
@@ -15,11 +19,19 @@ impl Symbols {
     ///
     /// `Form` if the text has another form. `Unknown` if no symbol has the name; the closest names come with it. `Range`
     /// if the address would be below 0000 or above FFFF. `NoMemory` where memory for the error was refused.
-    pub fn resolve(&self, alloc: Global, text: &str) -> Result<u16, ResolveFault> {
+    pub fn resolve(&self, alloc: Global, text: &str) -> Result<u16, ResolveFault>
+        ensures { IfErr result (NamesUnknown self.now) }
+    {
         let value = match text.split_once('+') {
-            Some((base, offset)) => self.base(alloc, base)?.checked_add(offset_of(offset)?),
+            Some((base, offset)) => {
+                let offset = offset_of(offset)?;
+                self.base(alloc, base)?.checked_add(offset)
+            }
             None => match text.split_once('-') {
-                Some((base, offset)) => self.base(alloc, base)?.checked_sub(offset_of(offset)?),
+                Some((base, offset)) => {
+                    let offset = offset_of(offset)?;
+                    self.base(alloc, base)?.checked_sub(offset)
+                }
                 None => Some(self.base(alloc, text)?),
             },
         };
@@ -30,7 +42,9 @@ impl Symbols {
     }
 
     /// The value of a name, or a number with a mark.
-    fn base(&self, alloc: Global, text: &str) -> Result<u32, ResolveFault> {
+    fn base(&self, alloc: Global, text: &str) -> Result<u32, ResolveFault>
+        ensures { IfErr result (NamesUnknown self.now) }
+    {
         let text = text.trim_ascii();
         if let Some(number) = marked(text) {
             return Ok(number);
@@ -45,7 +59,10 @@ impl Symbols {
     }
 
     /// The fault of a name that no symbol has.
-    fn unknown(&self, alloc: Global, name: &str) -> ResolveFault {
+    fn unknown(&self, alloc: Global, name: &str) -> ResolveFault
+        requires { value_of_name self.now name.now ≡ None }
+        ensures { NamesUnknown self.now result }
+    {
         let Ok(closest) = Closest::among(alloc, self.names(), name) else {
             return ResolveFault::NoMemory;
         };
@@ -57,6 +74,8 @@ impl Symbols {
 }
 
 /// The number after a sign.
-fn offset_of(text: &str) -> Result<u32, ResolveFault> {
+fn offset_of(text: &str) -> Result<u32, ResolveFault>
+    ensures { IfErr result (λ fault. fault ≡ ResolveFault.Form) }
+{
     number(text.trim_ascii()).ok_or(ResolveFault::Form)
 }

@@ -1,9 +1,9 @@
 // The symbols of a program: names and their values.
 
-ghost use Rattle.std.specs.Prelude.{◌≡◌, ◌≤◌, ◌<◌, ◌-◌, ◌↔◌, [], map, Contains, IfSome, option_and_then};
+ghost use Rattle.std.specs.Prelude.{◌≡◌, ◌≤◌, ◌<◌, ◌-◌, ◌↔◌, [], ℕ, map, nat_lt, if◌then◌else◌, find, length, Some, None, Contains, IfSome, IfNone, option_map, option_and_then};
 ghost use Rattle.std.specs.Map.{keys_of};
 ghost use Rattle.std.specs.String.{string_bytes};
-ghost use Rattle.symbols.specs.Names.{value_in, names_in};
+ghost use Rattle.symbols.specs.Names.{MayLabel, is_shown_name, value_of_name, names_of, shown_name};
 
 use crate::definitions::{Definition, Definitions};
 use crate::fault::SymbolFault;
@@ -18,6 +18,9 @@ const MAX_TEXT: usize = 4_194_304;
 
 /// The first address above the ROM's zone. Labels below it name code, and the others name RAM and devices.
 const ROM_END: u16 = 0x4000;
+
+/// How many addresses a label may name: its own and 255 more.
+const REACH: u16 = 256;
 
 /// The names that a symbol file defines, with their values (docs/SYMBOLS.md).
 #[derive(Drop)]
@@ -58,14 +61,22 @@ impl Symbols {
     ///
     /// `TooLarge` for more than 4,194,304 bytes. `TwoValues` at the first line that gives a name another value than an
     /// earlier line. `NoMemory` where memory was refused.
-    pub fn read(alloc: Global, text: &[u8]) -> Result<Symbols, SymbolFault> {
+    pub fn read(alloc: Global, text: &[u8]) -> Result<Symbols, SymbolFault>
+        ensures { (result ≡ Err SymbolFault.TooLarge) ↔ (MAX_TEXT < length text.now) }
+    {
         if text.len() > MAX_TEXT {
             return Err(SymbolFault::TooLarge);
         }
-        let Definitions { by_name, other_lines } = Definitions::read(alloc, text)?;
+        let Definitions {
+            by_name,
+            other_lines,
+        } = Definitions::read(alloc, text)?;
         let mut definitions = by_name;
         match definitions.sort_by_key(|_, definition| definition.value) {
-            Ok(()) => Ok(Symbols { definitions, other_lines }),
+            Ok(()) => Ok(Symbols {
+                definitions,
+                other_lines,
+            }),
             Err(_) => Err(SymbolFault::NoMemory),
         }
     }
@@ -84,8 +95,8 @@ impl Symbols {
 
     /// The value of a name; None if no line defines it. Upper and lower case differ.
     pub fn value_of(&self, name: &str) -> Option<u32>
-        ensures value { result ≡ value_in self.now name.now }
-        ensures listed { IfSome result (λ value. Contains (names_in self.now value) name.now) }
+        ensures value { result ≡ value_of_name self.now name.now }
+        ensures listed { IfSome result (λ value. Contains (names_of self.now value) name.now) }
     {
         match self.definitions.get(name) {
             Some(definition) => Some(definition.value),
@@ -95,19 +106,25 @@ impl Symbols {
 
     /// The address of a name; None if no line defines it, or if its value is above FFFF.
     pub fn address_of(&self, name: &str) -> Option<u16>
-        ensures value { IfSome result (λ address. value_in self.now name.now ≡ Some address) }
-        ensures listed { IfSome result (λ address. Contains (names_in self.now address) name.now) }
+        ensures value { result ≡ option_and_then
+            (λ value. if nat_lt value 65536 then Some value else None)
+            (value_of_name self.now name.now) }
+        ensures listed { IfSome result (λ address. Contains (names_of self.now address) name.now) }
     {
         u16::try_from(self.value_of(name)?).ok()
     }
 
     /// The names of an address, in the order of their lines.
     pub fn names_at(&self, address: u16) -> &[String]
-        ensures { map string_bytes result.now ≡ names_in self.now address }
+        ensures { map string_bytes result.now ≡ names_of self.now address }
     {
         let value = u32::from(address);
-        let from = self.definitions.partition_point(|_, definition| definition.value < value);
-        let to = self.definitions.partition_point(|_, definition| definition.value <= value);
+        let from = self
+            .definitions
+            .partition_point(|_, definition| definition.value < value);
+        let to = self
+            .definitions
+            .partition_point(|_, definition| definition.value <= value);
         match self.definitions.as_slice().get_range(from..to) {
             Some(there) => there.keys().as_slice(),
             None => &[],
@@ -116,32 +133,48 @@ impl Symbols {
 
     /// The name that is shown at an address: the first that is not one of a section or a length.
     pub fn shown_at(&self, address: u16) -> Option<&str>
-        ensures { IfSome result (λ name. Contains (names_in self.now address) name.now) }
+        ensures { option_map (λ name. name.now) result ≡ shown_name self.now address }
     {
-        for name in self.names_at(address) {
-            if is_shown(name.as_str()) {
-                return Some(name.as_str());
-            }
+        match first_shown(self.names_at(address)) {
+            Some(name) => Some(name.as_str()),
+            None => None,
         }
-        None
     }
 
     /// The label of an address: the shown name at the nearest address that is not above it, at most 255 bytes below. An
     /// address in the ROM's zone, below 4000, and one above it share no label.
     pub fn label_at(&self, address: u16) -> Option<Label<'_>>
-        ensures within { IfSome result (λ label. label.offset ≤ address) }
+        ensures place { IfSome result (λ label. MayLabel (address - label.offset) address) }
         ensures name { IfSome result
-            (λ label. Contains (names_in self.now (address - label.offset)) label.name.now) }
+            (λ label. shown_name self.now (address - label.offset) ≡ Some label.name.now) }
+        ensures nearest { IfSome result (λ label. (k : ℕ) → k < label.offset
+            → shown_name self.now (address - k) ≡ None) }
+        ensures none { IfNone result ((place : ℕ) → MayLabel place address
+            → shown_name self.now place ≡ None) }
     {
-        for offset in 0..=u8::MAX {
-            let at = address.checked_sub(u16::from(offset))?;
-            if (at < ROM_END) != (address < ROM_END) {
+        for offset in 0..REACH {
+            if offset > address {
                 return None;
             }
-            if let Some(name) = self.shown_at(at) {
-                return Some(Label { name, offset });
+            let place = address - offset;
+            if place < ROM_END && ROM_END <= address {
+                return None;
+            }
+            if let Some(name) = self.shown_at(place) {
+                return Some(Label {
+                    name,
+                    offset: offset as u8,
+                });
             }
         }
         None
     }
+}
+
+/// The first name that is shown.
+fn first_shown(names: &[String]) -> Option<&String>
+    ensures { option_map (λ name. name.now) result
+        ≡ find (λ name. is_shown_name (string_bytes name)) names.now }
+{
+    names.iter().find(|name| is_shown(name.as_str()))
 }
