@@ -1,5 +1,5 @@
-// The tests of symbols: the forms of a line, whole files, what is found and shown, faults, texts that name an address, and
-// refused memory.
+// The tests of symbols: the forms of a line, whole files, what is found and shown, faults, texts that name an address,
+// and refused memory.
 #![tactic(auto)]
 
 #[cfg(test)]

@@ -1,26 +1,19 @@
-// Memory is refused once, at each growth in turn (`tools/memory.sh symbol_tests`). The call then answers `NoMemory`, a line
-// reports it, and the next call gives the right answer.
+// Memory is refused once, at each growth in turn (`tools/memory.sh symbol_tests`). The call then answers `NoMemory`, a
+// line reports it, and the next call gives the right answer.
 
 use crate::said::{Named, says};
 use std::alloc::Global;
 use std::test::Fail;
 use symbols::{ResolveFault, SymbolFault, Symbols};
 
-const FILE: &[u8] =
-    b"nmi equ 0x66\n?\nsend equ 0x7a\nloop equ 0x6c\nstart equ 0x6a\nstop equ 0x6e\n";
+const FILE: &[u8] = b"nmi equ 0x66\n?\nsend equ 0x7a\n";
 
-const NAMES: &[Named] = &[
-    ("nmi", 0x66),
-    ("send", 0x7A),
-    ("loop", 0x6C),
-    ("start", 0x6A),
-    ("stop", 0x6E),
-];
+const NAMES: &[Named] = &[("nmi", 0x66), ("send", 0x7A)];
 
 #[test]
 fn read_again(rt: HostRuntime) -> Result<(), Fail> {
     let mut refused = 0u8;
-    for _ in 0..3 {
+    for _ in 0..2 {
         match says(rt.alloc(), FILE, NAMES, &[2]) {
             Ok(is_right) => assert!(rt; is_right),
             Err(fault) => {
@@ -53,7 +46,7 @@ fn has_two_values(alloc: Global) -> Option<bool> {
 #[test]
 fn refused_again(rt: HostRuntime) -> Result<(), Fail> {
     let mut refused = 0u8;
-    for _ in 0..3 {
+    for _ in 0..2 {
         match has_two_values(rt.alloc()) {
             Some(is_right) => assert!(rt; is_right),
             None => {
@@ -66,15 +59,15 @@ fn refused_again(rt: HostRuntime) -> Result<(), Fail> {
     Ok(())
 }
 
-/// Whether an unknown name is refused with the names that are closest, and a known one is not; None if memory is refused.
+/// Whether an unknown name is refused with the closest names, and a known one is not; None if memory is refused.
 fn is_resolved(alloc: Global) -> Option<bool> {
-    let symbols = Symbols::read(alloc, FILE).ok()?;
-    if symbols.resolve(alloc, "send+5") != Ok(0x7F) {
+    let symbols = Symbols::read(alloc, b"nmi equ 0x66").ok()?;
+    if symbols.resolve(alloc, "nmi+5") != Ok(0x6B) {
         return Some(false);
     }
-    match symbols.resolve(alloc, "stat") {
+    match symbols.resolve(alloc, "nm") {
         Err(ResolveFault::Unknown { name, closest }) => {
-            Some(name.as_str() == "stat" && closest.names().len() == 3)
+            Some(name.as_str() == "nm" && closest.names().len() == 1)
         }
         Err(ResolveFault::NoMemory) => None,
         _ => Some(false),
@@ -84,7 +77,7 @@ fn is_resolved(alloc: Global) -> Option<bool> {
 #[test]
 fn resolved_again(rt: HostRuntime) -> Result<(), Fail> {
     let mut refused = 0u8;
-    for _ in 0..3 {
+    for _ in 0..2 {
         match is_resolved(rt.alloc()) {
             Some(is_right) => assert!(rt; is_right),
             None => {

@@ -220,5 +220,7 @@ fn unknown(rt: HostRuntime) -> Result<(), Fail> {
         }
         _ => return Err(Fail::new("not unknown")),
     }
+    let closest = symbols.closest_to(rt.alloc(), "snd")?;
+    assert!(rt; are_closest(&closest, "send", "sound", "end_"));
     Ok(())
 }

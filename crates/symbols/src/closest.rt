@@ -1,5 +1,7 @@
 // The names that are closest to an unknown one.
 
+ghost use Rattle.std.specs.Prelude.{◌≤◌, length, vec_len};
+
 use crate::name::is_shown;
 use std::alloc::{AllocError, Global};
 use std::fmt;
@@ -13,11 +15,12 @@ const COUNT: usize = 3;
 #[derive(Debug, Drop, PartialEq)]
 pub struct Closest {
     names: Vec<String>,
+    ghost few: { vec_len names ≤ 3 },
 }
 
 impl Closest {
-    /// The shown names that are closest to an unknown one. They are ranked by the edits between the two: characters
-    /// left out, added, replaced, or exchanged with the next. Upper and lower case of ASCII letters count as equal here.
+    /// The shown names that are closest to an unknown one, ranked by the edits between the two: characters left out,
+    /// added, replaced, or exchanged with the next. Upper and lower case of ASCII letters count as equal here.
     pub(crate) fn among(
         alloc: Global,
         names: &[String],
@@ -33,16 +36,19 @@ impl Closest {
             }
         }
         ranked.sort_by_key(|(edits, _)| *edits)?;
+        ranked.truncate(COUNT);
         let mut closest = Vec::new(alloc);
-        for (_, name) in ranked.iter().take(COUNT) {
+        for (_, name) in &ranked {
             closest.push(String::from_str(alloc, name)?)?;
         }
         Ok(Closest { names: closest })
     }
 
-    /// The names, the closest first. Of names equally close, the one with the lower value is first, then the one with
-    /// the earlier line.
-    pub fn names(&self) -> &[String] {
+    /// The names, the closest first. Of names equally close the one with the lower value comes first; of these, the one
+    /// with the earlier line.
+    pub fn names(&self) -> &[String]
+        ensures { length result.now ≤ 3 }
+    {
         self.names.as_slice()
     }
 }

@@ -9,7 +9,7 @@ use crate::fault::ResolveFault;
 use crate::name::is_name;
 use crate::number::{marked, number};
 use crate::symbols::Symbols;
-use std::alloc::Global;
+use std::alloc::{AllocError, Global};
 
 impl Symbols {
     /// The address that a text names: a name or a number in hexadecimal with a mark, perhaps with an offset. An offset
@@ -17,8 +17,8 @@ impl Symbols {
     ///
     /// # Errors
     ///
-    /// `Form` if the text has another form. `Unknown` if no symbol has the name; the closest names come with it. `Range`
-    /// if the address would be below 0000 or above FFFF. `NoMemory` where memory for the error was refused.
+    /// `Form` if the text has another form. `Unknown` if no symbol has the name; the closest names come with it.
+    /// `Range` if the address would be below 0000 or above FFFF. `NoMemory` where memory for the error was refused.
     pub fn resolve(&self, alloc: Global, text: &str) -> Result<u16, ResolveFault>
         ensures { IfErr result (NamesUnknown self.now) }
     {
@@ -58,12 +58,17 @@ impl Symbols {
         }
     }
 
+    /// The names that are closest to a text, three at most. Memory is taken for each name in turn.
+    pub fn closest_to(&self, alloc: Global, text: &str) -> Result<Closest, AllocError> {
+        Closest::among(alloc, self.names(), text)
+    }
+
     /// The fault of a name that no symbol has.
     fn unknown(&self, alloc: Global, name: &str) -> ResolveFault
         requires { value_of_name self.now name.now ≡ None }
         ensures { NamesUnknown self.now result }
     {
-        let Ok(closest) = Closest::among(alloc, self.names(), name) else {
+        let Ok(closest) = self.closest_to(alloc, name) else {
             return ResolveFault::NoMemory;
         };
         match String::from_str(alloc, name) {
