@@ -23,7 +23,7 @@ pub use instructions::{
 };
 pub use machine::{events_take_time, states_stay_in_range, steps_are_single};
 pub use moves::{
-    stackless_moves_keep_sp, drafts_keep_words, exchange_moves_swap_words, pop_moves_take_words,
-    push_moves_lay_words,
+    drafts_keep_words, exchange_moves_swap_words, pop_moves_take_words, push_moves_lay_words,
+    stackless_moves_keep_sp,
 };
 pub use words::{words_are_ordered, words_are_their_bytes, words_place_sp};

@@ -81,7 +81,8 @@ fn jump_lands(subject: &Subject, next: &Next, target: &RowRef) -> bool
     if next.address != target.address || subject.row.proc != target.proc {
         return false;
     }
-    overlaps_state(target, &next.state) || is_lone(subject.certificate, subject.row.proc, next.address)
+    overlaps_state(target, &next.state)
+        || is_lone(subject.certificate, subject.row.proc, next.address)
 }
 
 /// The T-states between two rows by one successor; None if it does not lead there.

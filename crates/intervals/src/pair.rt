@@ -93,7 +93,9 @@ impl Pair {
     pub fn overlaps(self, other: Pair) -> bool
         ensures { IsTrue result ↔ OverlapsPair self other }
     {
-        self.word.overlaps(other.word) && self.high.overlaps(other.high) && self.low.overlaps(other.low)
+        self.word.overlaps(other.word)
+            && self.high.overlaps(other.high)
+            && self.low.overlaps(other.low)
     }
 
     /// The pair after the three cuts of the normal form, or None if one of them leaves nothing. The cuts are not

@@ -170,7 +170,11 @@ impl Shape {
         ensures { IsTrue result ↔ OverlapsShape self.now other.now }
     {
         let (mine, theirs) = (self.slots(), other.slots());
-        mine.len() == theirs.len() && mine.iter().zip(theirs).all(|(a, b)| a.pair.overlaps(b.pair))
+        mine.len() == theirs.len()
+            && mine
+                .iter()
+                .zip(theirs)
+                .all(|(a, b)| a.pair.overlaps(b.pair))
     }
 
     /// Whether this shape covers the other: they have one length, and each slot covers the other's at its place.
