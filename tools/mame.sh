@@ -18,9 +18,13 @@ mame=$(PATH=$PATH:/usr/games command -v mame) || missing mame "apt-get install m
 command -v z80asm > /dev/null || missing z80asm "apt-get install mame z80asm"
 galcert=$(realpath -e "${GALCERT:-$root/galcert}" 2> /dev/null) || missing "${GALCERT:-$root/galcert}" make
 
-top=${WORK:-$(mktemp -d)}
-mkdir -p "$top"
-[ -n "${WORK:-}" ] || trap 'rm -rf "$top"' EXIT
+if [ -n "${WORK:-}" ]; then
+    mkdir -p "$WORK"
+    top=$(realpath "$WORK")
+else
+    top=$(mktemp -d)
+    trap 'rm -rf "$top"' EXIT
+fi
 
 # Makes the folder of a run, and in it the set of the board that the certificate names. The raised board has its NMI enable
 # at B001 and Moon Cresta at B000, so a tap sends the writes on.
@@ -47,8 +51,8 @@ play() {
 }
 ended() {
     [ "$(tail -n 1 "$DUMP" 2> /dev/null)" = done ] && return
-    cat "$work/log" >&2
-    echo "MAME did not come to the end of its run" >&2
+    tail -n 3 "$work/log" >&2
+    echo "MAME did not come to the end of its run; a fast one ends with an NMI" >&2
     return 1
 }
 
@@ -60,7 +64,7 @@ traced() {
     local player=$!
     "$@" < /dev/null || status=1
     while kill -0 $player 2> /dev/null; do timeout 1 cat "$TRACE" > /dev/null || true; done
-    ended && return $status
+    [ $status = 0 ] && ended
 }
 
 # trace ROM CERT FRAMES [EVERY [AT]]
@@ -95,7 +99,7 @@ shots() {
     export NAME SHOTS="${*:4}"
     NAME=$(basename "$1" .rom)
     mkdir -p "$3"
-    play shots.lua -snapshot_directory "$(realpath "$3")"
+    play shots.lua -snapshot_directory "$(realpath "$3")" -snapsize 448x512 -nosnapbilinear
 }
 
 # Makes a program of tools/mame/programs and its certificate, in $top.

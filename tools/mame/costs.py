@@ -121,8 +121,10 @@ def faults(found):
         if not ways or both and len(ways) < 2:
             yield f"{code}: not measured in each way"
         for taken, number in ways.items():
-            if number != cost[0 if taken else -1]:
-                yield f"{code}, {'' if taken else 'not '}taken: {number} T-states in MAME, {cost[0 if taken else -1]} in Costs.antt"
+            wanted = cost[0 if taken else -1]
+            if number != wanted:
+                way = ("" if taken else " not") + " taken" if both else ""
+                yield f"{code}{way}: {number} T-states in MAME, {wanted} in Costs.antt"
 
 
 def cell(ways):

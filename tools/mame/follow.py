@@ -80,9 +80,8 @@ class Follower:
     def goes_on(self, now):
         """The instruction `before` is over, and MAME comes to `now`."""
         before, accepted = self.before, now.is_accepted()
-        if now.pc == 0x0000 and not self.jumps_to_start(before.pc):
-            time = now.time - self.begun
-            sys.exit(f"MAME's watchdog reset the program after {time:,} T-states: see KICK in docs/MAME.md")
+        if now.time < before.time:  # a reset begins the count anew
+            sys.exit(f"MAME's watchdog reset the program after {before.time - self.begun:,} T-states: see KICK in docs/MAME.md")
         is_load_r = self.rom[before.pc:before.pc + 2] == b"\xED\x5F"
         gives = now.accumulator() if is_load_r else "00"
         self.input.put(f"{before.inputs} {OPEN} {now.flags()} {gives} {int(accepted)}")
@@ -100,11 +99,6 @@ class Follower:
             self.put_state(len(self.starts), now.time, f"{now.pc:04X}", [f"{now.sp:04X}", *now.pairs], ["-"] * 3)
         self.starts.append(now.time)
         self.before = now
-
-    def jumps_to_start(self, at):
-        """Whether RST 0 or a jump or a call to 0000 stands at an address."""
-        is_jump = self.rom[at] in (0xC3, 0xCD) or self.rom[at] & 0xC7 in (0xC2, 0xC4)
-        return self.rom[at] == 0xC7 or is_jump and self.rom[at + 1:at + 3] == b"\x00\x00"
 
     def is_return(self, at):
         prefix, opcode = codes.key_at(self.rom, at)
