@@ -104,14 +104,16 @@ shots() {
 
 # Makes a program of tools/mame/programs and its certificate, in $top.
 program() {
-    local name=$1 source=$HERE/programs/$1
+    local name=$1 source=$HERE/programs/$1 verdict
     if [ -e "$source.py" ]; then
         python3 "$source.py" "$top/$name.rom" "$top/$name.toml"
     else
         z80asm -o "$top/$name.rom" "$source.asm"
         cp "$source".{toml,cert} "$top" 2> /dev/null || true
     fi
-    [ -e "$source.cert" ] || "$galcert" check "$top/$name.rom" "$top/$name.toml" --cert "$top/$name.cert" >&2
+    [ -e "$source.cert" ] ||
+        verdict=$("$galcert" check "$top/$name.rom" "$top/$name.toml" --cert "$top/$name.cert") ||
+        echo "$name: $verdict" >&2
 }
 
 # One more phase at which a program may begin.
