@@ -29,8 +29,8 @@ fi
 # Makes the folder of a run, and in it the set of the board that the certificate names. The raised board has its NMI enable
 # at B001 and Moon Cresta at B000, so a tap sends the writes on.
 prepare() {
-    local rom=$1 cert=$2
-    work=$top/$(basename "$rom" .rom) set=zerotimed
+    local way=$1 rom=$2 cert=$3
+    work=$top/$way-$(basename "$rom" .rom) set=zerotimed
     export RAM=0x4000 FORWARD='' DUMP=$work/dump TRACE=$work/trace
     if grep -q '^map raised' "$cert"; then
         set=mooncrsb RAM=0x8000 FORWARD=b001,b000
@@ -69,7 +69,7 @@ traced() {
 
 # trace ROM CERT FRAMES [EVERY [AT]]
 trace() {
-    prepare "$1" "$2"
+    prepare trace "$1" "$2"
     export FRAMES=$3 EVERY=${4:-1000000}
     # shellcheck disable=SC2086
     traced python3 "$HERE/follow.py" "$1" "$work" ${5:-} || return 1
@@ -78,7 +78,7 @@ trace() {
 
 # fast ROM CERT FRAMES
 fast() {
-    prepare "$1" "$2"
+    prepare fast "$1" "$2"
     export FRAMES=$3
     play fast.lua -seconds_to_run $(($3 / 60 + 10))
     ended || return 1
@@ -89,13 +89,13 @@ fast() {
 costs() {
     local rom=$top/costs.rom
     python3 "$HERE/costs.py" make "$rom"
-    prepare "$rom" /dev/null
+    prepare trace "$rom" /dev/null
     FRAMES=6 EVERY=6 KICK=1 traced python3 "$HERE/costs.py" judge "$TRACE" "$1"
 }
 
 # shots ROM CERT FOLDER FRAME..
 shots() {
-    prepare "$1" "$2"
+    prepare shots "$1" "$2"
     export NAME SHOTS="${*:4}"
     NAME=$(basename "$1" .rom)
     mkdir -p "$3"
