@@ -143,6 +143,7 @@ all() {
     costs "$top/tables" || wrong=1
     [[ $(< "$root/docs/INSTRUCTIONS.md") == *"$(< "$top/tables")"* ]] ||
         { echo "docs/INSTRUCTIONS.md has other tables of T-states: tools/mame.sh costs FILE writes them"; wrong=1; }
+    [ $wrong = 0 ] && echo "all alike" || echo "NOT ALL ALIKE"
     return $wrong
 }
 
