@@ -72,7 +72,7 @@ trace() {
     prepare trace "$1" "$2"
     export FRAMES=$3 EVERY=${4:-1000000}
     # shellcheck disable=SC2086
-    traced python3 "$HERE/follow.py" "$1" "$work" ${5:-} || return 1
+    traced python3 "$HERE/follow.py" "$1" "$2" "$work" ${5:-} || return 1
     python3 "$HERE/compare.py" "$galcert" "$1" "$2" "$work"
 }
 

@@ -1,5 +1,5 @@
 #!/usr/bin/env python3
-"""Follows MAME's trace of a run: follow.py ROM WORK [AT]
+"""Follows MAME's trace of a run: follow.py ROM CERT WORK [AT]
 
 Reads WORK/trace while MAME writes it, and then WORK/dump. A line of the trace has what MAME had before an instruction:
   T-STATES PC SP AF BC DE HL IX IY (SP) IN0 IN1 IN2|ADDRESS: INSTRUCTION
@@ -44,6 +44,10 @@ class Input:
             self.file.write(f"{self.count} {self.last}\n")
         self.count = 0
 
+    def close(self):
+        self.flush()
+        self.file.close()
+
 
 class Instruction:
     """A line of the trace."""
@@ -60,14 +64,10 @@ class Instruction:
     def flags(self):
         return self.pairs[0][2:]
 
-    def is_accepted(self):
-        """Whether an NMI was accepted right before: no program of ours jumps to its NMI routine."""
-        return self.pc == 0x0066
-
 
 class Follower:
-    def __init__(self, rom, first, folder, at):
-        self.rom, self.begun, self.at = rom, first.time, at
+    def __init__(self, rom, has_routine, first, folder, at):
+        self.rom, self.has_routine, self.begun, self.at = rom, has_routine, first.time, at
         self.input = Input(open(folder / "input", "w"), (first.time + LATE) % FRAME)
         self.starts = array.array("q")  # at which of MAME's T-states each event begins
         self.lines = []
@@ -79,9 +79,11 @@ class Follower:
 
     def goes_on(self, now):
         """The instruction `before` is over, and MAME comes to `now`."""
-        before, accepted = self.before, now.is_accepted()
+        before = self.before
+        accepted = self.has_routine and now.pc == 0x0066  # no program jumps to its NMI routine
         if now.time < before.time:  # a reset begins the count anew
-            sys.exit(f"MAME's watchdog reset the program after {before.time - self.begun:,} T-states: see KICK in docs/MAME.md")
+            time = before.time - self.begun
+            sys.exit(f"MAME's watchdog reset the program after {time:,} T-states: see KICK in docs/MAME.md")
         is_load_r = self.rom[before.pc:before.pc + 2] == b"\xED\x5F"
         gives = now.accumulator() if is_load_r else "00"
         self.input.put(f"{before.inputs} {OPEN} {now.flags()} {gives} {int(accepted)}")
@@ -114,8 +116,9 @@ class Follower:
 
 
 def main():
-    rom, folder = pathlib.Path(sys.argv[1]).read_bytes(), pathlib.Path(sys.argv[2])
-    at = int(sys.argv[3], 16) if len(sys.argv) > 3 else None
+    rom, folder = pathlib.Path(sys.argv[1]).read_bytes(), pathlib.Path(sys.argv[3])
+    has_routine = "\nproc nmi " in pathlib.Path(sys.argv[2]).read_text()
+    at = int(sys.argv[4], 16) if len(sys.argv) > 4 else None
     follower = None
     with open(folder / "trace", errors="replace") as trace:
         for line in trace:
@@ -125,10 +128,10 @@ def main():
             if follower:
                 follower.goes_on(now)
             elif now.pc == 0x0000:
-                follower = Follower(rom, now, folder, at)
+                follower = Follower(rom, has_routine, now, folder, at)
     if not follower:
         sys.exit("MAME did not start the program")
-    follower.input.flush()
+    follower.input.close()
     dumped = [line for line in (folder / "dump").read_text().splitlines() if line != "done"]
     for line in dumped:
         follower.put_dumped(line)
@@ -136,8 +139,9 @@ def main():
     last = follower.states[-1][0]
     (folder / "states").write_text("".join(f"{state}\n" for _, state in follower.states))
     (folder / "lines").write_text("".join(f"{line}\n" for event, line in follower.lines if event < last))
-    keys = {codes.key_at(rom, at) for at in follower.executed}
-    (folder / "codes").write_text("".join(f"{code}\n" for code in codes.documented() if (code.prefix, code.opcode) in keys))
+    keys = {codes.key_at(rom, address) for address in follower.executed}
+    executed = [code for code in codes.documented() if (code.prefix, code.opcode) in keys]
+    (folder / "codes").write_text("".join(f"{code}\n" for code in executed))
 
 
 main()
