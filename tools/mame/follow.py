@@ -20,7 +20,7 @@ import sys
 import codes
 
 FRAME = 50688
-LATE = 1  # MAME's blank is so many T-states early against its CPU from frame 63 on
+LATE = 1  # after its first second MAME's blank is so many T-states early against its CPU
 ACCEPTANCE = 11
 OPEN = "FF"
 MOST = 1000
