@@ -10,8 +10,9 @@ use runner::cert_checker::{Accepted, check};
 use std::alloc::Global;
 use z80_alu::{RegisterSet, Regs};
 
-/// The number of events in a run, about two frames of 50,688 T-states.
-const EVENTS: u64 = 10_000;
+/// The number of events in a run, about twenty frames of 50,688 T-states. A program may test or clear its RAM for some
+/// frames before the first NMI comes.
+const EVENTS: u64 = 100_000;
 
 /// The largest distance in T-states between the phase at a reset and the blank.
 const NEAR: u32 = 4096;
