@@ -21,7 +21,7 @@ galcert: crates.txt $(shell find crates -name '*.rt' -o -name '*.antt' | grep -v
 test:
 	tools/trusted.py > /dev/null
 	tools/names.py
-	rt ci
+	@bash -c "TIMEFORMAT='rt ci took %lR, with %lU and %lS of processor time'; time rt ci"
 	tools/program.sh crates/galcert/out/galcert
 
 # The edits that the gate leaves out. The prover must refuse these too. CRATES="a b" tries those of some crates.

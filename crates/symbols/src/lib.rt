@@ -7,11 +7,13 @@ mod fault;
 mod label;
 mod line;
 mod name;
-mod number;
+mod numbers;
 mod resolve;
 mod symbols;
 
 pub use closest::Closest;
 pub use fault::{ResolveFault, SymbolFault};
 pub use label::Label;
+pub use name::is_shown;
+pub use numbers::number;
 pub use symbols::Symbols;

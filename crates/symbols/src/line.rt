@@ -1,7 +1,7 @@
 // The forms of a line in a symbol file (docs/SYMBOLS.md, "The forms of a line").
 
 use crate::name::is_name;
-use crate::number::{hexadecimal, number};
+use crate::numbers::{hexadecimal, number};
 
 /// What a line says.
 pub(crate) enum SymbolLine<'a> {

@@ -27,7 +27,7 @@ fn begins_name(sign: char) -> bool {
 }
 
 /// Whether a name is shown at its address. Those of sections and lengths are not; linkers make them.
-pub(crate) fn is_shown(name: &str) -> bool
+pub fn is_shown(name: &str) -> bool
     ensures { result ≡ is_shown_name name.now }
 {
     let is_section = name.starts_with('.') || name.starts_with("s__");

@@ -7,7 +7,7 @@ ghost use Rattle.symbols.specs.Names.{value_of_name};
 use crate::closest::Closest;
 use crate::fault::ResolveFault;
 use crate::name::is_name;
-use crate::number::{marked, number};
+use crate::numbers::{marked, number};
 use crate::symbols::Symbols;
 use std::alloc::{AllocError, Global};
 

@@ -1,7 +1,8 @@
 // Numbers as assemblers write them.
 
-/// A number: hexadecimal with a mark, or decimal without leading zeros. None for any other text and above FFFFFFFF.
-pub(crate) fn number(text: &str) -> Option<u32> {
+/// A number: hexadecimal with a mark, as `$6C`, `#6C`, `0x6C` or `6Ch`, or decimal without leading zeros. None for any
+/// other text and above FFFFFFFF.
+pub fn number(text: &str) -> Option<u32> {
     match marked(text) {
         Some(number) => Some(number),
         None => decimal(text),

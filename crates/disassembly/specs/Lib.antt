@@ -1,0 +1,2 @@
+-- What contracts see of texts of instructions.
+pub mod Text

@@ -1,0 +1,2 @@
+-- What is written as HTML.
+pub mod Markup
