@@ -18,7 +18,7 @@ const TEXTS: &[(&[u8], &str)] = &[
         b"\xC3\xBCber \xE2\x86\x92 \xF0\x9D\x84\x9E",
         "\u{FC}ber \u{2192} \u{1D11E}",
     ),
-    // No UTF-8: a lone byte, a cut character, an encoding that is too long, a surrogate.
+    // Not UTF-8: a stray byte, a cut character, an encoding that is too long, a surrogate.
     (b"a\xFFb", "a\u{FFFD}b"),
     (b"\xE2\x86<", "\u{FFFD}&lt;"),
     (b"\xC0\xBC", "\u{FFFD}\u{FFFD}"),
