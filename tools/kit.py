@@ -1,16 +1,18 @@
-"""Loads the toolchain's `rt` as a module that lists only once what a crate stands on.
+"""Loads the toolchain's `rt` as a module that remembers what it asks for again and again.
 
-Plain `rt` makes that list again for each path that leads down to a crate: near the top these are tens of thousands. The
-lists are the same, so both kinds of `rt` go on from each other's work."""
+Plain `rt` sums up the files of a crate, and lists what the crate stands on, once for each path that leads down to it: near
+the top these are tens of thousands. Here each crate is summed once a call, and listed once. The sums and lists are the same,
+so both kinds of `rt` go on from each other's work."""
 
 import importlib.machinery
 import importlib.util
 import inspect
 import os
 import sys
+import threading
 
 # What the functions are called that are used here, and what they take.
-TAKEN = {"main": ["words"], "rtlib.Crate.below": ["self"]}
+TAKEN = {"main": ["words"], "rtlib.Crate.stamp": ["self"], "rtlib.Crate.below": ["self"]}
 
 
 class Unexpected(Exception):
@@ -32,7 +34,7 @@ def plain():
 
 
 def load(taken=None):
-    """The toolchain's `rt` as a module, with lists that are remembered. What else is used of it is `taken`."""
+    """The toolchain's `rt` as a module, with sums and lists that are remembered. What else is used of it is `taken`."""
     loader = importlib.machinery.SourceFileLoader("kit_rt", plain())
     rt = importlib.util.module_from_spec(importlib.util.spec_from_loader("kit_rt", loader))
     try:
@@ -41,6 +43,7 @@ def load(taken=None):
         raise Unexpected(f"{plain()} does not load as a module ({error})") from error
     for name, parameters in {**TAKEN, **(taken or {})}.items():
         check(rt, name, parameters)
+    remember_sums(rt.rtlib.Crate)
     remember_lists(rt.rtlib.Crate)
     return rt
 
@@ -53,6 +56,25 @@ def check(rt, name, parameters):
         raise Unexpected(f"{plain()} has no function {name}")
     if [*inspect.signature(found).parameters] != parameters:
         raise Unexpected(f"{name} of {plain()} takes {inspect.signature(found)}")
+
+
+def remember_sums(crate_type):
+    """Within a call from outside each crate is summed once. The next call reads the files again, as they may have changed."""
+    made, here = crate_type.stamp, threading.local()
+
+    def stamp(crate):
+        is_outer = getattr(here, "sums", None) is None
+        if is_outer:
+            here.sums = {}
+        try:
+            if crate.folder not in here.sums:
+                here.sums[crate.folder] = made(crate)
+            return here.sums[crate.folder]
+        finally:
+            if is_outer:
+                here.sums = None
+
+    crate_type.stamp = stamp
 
 
 def remember_lists(crate_type):

@@ -26,7 +26,6 @@ TAKEN = {
     "free": [],
     "need": ["crate"],
     "processors": [],
-    "share_work": ["is_alone"],
     "rtlib.Crate.__init__": ["self", "folder", "root", "known", "above", "name"],
     "rtlib.Crate.build_rlib": ["self", "flags", "anew"],
     "rtlib.Crate.count": ["self", "pattern"],
@@ -208,9 +207,10 @@ def prove_by_module(rt, top, arguments):
     """Proves all side by side; then a program is built and run. Returns the status."""
     rtlib = rt.rtlib
     rtlib.guarded()
-    # Other checkouts on this machine go on from what is proved here. A second call, by `run` below, would wait for itself.
-    rt.share_work(True)
-    rt.share_work = lambda is_alone: None
+    if hasattr(rt, "share_work"):
+        # Other checkouts on this machine go on from what is proved here. A second call, by `run` below, would wait for itself.
+        rt.share_work(True)
+        rt.share_work = lambda is_alone: None
     os.chdir(crates.ROOT / "crates" / top)
     own = rtlib.Crate(os.getcwd(), str(crates.ROOT), {})
     every = [*own.below(), own]

@@ -2,7 +2,7 @@
 """Lists the trusted definitions, with their lines: those that the theorem's clauses reach.
 
 The clauses are `safe` of `check`, `step` and `clear` of `Machine::step`, and the field `safe` of what an accepted
-certificate means for the commands (`commands/specs/Judging.antt`). The script follows what they name, definition by
+certificate means for the commands (`command_parts/specs/Judging.antt`). The script follows what they name, definition by
 definition. A definition that it reaches must stand in a file whose first line begins with `-- Trusted`, and such a file
 must hold nothing else. The script prints each definition in the wrong file and ends with status 1. It does the same if
 README.md gives another count, or if the count is above the limit."""
@@ -112,7 +112,7 @@ def clauses(path, function, names):
 def starts(workspace):
     named = clauses(CRATES / "cert_checker/src/checking.rt", "check", ["safe"])
     named += clauses(CRATES / "runner/src/machine.rt", "step", ["step", "clear"])
-    judging = workspace.files["commands", "Judging"]
+    judging = workspace.files["command_parts", "Judging"]
     field, = (line for lines in judging.definitions.values() for line in lines if line.startswith("  pub safe :"))
     named += [judging.imports[word] for word in WORD.findall(field) if word in judging.imports]
     return {workspace.home(*at) for at in named}

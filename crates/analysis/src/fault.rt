@@ -1,6 +1,6 @@
 // Why an analysis ends early.
 
-use std::alloc::AllocFailed;
+use std::alloc::{AllocError, AllocFailed};
 use thiserror::Error;
 
 /// Why an analysis ends early.
@@ -11,6 +11,12 @@ pub enum FlowFault {
     Limit,
     #[error("out of memory")]
     NoMemory,
+}
+
+impl From<AllocError> for FlowFault {
+    fn from(_error: AllocError) -> FlowFault {
+        FlowFault::NoMemory
+    }
 }
 
 impl<T: Drop> From<AllocFailed<T>> for FlowFault {

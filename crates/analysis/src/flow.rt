@@ -11,6 +11,7 @@ use crate::ways::ways_on;
 use abs_state::AbsState;
 use abs_step::{Next, NextKind, Nexts, Reason};
 use board_fetch::fetch;
+use cert_fields::Facts;
 use cert_form::{PROC_LIMIT, ROW_LIMIT};
 use std::alloc::Global;
 use std::collections::{BTreeMap, BTreeSet};
@@ -32,6 +33,9 @@ pub struct Flow {
     calls: BTreeSet<u128>,
     /// The numbers of timed procedures: the NMI routine and all that it calls.
     timed: BTreeSet<u32>,
+    /// The facts of rows that have others than those of their addresses.
+    facts: BTreeMap<u64, Facts>,
+    is_inferred: bool,
 }
 
 /// A factor that leaves room for the place of a caller.
@@ -65,6 +69,45 @@ impl Flow {
         Err(FlowFault::Limit)
     }
 
+    /// What another analysis found: its rows with their facts, the entries of called procedures, the calls, each with
+    /// the number of the called procedure and the place of a row that calls it, and the numbers of timed procedures.
+    ///
+    /// # Errors
+    ///
+    /// `NoMemory` where memory was refused.
+    pub fn of(
+        alloc: Global,
+        rows: BTreeMap<u64, Noted>,
+        facts: BTreeMap<u64, Facts>,
+        entries: BTreeSet<u16>,
+        calls: &[(u32, u64)],
+        timed: BTreeSet<u32>,
+    ) -> Result<Flow, FlowFault> {
+        let mut numbers = BTreeSet::new(alloc);
+        for (callee, caller) in calls {
+            numbers.insert(call_number(*callee, *caller))?;
+        }
+        Ok(Flow {
+            rows,
+            waiting: BTreeSet::new(alloc),
+            entries,
+            calls: numbers,
+            timed,
+            facts,
+            is_inferred: true,
+        })
+    }
+
+    /// The facts of the row at the place with this number, if they are others than those of its address.
+    pub fn facts_of(&self, number: u64) -> Option<&Facts> {
+        self.facts.get(&number)
+    }
+
+    /// Whether another analysis found this.
+    pub fn is_inferred(&self) -> bool {
+        self.is_inferred
+    }
+
     /// The rows at the entries, which wait.
     fn begin(alloc: Global, task: &Task) -> Result<Flow, FlowFault> {
         let mut flow = Flow {
@@ -73,6 +116,8 @@ impl Flow {
             entries: BTreeSet::new(alloc),
             calls: BTreeSet::new(alloc),
             timed: BTreeSet::new(alloc),
+            facts: BTreeMap::new(alloc),
+            is_inferred: false,
         };
         let main = ProgramPoint {
             proc: MAIN,

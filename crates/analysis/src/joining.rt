@@ -6,7 +6,7 @@ use stack_shape::{Shape, Slot};
 
 /// The join of two states. None if their shapes have two lengths, or modes `u` and `n` meet, or the join has mode `n`
 /// and fewer than `cells` armed cells.
-pub(crate) fn joined(state: &AbsState, other: &AbsState, cells: usize) -> Option<AbsState> {
+pub fn joined(state: &AbsState, other: &AbsState, cells: usize) -> Option<AbsState> {
     let both = state.join(other)?;
     if both.mode == Mode::Nmi && usize::from(both.armed) < cells {
         return None;
@@ -28,7 +28,7 @@ pub(crate) fn grown(before: &AbsState, joined: &AbsState) -> AbsState {
 }
 
 /// A state with all its ranges full.
-pub(crate) fn widest(state: &AbsState) -> AbsState {
+pub fn widest(state: &AbsState) -> AbsState {
     AbsState {
         mode: state.mode,
         armed: state.armed,

@@ -39,6 +39,22 @@ impl Noted {
         }
     }
 
+    /// A row with this state, exit, reason and number of bytes, as another analysis found it.
+    pub fn of(
+        state: AbsState,
+        exit: Option<AbsState>,
+        reason: Option<Reason>,
+        bytes: u16,
+    ) -> Noted {
+        Noted {
+            state,
+            exit,
+            reason,
+            bytes,
+            joins: 0,
+        }
+    }
+
     /// Joins a state that comes to the row; there are `cells` kept cells. The result is whether the row changed.
     pub(crate) fn take(&mut self, state: &AbsState, facts: &[FactNote], cells: usize) -> bool {
         let Some(both) = joined(&self.state, state, cells) else {

@@ -72,7 +72,7 @@ impl<'a> Task<'a> {
     }
 
     /// The ground: the ROM, its map and the kept cells.
-    pub(crate) fn ground(&self) -> Ground<'a>
+    pub fn ground(&self) -> Ground<'a>
         ensures value { result ≡ self.now }
         ensures cells { length result.cells ≤ 256 }
     {

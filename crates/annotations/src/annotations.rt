@@ -8,7 +8,7 @@ ghost use Rattle.toml.specs.View.{table_view};
 
 use crate::fault::{AnnotationFault, Wrong};
 use crate::lists::{cells, facts, inlines, loops, splits};
-use crate::notes::{FactNote, LoopNote, SplitNote};
+use crate::notes::{FactNote, LoopNote, Notes, SplitNote};
 use crate::tables::{formed, number, unknown_key, value_at};
 use abs_state::KeptCell;
 use address_map::Region;
@@ -68,6 +68,23 @@ impl Annotations {
         match unknown_key(&table) {
             Some(key) => Err(bad_key(alloc, key.as_str())),
             None => Ok(annotations),
+        }
+    }
+
+    /// Annotations that a program makes. Each list has to be sorted by address, as the calls below say; where one is
+    /// not, some of its notes are overlooked.
+    pub fn of(region: Region, budget: Option<u16>, board: BoardMap, notes: Notes) -> Annotations
+        ensures { result ≡ record { region = region; budget = budget; board = board; cells = notes.cells.items } }
+    {
+        Annotations {
+            region,
+            budget,
+            board,
+            inlines: notes.inlines,
+            splits: notes.splits,
+            facts: notes.facts,
+            loops: notes.loops,
+            cells: notes.cells,
         }
     }
 
@@ -149,7 +166,11 @@ fn of_table(alloc: Global, table: &Table) -> Result<Annotations, AnnotationFault
 }
 
 /// The value of a key, or its fault.
-fn judged<T>(alloc: Global, key: &str, read: Result<T, Wrong>) -> Result<T, AnnotationFault>
+pub(crate) fn judged<T>(
+    alloc: Global,
+    key: &str,
+    read: Result<T, Wrong>,
+) -> Result<T, AnnotationFault>
     ensures found { IfOk result (λ value. read ≡ Ok value) }
     ensures text { result ≡ Err AnnotationFault.Text → ⊥ }
     ensures key { IfErr result (NamesOnly key.now) }
@@ -162,7 +183,7 @@ fn judged<T>(alloc: Global, key: &str, read: Result<T, Wrong>) -> Result<T, Anno
 }
 
 /// The fault of a key.
-fn bad_key(alloc: Global, key: &str) -> AnnotationFault
+pub(crate) fn bad_key(alloc: Global, key: &str) -> AnnotationFault
     ensures text { result ≡ AnnotationFault.Text → ⊥ }
     ensures key { NamesOnly key.now result }
 {

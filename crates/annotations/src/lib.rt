@@ -3,6 +3,8 @@
 
 mod annotations;
 mod fault;
+mod given;
+mod given_lists;
 mod lists;
 mod notes;
 mod tables;
@@ -10,4 +12,5 @@ mod values;
 
 pub use annotations::Annotations;
 pub use fault::AnnotationFault;
-pub use notes::{FactNote, LoopNote, SplitNote};
+pub use given::Given;
+pub use notes::{FactNote, LoopNote, Notes, RangeNote, SplitNote, TurnNote};

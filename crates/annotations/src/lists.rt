@@ -67,6 +67,7 @@ pub(crate) fn facts(alloc: Global, table: &Table) -> Result<Vec<FactNote>, Wrong
         let note = FactNote {
             at: number(inner, "at")?,
             fact: formed(fact(member(inner, "sum")?, member(inner, "is")?))?,
+            part: None,
         };
         keep(&mut facts, note)?;
     }
@@ -84,6 +85,7 @@ pub(crate) fn loops(alloc: Global, table: &Table) -> Result<Vec<LoopNote>, Wrong
         let note = LoopNote {
             at: number(inner, "at")?,
             counter: formed(variable(member(inner, "counter")?))?,
+            rises: false,
         };
         keep(&mut loops, note)?;
     }
@@ -129,14 +131,14 @@ fn cell(item: &Value, start: u16) -> Result<KeptCell, Wrong>
 }
 
 /// A fault if two elements are at one address.
-fn each_once(is_so: bool) -> Result<(), Wrong>
+pub(crate) fn each_once(is_so: bool) -> Result<(), Wrong>
     ensures { OnOk result (is_so ≡ true) }
 {
     if is_so { Ok(()) } else { Err(Wrong::Form) }
 }
 
 /// Appends to a list.
-fn keep<T: Drop>(list: &mut Vec<T>, item: T) -> Result<(), Wrong>
+pub(crate) fn keep<T: Drop>(list: &mut Vec<T>, item: T) -> Result<(), Wrong>
     ensures { OnOk result (list.new.items ≡ list.old.items ++ item ∷ []) }
 {
     match list.push(item) {

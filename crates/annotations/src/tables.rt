@@ -29,6 +29,19 @@ pub(crate) fn unknown_key(table: &Table) -> Option<&String>
     None
 }
 
+/// The keys that only a writer that infers reads.
+const KEYS_FOR_INFER: [&str; 3] = ["range", "context", "turns"];
+
+/// The first key, in the order of its bytes, that annotations do not have for a writer that infers.
+pub(crate) fn unknown_key_for_infer(table: &Table) -> Option<&String> {
+    for key in table.keys() {
+        if !is_known(key) && !KEYS_FOR_INFER.contains(&key.as_str()) {
+            return Some(key);
+        }
+    }
+    None
+}
+
 /// Whether annotations have a key with this name.
 fn is_known(key: &String) -> bool {
     KEYS.contains(&key.as_str())

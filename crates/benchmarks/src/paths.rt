@@ -5,7 +5,7 @@ ghost use Rattle.std.specs.Prelude.{◌≡◌, ◌<◌, length};
 
 use address_map::Rom;
 use certificate::{Certificate, read};
-use path_time::{longest, potentials};
+use path_time::{Nesting, longest, potentials};
 use std::alloc::{AllocError, Global};
 use std::string::String;
 
@@ -111,7 +111,7 @@ pub fn paid(alloc: Global, rom: &Rom, certificate: &Certificate, times: u64) -> 
 {
     let mut last = (0, 0);
     for _ in 0..times {
-        if let Ok(list) = potentials(alloc, rom, certificate, 1, &[], &[]) {
+        if let Ok(list) = potentials(alloc, rom, certificate, 1, &[], &[], Nesting::Apart) {
             last = (list.first().map_or(0, |first| first.constant()), list.len());
         }
     }

@@ -78,6 +78,43 @@ pub fn certify<'r>(
     }
 }
 
+/// Makes a certificate for a ROM of what an analysis found by these annotations, and checks it once.
+///
+/// # Errors
+///
+/// As for `certify`.
+pub fn certify_flow<'r>(
+    alloc: Global,
+    bytes: &'r [u8],
+    said: &Annotations,
+    flow: &Flow,
+) -> Result<Accepted<'r>, WriterFault>
+    ensures rom { IfOk result (λ accepted. accepted.rom ≡ bytes.now) }
+    ensures accepted { IfOk result (λ accepted. Accepts bytes.now accepted.certificate) }
+    // Every run of the board on the ROM is safe.
+    ensures safe { IfOk result
+        (λ accepted. Safe (certified_profile bytes.now accepted.certificate)
+        (nmi_time accepted.certificate)) }
+{
+    let Some(rom) = Rom::of(bytes) else {
+        return Err(of_whole(Reason::Rom));
+    };
+    let map = said.board().map(rom.len());
+    if !region_fits(&map, said.region(), said.cells()) {
+        return Err(of_whole(Reason::Region));
+    }
+    let Some(task) = Task::of(&rom, &map, said) else {
+        return Err(WriterFault::Limit);
+    };
+    if said.inlines().len() > INLINE_LIMIT {
+        return Err(WriterFault::Limit);
+    }
+    let certificate = made_of(alloc, &rom, &task, said, flow)?;
+    certificate.is_in_form();
+    let checked = check(alloc, bytes, certificate);
+    Ok(checked?)
+}
+
 /// A certificate for a ROM, which may not be accepted.
 fn made(alloc: Global, bytes: &[u8], said: &Annotations) -> Result<Certificate, WriterFault>
     ensures said { IfOk result (λ c. (c.region ≡ said.now.region) × (c.budget ≡ said.now.budget)

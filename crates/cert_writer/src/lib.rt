@@ -9,5 +9,5 @@ mod layout;
 mod parts;
 mod times;
 
-pub use analysing::{analyse, certify};
+pub use analysing::{analyse, certify, certify_flow};
 pub use fault::WriterFault;

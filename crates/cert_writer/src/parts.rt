@@ -72,12 +72,22 @@ fn facts_of(notes: &[FactNote], shape: &Shape) -> Facts {
     facts
 }
 
-fn row_of(said: &Annotations, layout: &Layout, place: ProgramPoint, noted: &Noted) -> Row {
+fn row_of(
+    said: &Annotations,
+    flow: &Flow,
+    layout: &Layout,
+    place: ProgramPoint,
+    noted: &Noted,
+) -> Row {
+    let facts = match flow.facts_of(place.number()) {
+        Some(facts) => facts.copied(),
+        None => facts_of(facts_at(said.facts(), place.address), &noted.state.shape),
+    };
     Row {
         proc: layout.id_of(place.proc),
         address: place.address,
         state: noted.state.copied(),
-        facts: facts_of(facts_at(said.facts(), place.address), &noted.state.shape),
+        facts,
         potential: None,
     }
 }
@@ -91,7 +101,7 @@ pub(crate) fn rows_of(
 ) -> Result<Vec<Row>, WriterFault> {
     let mut rows = Vec::new(alloc);
     for (number, noted) in flow.rows().iter() {
-        rows.push(row_of(said, layout, ProgramPoint::of(*number), noted))?;
+        rows.push(row_of(said, flow, layout, ProgramPoint::of(*number), noted))?;
     }
     Ok(rows)
 }

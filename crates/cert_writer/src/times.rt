@@ -13,7 +13,7 @@ use certificate::{Certificate, RowId};
 use loop_bounds::Linear;
 use std::alloc::Global;
 use t_states::NMI_COST;
-use write_potentials::{PotentialFault, greatest_value, potentials};
+use write_potentials::{Nesting, PotentialFault, greatest_value, potentials};
 
 /// The potentials of rows and the times of procedures, by their numbers, and what was in the way of some.
 #[derive(Drop)]
@@ -22,6 +22,7 @@ pub(crate) struct Timed {
     pub(crate) times: Vec<u32>,
     unbounded: Option<u16>,
     limit: bool,
+    nesting: Nesting,
 }
 
 impl Timed {
@@ -43,6 +44,11 @@ impl Timed {
             times: vec![in alloc; 0; layout.count()]?,
             unbounded: None,
             limit: false,
+            nesting: if flow.is_inferred() {
+                Nesting::Carried
+            } else {
+                Nesting::Apart
+            },
         };
         for proc in procs {
             let number = layout.proc_at(usize::from(*proc));
@@ -65,7 +71,15 @@ impl Timed {
     ) -> Result<(), WriterFault>
         requires { certificate.now.rom_len ≡ length rom.now }
     {
-        match potentials(alloc, rom, certificate, proc, &self.times, notes) {
+        match potentials(
+            alloc,
+            rom,
+            certificate,
+            proc,
+            &self.times,
+            notes,
+            self.nesting,
+        ) {
             Ok(list) => self.keep(certificate, proc, number, &list),
             Err(PotentialFault::NoMemory) => return Err(WriterFault::NoMemory),
             Err(PotentialFault::Limit) => self.limit = true,

@@ -9,6 +9,7 @@ mod paying;
 mod subject;
 mod ways;
 
+pub use effects::effect_of_call;
 pub use exits::may_have_exit;
 pub use going::goes_on;
 pub use overlapping::{is_lone, overlaps_state};

@@ -1,7 +1,8 @@
 // Which devices the commands use, and in which order.
 
 use command_samples::{JUMP, JUMP_CERTIFICATE, JUMP_INPUT, ROW_MISSING, accepted, run, verify};
-use commands::{FileSource, run_on};
+use commands::run_on;
+use file_devices::FileSource;
 use memory_devices::{Bytes, Taken};
 use std::alloc::Global;
 use std::test::Fail;

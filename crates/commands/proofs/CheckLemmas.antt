@@ -7,11 +7,12 @@ use Rattle.certificate.specs.Pieces.{OfBytes}
 use Rattle.texts.specs.Device.{DeviceState, FailsAmid, Takes}
 use Rattle.toml.specs.Data.{Members}
 use Rattle.toml.specs.Parse.{parse_document}
-use Rattle.commands.proofs.FileLemmas.{of_bytes, of_whole}
+use Rattle.command_parts.proofs.FileLemmas.{of_bytes, of_whole}
+use Rattle.command_parts.specs.Unmade.{WritesUnmade}
 use Rattle.commands.specs.Annotating.{SaysOfWhole, WritesBadAnnotation}
-use Rattle.commands.specs.Checking.{IsMade, KeepsText, KeepsAndTells, OnMade, TellsUnmade, WritesUnmade, said_by}
-use Rattle.commands.specs.Judging.{IsAccepted}
-use Rattle.commands.specs.Reading.{FirstBytes, ROM_READ_LEN}
+use Rattle.commands.specs.Checking.{IsMade, KeepsText, KeepsAndTells, OnMade, TellsUnmade, said_by}
+use Rattle.command_parts.specs.Judging.{IsAccepted}
+use Rattle.command_parts.specs.Reading.{FirstBytes, ROM_READ_LEN}
 use Rattle.command_verdicts.specs.Verdict.{accepted_text}
 use Rattle.command_verdicts.specs.WriterRefusals.{bad_key_text}
 

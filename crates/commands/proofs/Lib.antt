@@ -1,3 +1,3 @@
 mod CheckLemmas
-mod FileLemmas
+mod PlayedLemmas
 mod RunLemmas

@@ -1,15 +1,15 @@
 -- What `galcert check` writes, and when (docs/PROGRAM.md).
-use Rattle.std.specs.Prelude.{ℕ, ◌≡◌, ◌⊎◌, List, Option, codes}
+use Rattle.std.specs.Prelude.{ℕ, ◌⊎◌, List, Option}
 use Rattle.annotations.specs.Said.{AnnotationsView}
 use Rattle.cert_form.specs.Contents.{CertificateView}
 use Rattle.cert_form.specs.Text.{text_of}
 use Rattle.certificate.specs.Pieces.{OfBytes}
 use Rattle.texts.specs.Device.{DeviceState, Takes}
 use Rattle.commands.specs.Annotating.{IsAnnotations, PrintsBadAnnotation, SaysOfWhole}
-use Rattle.commands.specs.Judging.{IsAccepted}
-use Rattle.commands.specs.Reading.{OfFiles}
-use Rattle.command_verdicts.specs.Verdict.{Refused, accepted_text, refused_text}
-use Rattle.command_verdicts.specs.WriterRefusals.{recursion_text, unbounded_text}
+use Rattle.command_parts.specs.Judging.{IsAccepted}
+use Rattle.command_parts.specs.Reading.{OfFiles}
+use Rattle.command_parts.specs.Unmade.{PrintsUnmade}
+use Rattle.command_verdicts.specs.Verdict.{accepted_text}
 
 -- the annotations about the whole ROM that a certificate carries: the region, the budget, the board and the cells
 abbrev pub said_by : CertificateView → AnnotationsView
@@ -20,29 +20,6 @@ said_by c = record { region = c.region; budget = c.budget; board = c.board; cell
 pub record IsMade (rom annot : List ℕ) (certificate : CertificateView) : Type 0 where
   pub accepted : IsAccepted rom (text_of certificate) certificate
   pub said : SaysOfWhole annot (said_by certificate)
-
--- the line of a refusal by the rules
-pub record PrintsReason (printed : List ℕ) : Type 0 where
-  pub refused : Refused
-  pub printed_is : printed ≡ refused_text refused
-
--- the line of procedures that call one another in a cycle
-pub record PrintsRecursion (printed : List ℕ) : Type 0 where
-  pub entries : List ℕ
-  pub printed_is : printed ≡ recursion_text entries
-
--- the line of a cycle of rows that no counter bounds
-pub record PrintsUnbounded (printed : List ℕ) : Type 0 where
-  pub address : ℕ
-  pub printed_is : printed ≡ unbounded_text address
-
--- what is printed if no certificate was made
-abbrev pub PrintsUnmade : List ℕ → Type 0
-PrintsUnmade printed = PrintsReason printed ⊎ (PrintsRecursion printed ⊎ (PrintsUnbounded printed ⊎ (printed ≡ codes "too large\n")))
-
--- that line was written: the sink took it whole (`Takes`), or it failed inside it (`FailsAmid`)
-abbrev pub WritesUnmade : (DeviceState → List ℕ → DeviceState → Type 0) → DeviceState → DeviceState → Type 0
-WritesUnmade Writes old new = (printed : List ℕ) × Writes old printed new × PrintsUnmade printed
 
 -- the annotations are bad, or no certificate was made, and the line that reports it was written
 abbrev pub TellsUnmade : (DeviceState → List ℕ → DeviceState → Type 0) → Option (List ℕ) → DeviceState → DeviceState → Type 0

@@ -5,7 +5,7 @@ use Rattle.cert_form.specs.Migrated.{migrated}
 use Rattle.cert_form.specs.Text.{text_of}
 use Rattle.certificate.specs.Pieces.{OfBytes}
 use Rattle.texts.specs.Device.{DeviceState}
-use Rattle.commands.specs.Judging.{IsCertificateText}
+use Rattle.command_parts.specs.Judging.{IsCertificateText}
 
 -- the file holds a certificate, and the text of that certificate migrated was written: the sink took it whole
 -- (`Takes`), or it failed inside it (`FailsAmid`)

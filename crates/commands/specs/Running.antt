@@ -7,7 +7,7 @@ use Rattle.runner.specs.Output.{summary_text}
 use Rattle.certificate.specs.Pieces.{OfBytes}
 use Rattle.runner.specs.Playing.{BeginsEach, IsBadLine, Played}
 use Rattle.runner.specs.declared.machine.Summary.{Summary}
-use Rattle.commands.specs.Judging.{OnAccepted}
+use Rattle.command_parts.specs.Judging.{OnAccepted}
 use Rattle.command_verdicts.specs.Verdict.{bad_line_text}
 
 -- at most `steps` events of an input were played, and the lines of the run and its summary were written: the sink took

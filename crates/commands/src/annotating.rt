@@ -5,9 +5,8 @@ ghost use Rattle.certificate.specs.Pieces.{OfBytes};
 ghost use Rattle.commands.specs.Annotating.{SaysOfWhole, WritesBadAnnotation};
 ghost use Rattle.texts.specs.Device.{FailsAmid, HasFailed, CountsNoFailure, Takes};
 
-use crate::reading::read_all;
-use crate::stop::Stop;
 use annotations::{AnnotationFault, Annotations};
+use command_parts::{Stop, read_all};
 use command_verdicts::write_bad_key;
 use std::alloc::Global;
 use texts::{Sink, Source, put};

@@ -1,20 +1,14 @@
 // `galcert check`.
 
-ghost use Rattle.std.specs.Prelude.{◌≡◌, ◌≢◌, ◌⊎◌, OnErr, OnOk};
-ghost use Rattle.cert_form.specs.Text.{text_of};
+ghost use Rattle.std.specs.Prelude.{◌≡◌, ◌≢◌, ◌⊎◌};
 ghost use Rattle.commands.specs.Checking.{KeepsText, KeepsAndTells, TellsUnmade};
-ghost use Rattle.commands.specs.Reading.{GivesUpTo};
-ghost use Rattle.commands.specs.Status.{IsStatus};
+ghost use Rattle.command_parts.specs.Reading.{GivesUpTo};
+ghost use Rattle.command_parts.specs.Status.{IsStatus};
 ghost use Rattle.texts.specs.Device.{FailsAmid, HasFailed, CountsNoFailure, Takes};
-ghost use Rattle.command_verdicts.specs.Verdict.{accepted_text};
 
 use crate::annotating::read_annotations;
-use crate::exit_status::ExitStatus;
 use crate::making::make;
-use crate::reading::read_rom;
-use crate::stop::Stop;
-use certificate::{Certificate, write};
-use command_verdicts::write_table;
+use command_parts::{ExitStatus, Stop, keep_and_tell, read_rom};
 use std::alloc::Global;
 use texts::{DeviceFault, Sink, Source};
 
@@ -83,21 +77,4 @@ pub fn check_on<A: Source, B: Source, K: Sink, W: Sink>(
         Ok(()) => ExitStatus::Done.code(),
         Err(DeviceFault) => ExitStatus::Device.code(),
     }
-}
-
-fn keep_and_tell<K: Sink, W: Sink>(
-    certificate: &Certificate,
-    keep: &mut K,
-    out: &mut W,
-) -> Result<(), DeviceFault>
-    ensures done { OnOk result
-        (Takes (K.state keep.old) (text_of certificate.now) (K.state keep.new)
-        × Takes (W.state out.old) (accepted_text certificate.now) (W.state out.new)) }
-    ensures part { OnErr result
-        (((out.new ≡ out.old)
-        × FailsAmid (K.state keep.old) (text_of certificate.now) (K.state keep.new))
-        ⊎ (Takes (K.state keep.old) (text_of certificate.now) (K.state keep.new) × FailsAmid (W.state out.old) (accepted_text certificate.now) (W.state out.new))) }
-{
-    write(certificate, keep)?;
-    write_table(certificate, out)
 }

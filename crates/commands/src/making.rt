@@ -1,18 +1,18 @@
 // Makes a certificate for a ROM.
 
-ghost use Rattle.std.specs.Prelude.{◌≡◌, ◌≢◌, IfOk, OnErr, OnOk};
+ghost use Rattle.std.specs.Prelude.{◌≡◌, ◌≢◌, IfOk, OnOk};
 ghost use Rattle.cert_form.specs.Text.{text_of};
-ghost use Rattle.commands.specs.Checking.{WritesUnmade, said_by};
-ghost use Rattle.commands.specs.Judging.{IsAccepted};
+ghost use Rattle.command_parts.specs.Unmade.{WritesUnmade};
+ghost use Rattle.commands.specs.Checking.{said_by};
+ghost use Rattle.command_parts.specs.Judging.{IsAccepted};
 ghost use Rattle.texts.specs.Device.{FailsAmid, HasFailed, CountsNoFailure, Takes};
 
-use crate::stop::Stop;
 use annotations::Annotations;
 use cert_writer::{WriterFault, certify};
-use command_verdicts::{refused_line, unbounded_line, write_recursion};
+use command_parts::{Stop, tell_unmade};
 use runner::cert_checker::Accepted;
 use std::alloc::Global;
-use texts::{DeviceFault, Sink, put};
+use texts::Sink;
 
 /// Makes a certificate for a ROM by its annotations, and checks it. If none is made, the line that reports it is
 /// written.
@@ -42,21 +42,8 @@ pub fn make<'r, W: Sink>(
         }
         Err(WriterFault::NoMemory) => Err(Stop::OutOfMemory),
         Err(fault) => {
-            tell(&fault, out)?;
+            tell_unmade(&fault, out)?;
             Err(Stop::Refused)
         }
-    }
-}
-
-/// Writes the line that says why no certificate was made.
-fn tell<W: Sink>(fault: &WriterFault, out: &mut W) -> Result<(), DeviceFault>
-    ensures told { OnOk result (WritesUnmade Takes (W.state out.old) (W.state out.new)) }
-    ensures part { OnErr result (WritesUnmade FailsAmid (W.state out.old) (W.state out.new)) }
-{
-    match fault {
-        WriterFault::Refused(refused) => put(out, refused_line(refused).bytes()),
-        WriterFault::Recursion(entries) => write_recursion(entries.as_slice(), out),
-        WriterFault::LoopUnbounded(address) => put(out, unbounded_line(*address).bytes()),
-        WriterFault::Limit | WriterFault::NoMemory => put(out, b"too large\n"),
     }
 }

@@ -1,15 +1,13 @@
 // `galcert migrate`.
 
 ghost use Rattle.std.specs.Prelude.{◌≡◌, ◌≢◌, ◌⊎◌};
-ghost use Rattle.commands.specs.Judging.{WritesUnread};
+ghost use Rattle.command_parts.specs.Judging.{WritesUnread};
 ghost use Rattle.commands.specs.Migrating.{TellsMigrated};
-ghost use Rattle.commands.specs.Status.{IsStatus};
+ghost use Rattle.command_parts.specs.Status.{IsStatus};
 ghost use Rattle.texts.specs.Device.{FailsAmid, HasFailed, CountsNoFailure, Takes};
 
-use crate::exit_status::ExitStatus;
-use crate::judging::read_certificate;
-use crate::stop::Stop;
 use certificate::{migrate, write};
+use command_parts::{ExitStatus, Stop, read_certificate};
 use std::alloc::Global;
 use texts::{DeviceFault, Sink, Source};
 

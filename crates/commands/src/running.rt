@@ -2,16 +2,13 @@
 
 ghost use Rattle.std.specs.Prelude.{◌≡◌, ◌≢◌, ◌⊎◌, OnOk};
 ghost use Rattle.runner.specs.Certified.{hardware_on};
-ghost use Rattle.commands.specs.Judging.{HoldAccepted, TellsRefusal};
-ghost use Rattle.commands.specs.Reading.{GivesUpTo};
+ghost use Rattle.command_parts.specs.Judging.{HoldAccepted, TellsRefusal};
+ghost use Rattle.command_parts.specs.Reading.{GivesUpTo};
 ghost use Rattle.commands.specs.Running.{PlaysPart, PlaysTo, PlaysToBadLine, TellsBadInput, TellsPart, TellsRun};
-ghost use Rattle.commands.specs.Status.{IsStatus};
+ghost use Rattle.command_parts.specs.Status.{IsStatus};
 ghost use Rattle.texts.specs.Device.{FailsAmid, HasFailed, CountsNoFailure, Takes};
 
-use crate::exit_status::ExitStatus;
-use crate::judging::judge;
-use crate::reading::read_rom;
-use crate::stop::Stop;
+use command_parts::{ExitStatus, Stop, judge, read_rom};
 use command_verdicts::bad_line;
 use runner::cert_checker::Accepted;
 use runner::{PlayFault, play};

@@ -1,15 +1,12 @@
 // `galcert verify`.
 
 ghost use Rattle.std.specs.Prelude.{◌≡◌, ◌≢◌, ◌⊎◌};
-ghost use Rattle.commands.specs.Judging.{TellsAccepted, TellsRefusal};
-ghost use Rattle.commands.specs.Reading.{GivesUpTo};
-ghost use Rattle.commands.specs.Status.{IsStatus};
+ghost use Rattle.command_parts.specs.Judging.{TellsAccepted, TellsRefusal};
+ghost use Rattle.command_parts.specs.Reading.{GivesUpTo};
+ghost use Rattle.command_parts.specs.Status.{IsStatus};
 ghost use Rattle.texts.specs.Device.{FailsAmid, HasFailed, CountsNoFailure, Takes};
 
-use crate::exit_status::ExitStatus;
-use crate::judging::judge;
-use crate::reading::read_rom;
-use crate::stop::Stop;
+use command_parts::{ExitStatus, Stop, judge, read_rom};
 use command_verdicts::write_table;
 use std::alloc::Global;
 use texts::{DeviceFault, Sink, Source};

@@ -2,16 +2,16 @@
 // and their normal form").
 #![tactic(auto)]
 
-mod byte_range;
+mod bound;
 mod domain;
 mod logic;
 mod pair;
 mod range;
 mod reg_pair;
 mod sums;
-mod word_range;
 
+pub use bound::Bound;
 pub use domain::Domain;
 pub use pair::Pair;
-pub use range::{ByteRange, WordRange};
+pub use range::{ByteRange, Range, WordRange};
 pub use reg_pair::RegPair;

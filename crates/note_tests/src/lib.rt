@@ -7,6 +7,8 @@ mod kinds;
 #[cfg(test)]
 mod listings;
 #[cfg(test)]
+mod locations;
+#[cfg(test)]
 mod memory;
 #[cfg(test)]
 mod places;

@@ -29,19 +29,20 @@ fn said_by(alloc: Global, notes: &SourceNotes) -> Result<String, AllocError> {
     for note in &notes.notes {
         add_note(alloc, &mut text, note)?;
     }
-    if let Some(region) = notes.stack {
+    if let Some(said) = notes.stack {
+        let region = said.value;
         let part = format!(in alloc; "stack {:04X}-{:04X};", region.low, region.top)?;
         text.push_str(part.as_str())?;
     }
     if let Some(nmi) = notes.nmi {
-        let part = match nmi.budget {
+        let part = match nmi.value.budget {
             Some(budget) => format!(in alloc; "nmi {budget};")?,
             None => format!(in alloc; "nmi;")?,
         };
         text.push_str(part.as_str())?;
     }
     if let Some(map) = notes.map {
-        text.push_str(str::from_utf8(map.name()).unwrap_or("?"))?;
+        text.push_str(str::from_utf8(map.value.name()).unwrap_or("?"))?;
         text.push_str(";")?;
     }
     for line in &notes.passed_over {

@@ -6,7 +6,7 @@ use address_map::Rom;
 use annotations::LoopNote;
 use certificate::{Certificate, read};
 use loop_bounds::{Linear, Term, Variable};
-use path_time::{PotentialFault, potentials};
+use path_time::{Nesting, PotentialFault, potentials};
 use std::alloc::{AllocError, Global};
 use std::test::Fail;
 
@@ -281,6 +281,7 @@ fn notes_of(alloc: Global, loops: &[u16], counter: Counter) -> Result<Vec<LoopNo
         notes.push(LoopNote {
             at: *at,
             counter: counter.variable(),
+            rises: false,
         })?;
     }
     Ok(notes)
@@ -306,7 +307,7 @@ fn told(
     let times = times_of(alloc, &certificate)?;
     match Rom::of(rom) {
         Some(rom) if certificate.rom_len() == rom.len() => {
-            Ok(potentials(alloc, &rom, &certificate, 1, &times, loops))
+            Ok(potentials(alloc, &rom, &certificate, 1, &times, loops, Nesting::Apart))
         }
         _ => Err(Fail::new("a certificate of another ROM")),
     }

@@ -8,7 +8,7 @@ use address_map::Rom;
 use annotations::LoopNote;
 use certificate::read;
 use loop_bounds::{Linear, Variable};
-use path_time::{PotentialFault, TimeFault, longest, potentials};
+use path_time::{Nesting, PotentialFault, TimeFault, longest, potentials};
 use std::alloc::Global;
 use std::test::Fail;
 
@@ -54,6 +54,7 @@ fn longest_again(rt: HostRuntime) -> Result<(), Fail> {
 const LOOPS: [LoopNote; 1] = [LoopNote {
     at: 0x000A,
     counter: Variable::B,
+    rises: false,
 }];
 
 /// Whether these are the potentials of the loop.
@@ -71,11 +72,27 @@ fn told_of_potentials(alloc: Global) -> &'static str {
     };
     match Rom::of(&LOOP) {
         Some(rom) if certificate.rom_len() == rom.len() => {
-            let first = potentials(alloc, &rom, &certificate, 1, &[0, 116], &LOOPS);
+            let first = potentials(
+                alloc,
+                &rom,
+                &certificate,
+                1,
+                &[0, 116],
+                &LOOPS,
+                Nesting::Apart,
+            );
             if are_bounds(&first) {
                 ANSWERED
             } else if matches!(first, Err(PotentialFault::NoMemory))
-                && are_bounds(&potentials(alloc, &rom, &certificate, 1, &[0, 116], &LOOPS))
+                && are_bounds(&potentials(
+                    alloc,
+                    &rom,
+                    &certificate,
+                    1,
+                    &[0, 116],
+                    &LOOPS,
+                    Nesting::Apart,
+                ))
             {
                 "refused in potentials"
             } else {

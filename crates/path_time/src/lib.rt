@@ -9,4 +9,4 @@ mod walks;
 
 pub use fault::TimeFault;
 pub use walks::longest;
-pub use write_potentials::{PotentialFault, potentials};
+pub use write_potentials::{Nesting, PotentialFault, potentials};

@@ -1,5 +1,6 @@
 // Why a listing has no notes that can be read.
 
+use source_lines::ListingFault;
 use symbols::ResolveFault;
 use thiserror::Error;
 
@@ -24,4 +25,14 @@ pub enum NoteFault {
     /// Memory was refused.
     #[error("out of memory")]
     NoMemory,
+}
+
+impl From<ListingFault> for NoteFault {
+    fn from(fault: ListingFault) -> NoteFault {
+        match fault {
+            ListingFault::NoListing => NoteFault::NoListing,
+            ListingFault::TooLarge => NoteFault::TooLarge,
+            ListingFault::NoMemory => NoteFault::NoMemory,
+        }
+    }
 }

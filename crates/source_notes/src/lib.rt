@@ -5,14 +5,10 @@
 mod fact_text;
 mod fault;
 mod kind;
-mod labels;
-mod layout;
-mod listing_lines;
 mod note_text;
 mod notes;
 mod reading;
-mod source_text;
 
 pub use fault::NoteFault;
 pub use kind::NoteKind;
-pub use notes::{NmiNote, SourceNote, SourceNotes};
+pub use notes::{NmiNote, SaidOnce, SourceNote, SourceNotes};

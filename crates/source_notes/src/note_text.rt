@@ -3,12 +3,12 @@
 use crate::fact_text::fact;
 use crate::fault::NoteFault;
 use crate::kind::NoteKind;
-use crate::listing_lines::ListingLine;
 use crate::notes::NmiNote;
 use address_map::Region;
 use cert_fields::{register_field, variable_field};
 use cert_lines::BoardMap;
 use intervals::ByteRange;
+use source_lines::ListingLine;
 use std::alloc::Global;
 use symbols::{ResolveFault, Symbols, number};
 use t_states::MAX_BUDGET;

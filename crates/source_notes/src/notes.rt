@@ -22,13 +22,20 @@ pub struct NmiNote {
     pub budget: Option<u16>,
 }
 
+/// What may be said once, and the line of the listing that says it, from 1.
+#[derive(Clone, Copy)]
+pub struct SaidOnce<T> {
+    pub line: u32,
+    pub value: T,
+}
+
 /// What the notes of a listing say.
 #[derive(Drop)]
 pub struct SourceNotes {
     /// The addresses that the stack may use.
-    pub stack: Option<Region>,
-    pub nmi: Option<NmiNote>,
-    pub map: Option<BoardMap>,
+    pub stack: Option<SaidOnce<Region>>,
+    pub nmi: Option<SaidOnce<NmiNote>>,
+    pub map: Option<SaidOnce<BoardMap>>,
     /// The other notes, in the order in which they take effect. Several may hold for one address.
     pub notes: Vec<SourceNote>,
     /// The lines of notes that hold for no bytes, from 1 and rising.

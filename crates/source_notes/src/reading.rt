@@ -2,15 +2,11 @@
 
 use crate::fault::NoteFault;
 use crate::kind::NoteKind;
-use crate::labels::labels_of;
-use crate::listing_lines::{ListingLine, lines_of};
 use crate::note_text::{Names, ReadNote, read_note};
-use crate::notes::{SourceNote, SourceNotes};
+use crate::notes::{SaidOnce, SourceNote, SourceNotes};
+use source_lines::{ListingLine, SourceLines};
 use std::alloc::Global;
 use symbols::{Symbols, number};
-
-/// The most bytes that a listing has: 4 MB.
-const MAX_LISTING: usize = 4_194_304;
 
 /// What the notes of a line hold for.
 #[derive(Clone, Copy)]
@@ -46,36 +42,38 @@ impl SourceNotes {
         listing: &[u8],
         symbols: Option<&Symbols>,
     ) -> Result<SourceNotes, NoteFault> {
-        if listing.len() > MAX_LISTING {
-            return Err(NoteFault::TooLarge);
-        }
-        let lines = lines_of(alloc, listing)?;
+        let lines = SourceLines::read(alloc, listing)?;
         match symbols {
-            Some(symbols) => notes_of(alloc, &lines, symbols),
-            None => notes_of(alloc, &lines, &labels_of(alloc, &lines)?),
+            Some(symbols) => SourceNotes::of(alloc, &lines, symbols),
+            None => SourceNotes::of(alloc, &lines, &lines.labels(alloc)?),
         }
     }
-}
 
-/// The notes of the lines.
-fn notes_of(
-    alloc: Global,
-    lines: &[ListingLine<'_>],
-    symbols: &Symbols,
-) -> Result<SourceNotes, NoteFault> {
-    let mut reading = Reading {
-        found: SourceNotes::none(alloc),
-        waiting: Vec::new(alloc),
-    };
-    for (index, line) in lines.iter().enumerate() {
-        let names = Names {
-            alloc,
-            symbols,
-            lines: lines.get(index..).unwrap_or(lines),
+    /// The notes of a listing's lines. The names in notes are those of `symbols`.
+    ///
+    /// # Errors
+    ///
+    /// `Form`, `Address` or `Twice` at the first note that is wrong. `NoMemory` where memory was refused.
+    pub fn of(
+        alloc: Global,
+        listing: &SourceLines<'_>,
+        symbols: &Symbols,
+    ) -> Result<SourceNotes, NoteFault> {
+        let mut reading = Reading {
+            found: SourceNotes::none(alloc),
+            waiting: Vec::new(alloc),
         };
-        reading.add_line(line, names)?;
+        let lines = listing.lines();
+        for (index, line) in lines.iter().enumerate() {
+            let names = Names {
+                alloc,
+                symbols,
+                lines: lines.get(index..).unwrap_or(lines),
+            };
+            reading.add_line(line, names)?;
+        }
+        reading.end()
     }
-    reading.end()
 }
 
 /// What the notes of a line hold for.
@@ -181,8 +179,8 @@ impl Reading {
 }
 
 /// Says what may be said once.
-fn once<T: Drop>(
-    said: &mut Option<T>,
+fn once<T: Copy>(
+    said: &mut Option<SaidOnce<T>>,
     value: T,
     line: u32,
     what: &'static str,
@@ -190,7 +188,7 @@ fn once<T: Drop>(
     if said.is_some() {
         return Err(NoteFault::Twice { line, what });
     }
-    *said = Some(value);
+    *said = Some(SaidOnce { line, value });
     Ok(())
 }
 

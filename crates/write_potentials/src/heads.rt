@@ -22,11 +22,19 @@ fn note_at(notes: &[LoopNote], address: u16) -> Option<LoopNote> {
 }
 
 /// Whether a variable is no slot, or one with a number below `slots`.
-fn is_below(variable: Variable, slots: usize) -> bool {
+pub(crate) fn is_below(variable: Variable, slots: usize) -> bool {
     match variable {
         Variable::Slot(number, _) => usize::from(number.number()) < slots,
         _ => true,
     }
+}
+
+/// What counts the turns of a loop.
+#[derive(Clone, Copy)]
+pub(crate) struct Counter {
+    variable: Variable,
+    /// Whether it goes up from turn to turn.
+    rises: bool,
 }
 
 /// The annotated counters of a procedure's rows, by the rows' numbers. A row whose shape does not have the counter's
@@ -36,14 +44,17 @@ pub(crate) fn counters_of(
     certificate: &Certificate,
     rows: Range<u32>,
     notes: &[LoopNote],
-) -> Result<Vec<Option<Variable>>, PotentialFault> {
+) -> Result<Vec<Option<Counter>>, PotentialFault> {
     let mut counters = Vec::new(alloc);
     for id in rows.start..rows.end {
         let mut counter = None;
         if let Some(row) = certificate.row(id) {
             if let Some(note) = note_at(notes, row.address) {
                 if is_below(note.counter, row.shape.len()) {
-                    counter = Some(note.counter);
+                    counter = Some(Counter {
+                        variable: note.counter,
+                        rises: note.rises,
+                    });
                 }
             }
         }
@@ -58,7 +69,7 @@ pub(crate) fn group_of(
     alloc: Global,
     turns: &mut Turns,
     rows: &[Placed],
-    counters: &[Option<Variable>],
+    counters: &[Option<Counter>],
     apart: &[Placed],
 ) -> Result<Group, PotentialFault> {
     let longest = longest_turn(turns, rows, counters);
@@ -89,7 +100,7 @@ fn rows_of(alloc: Global, rows: &[Placed]) -> Result<Vec<u16>, PotentialFault> {
 }
 
 /// The greatest cost of a turn of the group's loops' rows; such a turn may pass other loops' rows.
-fn longest_turn(turns: &mut Turns, rows: &[Placed], counters: &[Option<Variable>]) -> u64 {
+fn longest_turn(turns: &mut Turns, rows: &[Placed], counters: &[Option<Counter>]) -> u64 {
     let mut longest = 0;
     for placed in rows {
         if let Some(Some(_)) = counters.get(usize::from(placed.row)) {
@@ -105,7 +116,7 @@ fn head_of(
     turns: &mut Turns,
     rows: &[Placed],
     row: u16,
-    counter: &Variable,
+    counter: &Counter,
     longest: u64,
 ) -> Result<Head, PotentialFault> {
     let own = turns.own_cost_of(rows, row);
@@ -113,10 +124,11 @@ fn head_of(
         Some(cost) => cost,
         None => turns.cost_of(rows, row).unwrap_or(0),
     };
-    let Some(turn) = turn_of(counter, cost) else {
-        return Err(PotentialFault::Limit);
-    };
-    let Some(longest_turn) = turn_of(counter, longest.min(1_000_000)) else {
+    let both = (
+        turn_of(counter, cost),
+        turn_of(counter, longest.min(1_000_000)),
+    );
+    let (Some(turn), Some(longest_turn)) = both else {
         return Err(PotentialFault::Limit);
     };
     Ok(Head {
@@ -128,7 +140,9 @@ fn head_of(
     })
 }
 
-/// The multiple of a counter by the cost of a turn; None if the cost is above 1,000,000 T-states.
-fn turn_of(counter: &Variable, cost: u64) -> Option<Linear> {
-    multiple_of(*counter, cost.min(2_000_000) as i32)
+/// The multiple of a counter by the cost of a turn, with a sign where the counter goes up; None if the cost is above
+/// 1,000,000 T-states.
+fn turn_of(counter: &Counter, cost: u64) -> Option<Linear> {
+    let cost = cost.min(2_000_000) as i32;
+    multiple_of(counter.variable, if counter.rises { -cost } else { cost })
 }

@@ -1,9 +1,12 @@
 // The least potential of a row that pays for what comes next.
 
-use crate::sums::{greatest_value, least_left, least_value, terms_before, with_constant};
+use crate::heads::is_below;
+use crate::sums::{
+    greatest_value, least_left, least_value, terms_before, with_constant, with_others,
+};
 use abs_state::AbsState;
 use cert_contents::Certificate;
-use loop_bounds::{Effect, GREATEST_CONSTANT, Linear, Variable, decreases};
+use loop_bounds::{Effect, GREATEST_CONSTANT, Linear, decreases};
 use write_requests::{Request, Requests};
 
 /// The potential of a row, by its number within the procedure, if it is known.
@@ -165,6 +168,28 @@ impl<'a> Payer<'a> {
         Some(terms)
     }
 
+    /// The best potential of a loop's row: the multiple of its counter, alone or with the terms of one request.
+    pub(crate) fn best_carrying(
+        &self,
+        turn: &Linear,
+        known: &[Option<Linear>],
+    ) -> Result<Linear, Unpaid> {
+        let mut best = self.least_with(turn, known);
+        for request in self.requests.of_rows.as_slice() {
+            for row in request.start..request.end {
+                let Some(terms) = self.terms_at(request, row, known) else {
+                    continue;
+                };
+                if let Some(both) = with_others(turn, &terms) {
+                    if let Ok(other) = self.least_with(&both, known) {
+                        best = self.better(best, other);
+                    }
+                }
+            }
+        }
+        best
+    }
+
     /// The better of two potentials: the one with the lesser greatest value; if these are equal, the one with the
     /// lesser least value; if these are equal too, the first.
     fn better(&self, one: Result<Linear, Unpaid>, other: Linear) -> Result<Linear, Unpaid> {
@@ -231,8 +256,8 @@ pub(crate) struct Unpaid;
 
 /// Whether each slot that a linear names has a number below `slots`.
 fn names_slots_below(linear: &Linear, slots: usize) -> bool {
-    linear.terms().iter().all(|term| match term.variable {
-        Variable::Slot(number, _) => usize::from(number.number()) < slots,
-        _ => true,
-    })
+    linear
+        .terms()
+        .iter()
+        .all(|term| is_below(term.variable, slots))
 }

@@ -11,4 +11,5 @@ mod sums;
 
 pub use fault::PotentialFault;
 pub use procedure::potentials;
+pub use solving::Nesting;
 pub use sums::greatest_value;

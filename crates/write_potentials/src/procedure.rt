@@ -3,19 +3,20 @@
 ghost use Rattle.std.specs.Prelude.{◌≡◌, length};
 
 use crate::fault::PotentialFault;
-use crate::heads::{counters_of, group_of};
+use crate::heads::{Counter, counters_of, group_of};
 use crate::least::Choice;
-use crate::solving::Solving;
+use crate::solving::{Nesting, Solving};
 use address_map::Rom;
 use annotations::LoopNote;
 use call_graph::ProcId;
 use cert_contents::Certificate;
-use loop_bounds::{Linear, Variable};
+use loop_bounds::Linear;
 use std::alloc::Global;
 use write_requests::{Placed, Requests, Turns, placed_rows, requests_of, rows_on_cycles};
 
 /// A potential for each row of a procedure, in the order of the rows (docs/ANALYSIS.md, "Potentials"). `times` has the
-/// T-states of procedures by their numbers. The ROM has to have as many bytes as the certificate says.
+/// T-states of procedures by their numbers. `nesting` says whether loops within loops are bounded (docs/INFERENCE.md,
+/// "Loops within loops"). The ROM has to have as many bytes as the certificate says.
 ///
 /// # Errors
 ///
@@ -28,6 +29,7 @@ pub fn potentials(
     proc: ProcId,
     times: &[u32],
     notes: &[LoopNote],
+    nesting: Nesting,
 ) -> Result<Vec<Linear>, PotentialFault>
     requires { certificate.now.rom_len ≡ length rom.now }
 {
@@ -37,7 +39,8 @@ pub fn potentials(
     let counters = counters_of(alloc, certificate, rows, notes)?;
     let named = named_of(alloc, &counters)?;
     let apart = apart_from_loops(alloc, certificate, first, &all, &named)?;
-    let solving = solved(alloc, certificate, first, &all, &counters, &named, &apart)?;
+    let mut solving = Solving::new(alloc, certificate, first, &all, nesting)?;
+    solve_all(alloc, &mut solving, &all, &counters, &named, &apart)?;
     let mut list = Vec::new(alloc);
     for row in 0..all.len() {
         list.push(solving.potential(row))?;
@@ -46,7 +49,7 @@ pub fn potentials(
 }
 
 /// Which rows have a counter.
-fn named_of(alloc: Global, counters: &[Option<Variable>]) -> Result<Vec<bool>, PotentialFault> {
+fn named_of(alloc: Global, counters: &[Option<Counter>]) -> Result<Vec<bool>, PotentialFault> {
     let mut named = Vec::new(alloc);
     for counter in counters {
         named.push(counter.is_some())?;
@@ -74,37 +77,29 @@ fn apart_from_loops(
     }
 }
 
-/// The potentials of the rows of a procedure, group by group.
-fn solved<'a>(
+/// Makes the potentials of the rows of a procedure, group by group.
+fn solve_all(
     alloc: Global,
-    certificate: &'a Certificate,
-    first: u32,
-    all: &'a [Requests],
-    counters: &[Option<Variable>],
+    solving: &mut Solving,
+    all: &[Requests],
+    counters: &[Option<Counter>],
     named: &[bool],
     apart: &[Placed],
-) -> Result<Solving<'a>, PotentialFault> {
+) -> Result<(), PotentialFault> {
     let none = vec![in alloc; false; all.len()]?;
     let placed = placed_rows(alloc, all, &none)?;
     let on_cycles = rows_on_cycles(alloc, all, &placed)?;
     let sorted = by_groups(alloc, &placed)?;
     let mut turns = Turns::new(alloc, all, &placed, named)?;
-    let mut solving = Solving::new(alloc, certificate, first, all)?;
     let mut rest = sorted.as_slice();
     for _ in 0..sorted.len() {
         let (rows, behind) = first_group(rest);
         rest = behind;
         solve(
-            alloc,
-            &mut solving,
-            &mut turns,
-            rows,
-            &on_cycles,
-            counters,
-            apart,
+            alloc, solving, &mut turns, rows, &on_cycles, counters, apart,
         )?;
     }
-    Ok(solving)
+    Ok(())
 }
 
 /// The rows by their groups; those of a group in the order in which the search left them.
@@ -130,7 +125,7 @@ fn solve(
     turns: &mut Turns,
     rows: &[Placed],
     on_cycles: &[bool],
-    counters: &[Option<Variable>],
+    counters: &[Option<Counter>],
     apart: &[Placed],
 ) -> Result<(), PotentialFault> {
     let Some(first) = rows.first().copied() else {

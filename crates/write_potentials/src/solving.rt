@@ -2,7 +2,7 @@
 
 use crate::fault::PotentialFault;
 use crate::least::{Choice, Payer, Unpaid, least_of_constants};
-use crate::sums::with_constant;
+use crate::sums::{multiple_of, with_constant};
 use cert_contents::Certificate;
 use loop_bounds::Linear;
 use std::alloc::Global;
@@ -35,6 +35,15 @@ pub(crate) struct Group {
     pub(crate) others: Vec<u16>,
 }
 
+/// What the potential of a loop's row says of the loops around it.
+#[derive(Clone, Copy, PartialEq, Eq)]
+pub enum Nesting {
+    /// Nothing: a loop within a loop is not bounded.
+    Apart,
+    /// What is owed to them, by their counters.
+    Carried,
+}
+
 /// The rows of a procedure, with what each has to pay for and the potentials that are known.
 #[derive(Drop)]
 pub(crate) struct Solving<'a> {
@@ -42,6 +51,9 @@ pub(crate) struct Solving<'a> {
     first: u32,
     all: &'a [Requests],
     known: Vec<Option<Linear>>,
+    nesting: Nesting,
+    /// Whether loops' rows carry what is owed to loops around them now.
+    carries: bool,
 }
 
 impl<'a> Solving<'a> {
@@ -50,12 +62,15 @@ impl<'a> Solving<'a> {
         certificate: &'a Certificate,
         first: u32,
         all: &'a [Requests],
+        nesting: Nesting,
     ) -> Result<Solving<'a>, PotentialFault> {
         Ok(Solving {
             certificate,
             first,
             all,
             known: vec![in alloc; None; all.len()]?,
+            nesting,
+            carries: false,
         })
     }
 
@@ -109,6 +124,7 @@ impl<'a> Solving<'a> {
             return Ok(head.turn);
         };
         match self.payer(head.row, requests) {
+            Some(payer) if self.carries => payer.best_carrying(&head.turn, &self.known),
             Some(payer) => payer.least_with(&head.turn, &self.known),
             None => Ok(head.turn),
         }
@@ -133,6 +149,14 @@ impl<'a> Solving<'a> {
         if self.comes_to_rest(group) {
             return self.refine(group);
         }
+        if self.nesting == Nesting::Carried {
+            self.carries = true;
+            let rests = self.comes_to_rest_nested(group);
+            self.carries = false;
+            if rests {
+                return Ok(());
+            }
+        }
         exchange_turns(&mut group.heads);
         if self.comes_to_rest(group) {
             return self.refine(group);
@@ -155,6 +179,73 @@ impl<'a> Solving<'a> {
             Ok(is_settled) => is_settled,
             Err(_) => false,
         }
+    }
+
+    /// Makes the potentials of a group with loops within loops. Where the constant of an outer loop's row grows from
+    /// round to round, a turn of it costs so much more, and the rounds start again. The result is whether they come to
+    /// rest.
+    fn comes_to_rest_nested(&mut self, group: &mut Group) -> bool {
+        for _ in 0..group.heads.len().saturating_mul(3).saturating_add(3) {
+            if self.comes_to_rest(group) {
+                return true;
+            }
+            if !self.raise_turn(group) {
+                return false;
+            }
+        }
+        false
+    }
+
+    /// Raises the cost of a turn of the innermost outer loop whose constant grows in one of the next rounds, by as much
+    /// as it grows. What a loop's row needs comes to it through the rows of the other loops, so a round for each suffices.
+    fn raise_turn(&mut self, group: &mut Group) -> bool {
+        for _ in 0..group.heads.len() {
+            if self.make_each(&group.others, Choice::WithTerms).is_err() {
+                return false;
+            }
+            if let Some((place, turn)) = self.grown_turn(&group.heads) {
+                if let Some(head) = group.heads.get_mut(place) {
+                    head.turn = turn;
+                    return true;
+                }
+            }
+            if self.raise(&group.heads).is_err() {
+                return false;
+            }
+        }
+        false
+    }
+
+    /// The place of the innermost outer loop's row whose constant grows in this round, and its turn with the growth.
+    fn grown_turn(&self, heads: &[Head]) -> Option<(usize, Linear)> {
+        let mut least = i32::MAX;
+        let mut best = None;
+        for (place, head) in heads.iter().enumerate() {
+            if let Some((cost, turn)) = self.turn_with_growth(head) {
+                if cost < least {
+                    least = cost;
+                    best = Some((place, turn));
+                }
+            }
+        }
+        best
+    }
+
+    /// The cost of a turn of an outer loop whose row's constant grows in this round, with the growth, and the multiple
+    /// of its counter.
+    fn turn_with_growth(&self, head: &Head) -> Option<(i32, Linear)> {
+        if head.has_own_turns || head.is_zero {
+            return None;
+        }
+        let before = self.potential(usize::from(head.row)).constant();
+        let more = self.least_of(head).ok()?.constant().checked_sub(before)?;
+        if more <= 0 {
+            return None;
+        }
+        let term = head.turn.terms().first().copied()?;
+        let cost = term.coefficient.checked_abs()?.checked_add(more)?;
+        let signed = if term.coefficient < 0 { -cost } else { cost };
+        Some((cost, multiple_of(term.variable, signed)?))
     }
 
     /// Gives the loops' rows their lowest potentials, or the constant 0 to those that are to have it.

@@ -167,16 +167,17 @@ pub(crate) fn least_left(
         add(&mut left.terms, *term);
     }
     for term in to.terms() {
-        left.add_after(negated(*term), effect, target);
+        let coefficient = term.coefficient.saturating_neg();
+        left.add_after(
+            Term {
+                coefficient,
+                ..*term
+            },
+            effect,
+            target,
+        );
     }
     left.least(source)
-}
-
-fn negated(term: Term) -> Term {
-    Term {
-        coefficient: term.coefficient.saturating_neg(),
-        variable: term.variable,
-    }
 }
 
 /// The term with the first variable from this rank on.
@@ -214,4 +215,22 @@ fn of_terms(terms: &[Option<Term>]) -> Option<Linear> {
         }
     }
     Some(linear)
+}
+
+/// The terms of a linear and those of another with other variables; None if there are more than three.
+pub(crate) fn with_others(one: &Linear, other: &Linear) -> Option<Linear> {
+    let mut terms = [None; 6];
+    for term in one.terms() {
+        add(&mut terms, *term);
+    }
+    for term in other.terms() {
+        if !one
+            .terms()
+            .iter()
+            .any(|mine| mine.variable == term.variable)
+        {
+            add(&mut terms, *term);
+        }
+    }
+    of_terms(&terms)
 }

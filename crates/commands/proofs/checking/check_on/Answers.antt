@@ -1,7 +1,7 @@
 use Rattle.std.proofs.Common.{inl, inr, refl, ◌∙◌}
 use Rattle.texts.specs.Device.{FailsAmid, Takes}
 use Rattle.commands.proofs.CheckLemmas.{keeps, keeps_and_tells, tells_bad, tells_unmade}
-use Rattle.commands.proofs.FileLemmas.{lent_first}
+use Rattle.command_parts.proofs.FileLemmas.{lent_first}
 use Rattle.commands.proofs.checking.check_on.Goals as goal
 
 pub returns-in-Err-read_annotations-clause-refused :

@@ -1,6 +1,6 @@
 use Rattle.std.proofs.Common.{inl, inr}
 use Rattle.texts.specs.Device.{FailsAmid, Takes}
-use Rattle.commands.proofs.FileLemmas.{tells_migrated}
+use Rattle.commands.proofs.PlayedLemmas.{tells_migrated}
 use Rattle.commands.proofs.migrating.migrate_on.Goals as goal
 
 pub returns-in-Ok-write-clause-migrated : goal.returns-in-Ok-write-clause-migrated

@@ -1,6 +1,7 @@
 use Rattle.std.proofs.Common.{inl, inr, refl, subst}
 use Rattle.texts.specs.Device.{FailsAmid, HasFailed, Takes}
-use Rattle.commands.proofs.FileLemmas.{hold_accepted, tells_bad_input, tells_part, tells_refusal, tells_run, lent_first}
+use Rattle.command_parts.proofs.FileLemmas.{hold_accepted, tells_refusal, lent_first}
+use Rattle.commands.proofs.PlayedLemmas.{tells_bad_input, tells_part, tells_run}
 use Rattle.commands.proofs.running.run_on.Goals as goal
 
 pub returns-in-Err-judge-clause-refused : goal.returns-in-Err-judge-clause-refused

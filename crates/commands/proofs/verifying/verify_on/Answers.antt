@@ -1,6 +1,6 @@
 use Rattle.std.proofs.Common.{inl, inr}
 use Rattle.texts.specs.Device.{FailsAmid, Takes}
-use Rattle.commands.proofs.FileLemmas.{tells_accepted, tells_refusal, lent_first}
+use Rattle.command_parts.proofs.FileLemmas.{tells_accepted, tells_refusal, lent_first}
 use Rattle.commands.proofs.verifying.verify_on.Goals as goal
 
 pub returns-in-Err-judge-clause-refused : goal.returns-in-Err-judge-clause-refused

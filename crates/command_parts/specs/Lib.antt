@@ -1,0 +1,5 @@
+-- Definitions of what the commands have in common.
+pub mod Judging
+pub mod Reading
+pub mod Status
+pub mod Unmade

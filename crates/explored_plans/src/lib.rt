@@ -1,0 +1,22 @@
+// Plans: notes that a search tries together, and what an analysis that explores them shows (docs/INFERENCE.md, "The
+// search").
+#![tactic(auto)]
+
+mod base;
+mod deduced;
+mod explored_plan;
+mod plan;
+mod progress;
+mod reads;
+mod search_context;
+mod trials;
+mod values;
+
+pub use base::Base;
+pub use explored_plan::{ExploredPlan, OF_CONTEXTS, OF_RANGES, Refusals, exploring};
+pub use plan::{Family, Finding, Plan, copy_of_split, split_of};
+pub use progress::{Progress, Unwatched};
+pub use reads::read_by;
+pub use search_context::SearchContext;
+pub use trials::{Attempt, Search, entry_of};
+pub use values::{ByteSet, PARTS, REGISTERS, code_of, cut, register_of, values_in, variable_of};

@@ -1,0 +1,119 @@
+// The state of a search: the explored plan, and the trials that are left.
+
+use crate::explored_plan::ExploredPlan;
+use crate::plan::{Family, Plan};
+use crate::progress::Progress;
+use crate::search_context::SearchContext;
+use analysis::FlowFault;
+use board_fetch::fetch;
+use row_graph::{FlowGraph, NaturalLoop, loops_of};
+use std::alloc::Global;
+use std::collections::BTreeSet;
+use z80_decode::Instr;
+
+/// What a move was tried on, so that it is not tried again: a number for the kind of move, two addresses, and a number
+/// for what else matters.
+pub type Attempt = (u8, u16, u16, u64);
+
+/// A search: the explored plan, and the trials that are left.
+#[derive(Drop)]
+pub struct Search<'s, P: Progress> {
+    pub alloc: Global,
+    pub context: &'s SearchContext<'s>,
+    pub explored: ExploredPlan,
+    pub graph: FlowGraph,
+    /// How many trials are left.
+    pub left: u32,
+    tried: BTreeSet<Attempt>,
+    progress: &'s mut P,
+}
+
+impl<'s, P: Progress> Search<'s, P> {
+    /// A search that begins with an explored plan.
+    pub fn of(
+        alloc: Global,
+        context: &'s SearchContext<'s>,
+        explored: ExploredPlan,
+        trials: u32,
+        progress: &'s mut P,
+    ) -> Result<Search<'s, P>, FlowFault> {
+        let edges = explored.edges(alloc, context)?;
+        let graph = FlowGraph::of(alloc, &edges)?;
+        Ok(Search {
+            alloc,
+            context,
+            explored,
+            graph,
+            left: trials,
+            tried: BTreeSet::new(alloc),
+            progress,
+        })
+    }
+
+    /// Goes on with another explored plan.
+    pub fn keep(&mut self, explored: ExploredPlan) -> Result<(), FlowFault> {
+        let edges = explored.edges(self.alloc, self.context)?;
+        self.graph = FlowGraph::of(self.alloc, &edges)?;
+        self.explored = explored;
+        Ok(())
+    }
+
+    /// Whether a move is new; from now on it is not.
+    pub fn is_new(&mut self, attempt: Attempt) -> Result<bool, FlowFault> {
+        Ok(self.tried.insert(attempt)?)
+    }
+
+    pub fn has_trials(&self) -> bool {
+        self.left > 0
+    }
+
+    /// Explores a plan as a trial; None if no trial is left, or it is too large.
+    pub fn try_plan(&mut self, plan: Plan) -> Result<Option<ExploredPlan>, FlowFault> {
+        if self.left == 0 {
+            return Ok(None);
+        }
+        self.progress.tell(self.left, self.explored.refused.len());
+        self.left = self.left.saturating_sub(1);
+        ExploredPlan::of(self.alloc, self.context, plan)
+    }
+
+    /// Explores the plan with one more family as a trial.
+    pub fn try_family(
+        &mut self,
+        family: Family,
+        wanted_at: u16,
+    ) -> Result<Option<ExploredPlan>, FlowFault> {
+        let plan = self.explored.plan.with(self.alloc, family, wanted_at)?;
+        self.try_plan(plan)
+    }
+
+    /// The instruction at an address.
+    pub fn instr_at(&self, address: u16) -> Option<Instr> {
+        match fetch(self.context.rom(), address) {
+            Ok((instr, _)) => Some(instr),
+            Err(_) => None,
+        }
+    }
+
+    /// The length of the instruction at an address; 1 where there is none.
+    pub fn len_at(&self, address: u16) -> u16 {
+        match fetch(self.context.rom(), address) {
+            Ok((_, len)) => u16::from(len),
+            Err(_) => 1,
+        }
+    }
+
+    /// The loops of a procedure, those with the fewest addresses first.
+    pub fn loops(&self, proc: u32) -> Result<Vec<NaturalLoop>, FlowFault> {
+        loops_of(self.alloc, &self.graph, proc, entry_of(proc))
+    }
+}
+
+/// The entry of a procedure, by its number.
+pub fn entry_of(proc: u32) -> u16 {
+    match proc {
+        analysis::MAIN => 0,
+        analysis::NMI => z80_moves::NMI_ADDRESS,
+        _ => proc.saturating_sub(2).min(0xFFFF) as u16,
+    }
+}

@@ -1,0 +1,11 @@
+// The facts that a certificate needs (docs/INFERENCE.md, "Facts"): those wanted by refused rows, with all that they
+// follow from.
+#![tactic(auto)]
+
+mod carrying;
+mod closure;
+mod needed;
+mod rewriting;
+
+pub use carrying::{LoopFact, carried_facts};
+pub use needed::{FactSearch, needed_facts};

@@ -1,0 +1,395 @@
+// The facts that rows need so that nothing is against them.
+
+use crate::closure::{Incoming, add, closure_of};
+use abs_state::AbsState;
+use abs_step::Reason;
+use analysis::{FlowFault, judged_row};
+use board_fetch::fetch;
+use cert_fields::Facts;
+use inferred_rows::{ContextPoint, Guide, InferredRow, Manner, pointer_of};
+use inferring::{Setting, Worklist};
+use loop_bounds::{Linear, Ranges, Variable};
+use std::alloc::Global;
+use std::collections::BTreeMap;
+
+/// How many stages there are.
+const STAGES: u32 = 3;
+
+/// How many times facts are added for the rows that are still refused.
+const ROUNDS: u32 = 8;
+
+/// An analysis with relations, whose facts are looked for.
+#[derive(Drop)]
+pub struct FactSearch<'s> {
+    pub setting: Setting<'s>,
+    /// The rows with their relations.
+    pub related: &'s Worklist,
+    /// The most visits of rows in an analysis.
+    pub visits: u32,
+}
+
+/// The facts of rows with which an analysis that keeps no relations refuses no row that the one with relations accepts.
+/// They are the facts wanted by refused rows and all from which these follow; where those do not suffice, also each
+/// relation that says something of what a refused row writes through, and then each that narrows a row where states
+/// join. At last come those that narrow the counter of a loop. Some may be missing: the checker judges.
+///
+/// # Errors
+///
+/// `Limit` if an analysis takes too many visits; `NoMemory` where memory was refused.
+pub fn needed_facts(alloc: Global, search: &FactSearch) -> Result<Guide, FlowFault> {
+    let incoming = Incoming::of(search.related.edges(alloc, search.setting)?);
+    let mut guide = search.setting.guide.copied(alloc)?;
+    let mut stage = Stage::Wanted;
+    for _ in 0..ROUNDS {
+        let setting = Setting {
+            guide: &guide,
+            manner: Manner {
+                explores: true,
+                relates: false,
+            },
+            ..search.setting
+        };
+        let plain = Worklist::run(alloc, setting, search.visits)?;
+        let mut found = search.found(alloc, &incoming, &guide, &plain, stage)?;
+        for _ in 0..STAGES {
+            if !found.is_empty() {
+                break;
+            }
+            if !search.has_refused(&plain) {
+                stage = Stage::Counting;
+                found = search.found(alloc, &incoming, &guide, &plain, stage)?;
+                if found.is_empty() {
+                    return Ok(guide);
+                }
+                break;
+            }
+            stage = match stage.next() {
+                Some(next) => next,
+                None => return Ok(guide),
+            };
+            found = search.found(alloc, &incoming, &guide, &plain, stage)?;
+        }
+        merge(&mut guide.facts, &found)?;
+        stage = Stage::Wanted;
+    }
+    Ok(guide)
+}
+
+/// Which facts are looked for, the most telling first.
+#[derive(Clone, Copy, PartialEq, Eq)]
+enum Stage {
+    /// Those with which a refused row is not refused any more.
+    Wanted,
+    /// Those of refused rows that say something of the pair through which they write.
+    Pointing,
+    /// Those that narrow rows at which states join.
+    Narrowing,
+    /// Those that narrow the counters of loops.
+    Counting,
+}
+
+impl Stage {
+    fn next(self) -> Option<Stage> {
+        match self {
+            Stage::Wanted => Some(Stage::Pointing),
+            Stage::Pointing => Some(Stage::Narrowing),
+            Stage::Narrowing | Stage::Counting => None,
+        }
+    }
+}
+
+impl<'s> FactSearch<'s> {
+    /// Whether a row is refused in the analysis without relations, and not in the one with them.
+    fn is_refused(&self, number: u64, row: &InferredRow) -> bool {
+        match self.related.row(number) {
+            Some(related) => is_soft(row.reason) && related.reason.is_none(),
+            None => false,
+        }
+    }
+
+    fn has_refused(&self, plain: &Worklist) -> bool {
+        plain
+            .rows()
+            .iter()
+            .any(|(_, row)| row.reason.is_some() || row.drops)
+    }
+
+    /// The facts of a stage, with all from which these follow.
+    fn found(
+        &self,
+        alloc: Global,
+        incoming: &Incoming,
+        guide: &Guide,
+        plain: &Worklist,
+        stage: Stage,
+    ) -> Result<BTreeMap<u64, Facts>, FlowFault> {
+        match stage {
+            Stage::Wanted => self.wanted(alloc, incoming, guide, plain),
+            Stage::Pointing => self.pointing(alloc, incoming, guide, plain),
+            Stage::Narrowing => self.narrowing(alloc, incoming, guide, plain),
+            Stage::Counting => self.counting(alloc, incoming, guide, plain),
+        }
+    }
+
+    /// The relations of refused rows that say something of the pair through which they write.
+    fn pointing(
+        &self,
+        alloc: Global,
+        incoming: &Incoming,
+        guide: &Guide,
+        plain: &Worklist,
+    ) -> Result<BTreeMap<u64, Facts>, FlowFault> {
+        let mut all = BTreeMap::new(alloc);
+        let mut table = guide.copied(alloc)?;
+        for (number, row) in plain.rows().iter() {
+            let Some(related) = self.related.row(*number) else {
+                continue;
+            };
+            if !self.is_refused(*number, row) {
+                continue;
+            }
+            let Ok((instr, _)) = fetch(self.setting.task.rom(), ContextPoint::of(*number).address)
+            else {
+                continue;
+            };
+            let Some(pointer) = pointer_of(&instr) else {
+                continue;
+            };
+            for relation in related.relations.as_slice() {
+                if !says_of(relation, &pointer) {
+                    continue;
+                }
+                if let Some(closure) = self.closure(alloc, incoming, &table, *number, relation)? {
+                    merge(&mut all, &closure)?;
+                    merge(&mut table.facts, &closure)?;
+                }
+            }
+        }
+        Ok(all)
+    }
+
+    /// The facts that refused rows want, with all from which these follow.
+    fn wanted(
+        &self,
+        alloc: Global,
+        incoming: &Incoming,
+        guide: &Guide,
+        plain: &Worklist,
+    ) -> Result<BTreeMap<u64, Facts>, FlowFault> {
+        let mut all = BTreeMap::new(alloc);
+        let mut table = guide.copied(alloc)?;
+        for (number, row) in plain.rows().iter() {
+            if !self.is_refused(*number, row) {
+                continue;
+            }
+            if let Some(best) = self.best_for(alloc, incoming, &table, *number, row)? {
+                merge(&mut all, &best)?;
+                merge(&mut table.facts, &best)?;
+            }
+        }
+        Ok(all)
+    }
+
+    /// The fewest facts with which a refused row is not refused any more.
+    fn best_for(
+        &self,
+        alloc: Global,
+        incoming: &Incoming,
+        table: &Guide,
+        number: u64,
+        row: &InferredRow,
+    ) -> Result<Option<BTreeMap<u64, Facts>>, FlowFault> {
+        let Some(related) = self.related.row(number) else {
+            return Ok(None);
+        };
+        let mut best: Option<BTreeMap<u64, Facts>> = None;
+        for relation in related.relations.as_slice() {
+            let Some(state) = tightened(&row.state, table.facts.get(&number), relation) else {
+                continue;
+            };
+            if is_soft(self.reason_of(alloc, number, &state)) {
+                continue;
+            }
+            let closure = self.closure(alloc, incoming, table, number, relation)?;
+            if let Some(closure) = closure {
+                let is_better = match &best {
+                    Some(best) => closure.len() < best.len(),
+                    None => true,
+                };
+                if is_better {
+                    best = Some(closure);
+                }
+            }
+        }
+        Ok(best)
+    }
+
+    /// A relation of a row with all facts from which it follows.
+    fn closure(
+        &self,
+        alloc: Global,
+        incoming: &Incoming,
+        table: &Guide,
+        number: u64,
+        relation: &Linear,
+    ) -> Result<Option<BTreeMap<u64, Facts>>, FlowFault> {
+        let said = self.setting.task.said().facts();
+        closure_of(
+            alloc,
+            said,
+            self.related,
+            incoming,
+            &table.facts,
+            number,
+            relation,
+        )
+    }
+
+    /// The relations that narrow the counters of loops in timed procedures, with all from which these follow.
+    fn counting(
+        &self,
+        alloc: Global,
+        incoming: &Incoming,
+        guide: &Guide,
+        plain: &Worklist,
+    ) -> Result<BTreeMap<u64, Facts>, FlowFault> {
+        let mut all = BTreeMap::new(alloc);
+        let mut table = guide.copied(alloc)?;
+        for (number, row) in plain.rows().iter() {
+            let point = ContextPoint::of(*number);
+            let Some(counter) = self.counter_at(point) else {
+                continue;
+            };
+            let Some(related) = self.related.row(*number) else {
+                continue;
+            };
+            for relation in related.relations.as_slice() {
+                let facts = table.facts.get(number);
+                let Some(left) = tightened(&row.state, facts, relation) else {
+                    continue;
+                };
+                let is_narrower = left.range(counter) != row.state.range(counter);
+                if !says_of(relation, &counter) || !is_narrower {
+                    continue;
+                }
+                if let Some(closure) = self.closure(alloc, incoming, &table, *number, relation)? {
+                    merge(&mut all, &closure)?;
+                    merge(&mut table.facts, &closure)?;
+                }
+            }
+        }
+        Ok(all)
+    }
+
+    /// The counter of the loop at an address of a timed procedure, if it is a register or a pair.
+    fn counter_at(&self, point: ContextPoint) -> Option<Variable> {
+        if !self.related.is_timed(point.proc) {
+            return None;
+        }
+        let loops = self.setting.task.said().loops();
+        let note = loops.iter().find(|note| note.at == point.address)?;
+        match note.counter {
+            Variable::Slot(_, _) => None,
+            counter => Some(counter),
+        }
+    }
+
+    /// The lowest reason against a state at a place.
+    fn reason_of(&self, alloc: Global, number: u64, state: &AbsState) -> Option<Reason> {
+        let point = ContextPoint::of(number);
+        let timed = self.related.is_timed(point.proc);
+        judged_row(alloc, self.setting.task, point.plain(), timed, state).reason
+    }
+
+    /// The relations that narrow rows at which states join, with all from which these follow.
+    fn narrowing(
+        &self,
+        alloc: Global,
+        incoming: &Incoming,
+        guide: &Guide,
+        plain: &Worklist,
+    ) -> Result<BTreeMap<u64, Facts>, FlowFault> {
+        let mut all = BTreeMap::new(alloc);
+        let mut table = guide.copied(alloc)?;
+        for (number, row) in plain.rows().iter() {
+            if incoming.to(*number).len() < 2 {
+                continue;
+            }
+            let Some(related) = self.related.row(*number) else {
+                continue;
+            };
+            let mut state = row.state.copied();
+            for relation in related.relations.as_slice() {
+                let facts = table.facts.get(number);
+                let Some(left) = tightened(&state, facts, relation) else {
+                    continue;
+                };
+                if !narrows(&state, &left, relation) {
+                    continue;
+                }
+                let closure = self.closure(alloc, incoming, &table, *number, relation)?;
+                if let Some(closure) = closure {
+                    merge(&mut all, &closure)?;
+                    merge(&mut table.facts, &closure)?;
+                    state = left;
+                }
+            }
+        }
+        Ok(all)
+    }
+}
+
+/// Whether a reason is one that a fact may take away: 6, 7, 8, 15, 16, 21 or 22.
+fn is_soft(reason: Option<Reason>) -> bool {
+    match reason {
+        Some(reason) => matches!(reason.number(), 6 | 7 | 8 | 15 | 16 | 21 | 22),
+        None => false,
+    }
+}
+
+/// A state tightened by facts and a further one; None if nothing is left.
+fn tightened(state: &AbsState, facts: Option<&Facts>, relation: &Linear) -> Option<AbsState> {
+    let mut left = state.copied();
+    if let Some(facts) = facts {
+        for fact in facts.as_slice() {
+            if !left.tighten(fact) {
+                return None;
+            }
+        }
+    }
+    if left.tighten(relation) {
+        Some(left)
+    } else {
+        None
+    }
+}
+
+/// Whether a linear has a pair or one of its halves.
+fn says_of(linear: &Linear, pair: &Variable) -> bool {
+    linear.terms().iter().any(|term| term.variable == *pair || is_half(&term.variable, pair))
+}
+
+/// Whether a variable is a half of a pair.
+fn is_half(variable: &Variable, pair: &Variable) -> bool {
+    match pair {
+        Variable::Bc => matches!(variable, Variable::B | Variable::C),
+        Variable::De => matches!(variable, Variable::D | Variable::E),
+        Variable::Hl => matches!(variable, Variable::H | Variable::L),
+        _ => false,
+    }
+}
+
+/// Whether a variable of a linear has a smaller range in the second state.
+fn narrows(before: &AbsState, after: &AbsState, linear: &Linear) -> bool {
+    linear.terms().iter().any(|term| before.range(term.variable) != after.range(term.variable))
+}
+
+/// Adds facts to those of a table.
+fn merge(table: &mut BTreeMap<u64, Facts>, more: &BTreeMap<u64, Facts>) -> Result<(), FlowFault> {
+    for (row, facts) in more.iter() {
+        for fact in facts.as_slice() {
+            add(table, *row, *fact)?;
+        }
+    }
+    Ok(())
+}

@@ -1,0 +1,99 @@
+// Hints on standard error about files that are not what a command takes (docs/PROGRAM.md, "Hints").
+
+use crate::devices::Input;
+use crate::ending::report;
+use annotation_faults::place_of_fault;
+use file_devices::{Likeness, certified_len};
+use std::fs;
+
+/// The most bytes of a ROM.
+const MOST_ROM: u64 = 16_384;
+
+/// Says what a ROM looks like, if it is none.
+pub fn hint_rom(rt: &HostRuntime, rom: &Input) {
+    let name = rom.path().escape_debug();
+    if let Some(likeness) = Likeness::of(rom.head()) {
+        let words = likeness.words();
+        report(
+            rt,
+            format_args!(
+                "galcert: {name} looks like {words}; ROM is a file of the bytes themselves"
+            ),
+        );
+    }
+    if rom.len() == 0 && rom.failure().is_none() {
+        report(
+            rt,
+            format_args!("galcert: {name} has no bytes; a ROM has 1 to 16,384"),
+        );
+    } else if rom.len() > MOST_ROM {
+        let len = len_of(rt, rom).max(rom.len());
+        report(
+            rt,
+            format_args!("galcert: {name} has {len} bytes; a ROM has 1 to 16,384"),
+        );
+    }
+}
+
+/// How many bytes a regular file has, of which not all were read; 0 for another one.
+fn len_of(rt: &HostRuntime, file: &Input) -> u64 {
+    match fs::metadata(rt, file.path()) {
+        Ok(found) if found.is_file() => found.len(),
+        _ => 0,
+    }
+}
+
+/// Says what a certificate looks like, if it is none, or that it is for a ROM of another length.
+pub fn hint_certificate(rt: &HostRuntime, rom: &Input, cert: &Input) {
+    let name = cert.path().escape_debug();
+    match Likeness::of(cert.head()) {
+        Some(Likeness::Certificate) => {}
+        Some(likeness) => {
+            let words = likeness.words();
+            report(
+                rt,
+                format_args!("galcert: {name} looks like {words}; CERT is a certificate"),
+            );
+        }
+        None => {}
+    }
+    if let Some(len) = certified_len(cert.head()) {
+        let found = rom.len();
+        if u64::from(len) != found && 0 < found && found <= MOST_ROM {
+            report(
+                rt,
+                format_args!(
+                    "galcert: {name} is for a ROM of {len} bytes, and the ROM has {found}"
+                ),
+            );
+        }
+    }
+}
+
+/// Says what annotations look like, if they are none, and where they are at fault. With `infers` they were read for
+/// `--infer`.
+pub fn hint_annotations(rt: &HostRuntime, annot: &Input, infers: bool) {
+    let name = annot.path().escape_debug();
+    match Likeness::of(annot.head()) {
+        None | Some(Likeness::Toml) => {}
+        Some(likeness) => {
+            let words = likeness.words();
+            report(
+                rt,
+                format_args!("galcert: {name} looks like {words}; ANNOT is a TOML text"),
+            );
+            return;
+        }
+    }
+    let Some(text) = annot.text() else {
+        return;
+    };
+    if let Ok(Some(place)) = place_of_fault(rt.alloc(), text, infers) {
+        let why = &place.why;
+        match (place.line, place.column) {
+            (Some(line), Some(column)) => report(rt, format_args!("{name}:{line}:{column}: {why}")),
+            (Some(line), None) => report(rt, format_args!("{name}:{line}: {why}")),
+            (None, _) => report(rt, format_args!("{name}: {why}")),
+        }
+    }
+}

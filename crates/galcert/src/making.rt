@@ -1,0 +1,175 @@
+// The commands that make a certificate, and find annotations for one.
+
+use crate::devices::{Input, Out, clash_of, input, input_of, output, stderr, stdout};
+use crate::ending::{Used, end, report, report_clash};
+use crate::hints::{hint_annotations, hint_rom};
+use crate::reporter::Reporter;
+use crate::words::{CERT_FILE, INFER, OUTPUT, QUIET, TRIALS, word};
+use clap::ArgMatches;
+use command_parts::ExitStatus;
+use commands::check_on;
+use file_devices::{AfterOutput, FileSource, Output, SharedOutput};
+use inference_commands::{infer_on, suggest_on};
+use std::cell::RefCell;
+
+/// The most trials of a search where none is said.
+const TRIALS_UNSAID: u32 = 2_000;
+
+/// The inputs of the commands here.
+const INPUTS: [&str; 2] = ["ROM", "ANNOT"];
+
+/// `galcert check`, with and without `--infer`. The result is the exit status.
+pub fn check_files<'a>(rt: &'a HostRuntime, matches: &ArgMatches<'a>) -> u8 {
+    let infers = matches.get_flag(INFER);
+    if !infers && matches.get_str("ANNOT").is_none() {
+        report(rt, "ANNOT is missing; --infer finds annotations without it");
+        return ExitStatus::Usage.code();
+    }
+    let Some(trials) = trials_of(rt, matches) else {
+        return ExitStatus::Usage.code();
+    };
+    if let Some(clash) = clash_of(rt, matches, &INPUTS, Some(CERT_FILE)) {
+        return report_clash(rt, &clash);
+    }
+    let mut rom = input(rt, matches, "ROM");
+    let mut annot = annotations(rt, matches);
+    let kept = RefCell::new(output(rt, matches, CERT_FILE));
+    let mut keep = SharedOutput::new(&kept);
+    let mut out = AfterOutput::new(&kept, table_output(rt, matches));
+    let notes = &mut stderr(rt);
+    let progress = &mut Reporter::new(rt, trials);
+    let status = if infers {
+        infer_on(
+            rt.alloc(),
+            &mut rom,
+            &mut annot,
+            trials,
+            &mut keep,
+            &mut out,
+            notes,
+            progress,
+        )
+    } else {
+        check_on(rt.alloc(), &mut rom, &mut annot, &mut keep, &mut out)
+    };
+    if status == ExitStatus::Refused.code() {
+        hint_rom(rt, &rom);
+        hint_annotations(rt, &annot, infers);
+    }
+    let kept_failure = match kept.try_borrow_mut() {
+        Ok(mut kept) => {
+            kept.discard();
+            kept.failure()
+        }
+        Err(_) => None,
+    };
+    let used = [
+        Used::input(&rom),
+        Used::input(&annot),
+        Used::failed(word(matches, CERT_FILE), kept_failure),
+        Used::stdout(out.output()),
+    ];
+    end(rt, status, &used)
+}
+
+/// The annotations; none if they are not named. Their text is remembered for hints.
+fn annotations<'a>(rt: &'a HostRuntime, matches: &ArgMatches<'a>) -> Input<'a> {
+    match matches.get_str("ANNOT") {
+        Some(path) => input_of(rt, path),
+        None => FileSource::empty(rt),
+    }
+    .remembering(rt.alloc())
+}
+
+/// Where the table goes: nowhere if it is not wanted, to standard error if the certificate goes to standard output.
+fn table_output<'a>(rt: &'a HostRuntime, matches: &ArgMatches) -> Out<'a> {
+    if matches.get_flag(QUIET) {
+        return Output::nowhere();
+    }
+    if matches.get_str(CERT_FILE) == Some("-") {
+        return stderr(rt);
+    }
+    stdout(rt)
+}
+
+/// The number of trials that a command may take. If the word is out of form, it is reported.
+fn trials_of(rt: &HostRuntime, matches: &ArgMatches) -> Option<u32> {
+    let Some(text) = matches.get_str(TRIALS) else {
+        return Some(TRIALS_UNSAID);
+    };
+    match text.parse() {
+        Ok(trials) => Some(trials),
+        Err(_) => {
+            report(rt, "bad trials");
+            let text = text.escape_debug();
+            report(
+                rt,
+                format_args!("galcert: N is \"{text}\", and not a decimal of at most 4294967295"),
+            );
+            None
+        }
+    }
+}
+
+/// `galcert suggest`. The result is the exit status.
+pub fn suggest_files<'a>(rt: &'a HostRuntime, matches: &ArgMatches<'a>) -> u8 {
+    let Some(trials) = trials_of(rt, matches) else {
+        return ExitStatus::Usage.code();
+    };
+    if let Some(clash) = clash_of(rt, matches, &INPUTS, Some(OUTPUT)) {
+        return report_clash(rt, &clash);
+    }
+    let mut rom = input(rt, matches, "ROM");
+    let mut annot = annotations(rt, matches);
+    let mut out = suggested_output(rt, matches);
+    let notes = &mut stderr(rt);
+    let progress = &mut Reporter::new(rt, trials);
+    let suggested = suggest_on(
+        rt.alloc(),
+        &mut rom,
+        &mut annot,
+        trials,
+        &mut out,
+        notes,
+        progress,
+    );
+    let status = finished(suggested, &mut out);
+    if status == ExitStatus::Refused.code() {
+        hint_rom(rt, &rom);
+        hint_annotations(rt, &annot, true);
+    }
+    let name = match matches.get_str(OUTPUT) {
+        None | Some("-") => "standard output",
+        Some(path) => path,
+    };
+    let used = [
+        Used::input(&rom),
+        Used::input(&annot),
+        Used::output(name, &out),
+    ];
+    end(rt, status, &used)
+}
+
+/// Where the file of `suggest` goes: to FILE if there is one, else nowhere if it is not wanted, else to standard output.
+fn suggested_output<'a>(rt: &'a HostRuntime, matches: &ArgMatches<'a>) -> Out<'a> {
+    if matches.get_str(OUTPUT).is_some() {
+        return output(rt, matches, OUTPUT);
+    }
+    if matches.get_flag(QUIET) {
+        return Output::nowhere();
+    }
+    stdout(rt)
+}
+
+/// The status of a command whose whole output is a file: the file takes its name, unless the command failed.
+fn finished(status: u8, out: &mut Out) -> u8 {
+    let is_whole = status == ExitStatus::Done.code() || status == ExitStatus::Refused.code();
+    if !is_whole {
+        out.discard();
+        return status;
+    }
+    match out.finish() {
+        Ok(()) => status,
+        Err(_) => ExitStatus::Device.code(),
+    }
+}

@@ -1,0 +1,86 @@
+// The commands that judge a certificate, play it or migrate it.
+
+use crate::devices::{Out, clash_of, input, stdout};
+use crate::ending::{Used, end, report, report_clash};
+use crate::hints::{hint_certificate, hint_rom};
+use crate::words::{QUIET, word};
+use clap::ArgMatches;
+use command_parts::ExitStatus;
+use commands::{migrate_on, run_on, steps_of, verify_on};
+use file_devices::{Output, WriterSink};
+use std::io;
+
+/// `galcert verify`. The result is the exit status.
+pub fn verify_files<'a>(rt: &'a HostRuntime, matches: &ArgMatches<'a>) -> u8 {
+    if let Some(clash) = clash_of(rt, matches, &["ROM", "CERT"], None) {
+        return report_clash(rt, &clash);
+    }
+    let mut rom = input(rt, matches, "ROM");
+    let mut cert = input(rt, matches, "CERT");
+    let mut out = verdict_output(rt, matches);
+    let status = verify_on(rt.alloc(), &mut rom, &mut cert, &mut out);
+    if status == ExitStatus::Refused.code() {
+        hint_rom(rt, &rom);
+        hint_certificate(rt, &rom, &cert);
+    }
+    end(
+        rt,
+        status,
+        &[Used::input(&rom), Used::input(&cert), Used::stdout(&out)],
+    )
+}
+
+/// Where a verdict goes: nowhere if it is not wanted.
+fn verdict_output<'a>(rt: &'a HostRuntime, matches: &ArgMatches) -> Out<'a> {
+    if matches.get_flag(QUIET) {
+        return Output::nowhere();
+    }
+    stdout(rt)
+}
+
+/// `galcert run`. The result is the exit status.
+pub fn run_files<'a>(rt: &'a HostRuntime, matches: &ArgMatches<'a>) -> u8 {
+    let Some(steps) = steps_of(word(matches, "STEPS")) else {
+        report(rt, "bad steps");
+        let steps = word(matches, "STEPS").escape_debug();
+        report(
+            rt,
+            format_args!("galcert: STEPS is \"{steps}\", and not a decimal of at most 4294967295"),
+        );
+        return ExitStatus::Usage.code();
+    };
+    if let Some(clash) = clash_of(rt, matches, &["ROM", "CERT", "INPUT"], None) {
+        return report_clash(rt, &clash);
+    }
+    let mut rom = input(rt, matches, "ROM");
+    let mut cert = input(rt, matches, "CERT");
+    let mut played = input(rt, matches, "INPUT");
+    let mut out = WriterSink::new(io::writer(rt));
+    let status = run_on(
+        rt.alloc(),
+        &mut rom,
+        &mut cert,
+        &mut played,
+        steps,
+        &mut out,
+    );
+    if status == ExitStatus::Refused.code() {
+        hint_rom(rt, &rom);
+        hint_certificate(rt, &rom, &cert);
+    }
+    let used = [
+        Used::input(&rom),
+        Used::input(&cert),
+        Used::input(&played),
+        Used::failed("standard output", out.failure()),
+    ];
+    end(rt, status, &used)
+}
+
+/// `galcert migrate`. The result is the exit status.
+pub fn migrate_file<'a>(rt: &'a HostRuntime, matches: &ArgMatches<'a>) -> u8 {
+    let mut cert = input(rt, matches, "CERT");
+    let mut out = stdout(rt);
+    let status = migrate_on(rt.alloc(), &mut cert, &mut out);
+    end(rt, status, &[Used::input(&cert), Used::stdout(&out)])
+}

@@ -1,0 +1,2 @@
+-- Definitions of the commands that find annotations.
+pub mod Inferring

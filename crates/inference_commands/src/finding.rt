@@ -1,0 +1,192 @@
+// Finds annotations for a ROM, and makes a certificate by them.
+
+ghost use Rattle.std.specs.Prelude.{◌≡◌, ◌≢◌, IfOk, OnOk};
+ghost use Rattle.cert_form.specs.Text.{text_of};
+ghost use Rattle.command_parts.specs.Judging.{IsAccepted};
+ghost use Rattle.texts.specs.Device.{HasFailed, CountsNoFailure};
+
+use abs_step::Reason;
+use analysis::FlowFault;
+use annotations::{AnnotationFault, Given};
+use check_rules::Refused;
+use command_parts::{Stop, tell_unmade};
+use command_verdicts::{refused_line, write_bad_key};
+use explored_plans::{Family, Progress};
+use plan_search::{Inference, inferred};
+use runner::cert_checker::Accepted;
+use std::alloc::Global;
+use texts::{MadeLine, Sink, put};
+
+/// Reads given annotations. If they are bad, the line that reports it is written to `out`.
+pub fn read_given<W: Sink>(alloc: Global, text: &[u8], out: &mut W) -> Result<Given, Stop>
+    ensures kept { OnOk result (out.new ≡ out.old) }
+    ensures device { result ≡ Err Stop.Device → HasFailed (W.state out.old) (W.state out.new) }
+    ensures told { result ≢ Err Stop.Device → CountsNoFailure (W.state out.old) (W.state out.new) }
+    ensures memory { result ≡ Err Stop.OutOfMemory → out.new ≡ out.old }
+{
+    match Given::read(alloc, text) {
+        Ok(given) => Ok(given),
+        Err(AnnotationFault::Text) => {
+            put(out, b"bad annotation text\n")?;
+            Err(Stop::Refused)
+        }
+        Err(AnnotationFault::Key(key)) => {
+            write_bad_key(key.as_str(), out)?;
+            Err(Stop::Refused)
+        }
+        Err(AnnotationFault::NoMemory) => Err(Stop::OutOfMemory),
+    }
+}
+
+/// Finds annotations for a ROM beside those given. If the search has no answer, the line that reports it is written to
+/// `out`. A line on `notes` says what was found.
+pub fn find<'r, 'g, W: Sink, N: Sink, P: Progress>(
+    alloc: Global,
+    rom: &'r [u8],
+    given: &'g Given,
+    trials: u32,
+    out: &mut W,
+    notes: &mut N,
+    progress: &mut P,
+) -> Result<Inference<'r, 'g>, Stop>
+    ensures rom { IfOk result (λ found. found.judged ≡ rom.now) }
+    ensures kept { OnOk result (out.new ≡ out.old) }
+    ensures device { result ≡ Err Stop.Device → HasFailed (W.state out.old) (W.state out.new) }
+    ensures told { result ≢ Err Stop.Device → CountsNoFailure (W.state out.old) (W.state out.new) }
+    ensures memory { result ≡ Err Stop.OutOfMemory → out.new ≡ out.old }
+{
+    match inferred(alloc, rom, given, trials, progress) {
+        Ok(Some(found)) => {
+            let _noted = put(notes, found_line(&found).bytes());
+            Ok(found)
+        }
+        Ok(None) => {
+            put(out, refused_line(&of_rom()).bytes())?;
+            Err(Stop::Refused)
+        }
+        Err(FlowFault::Limit) => {
+            put(out, b"too large\n")?;
+            Err(Stop::Refused)
+        }
+        Err(FlowFault::NoMemory) => Err(Stop::OutOfMemory),
+    }
+}
+
+/// Finds annotations for a ROM beside those of a text, and makes a certificate by them. If none is accepted, the line
+/// that reports it is written to `out`. A line on `notes` says what was found.
+pub fn infer<'r, W: Sink, N: Sink, P: Progress>(
+    alloc: Global,
+    rom: &'r [u8],
+    text: &[u8],
+    trials: u32,
+    out: &mut W,
+    notes: &mut N,
+    progress: &mut P,
+) -> Result<Accepted<'r>, Stop>
+    ensures rom { IfOk result (λ accepted. accepted.rom ≡ rom.now) }
+    ensures accepted { IfOk result
+        (λ accepted. IsAccepted rom.now (text_of accepted.certificate) accepted.certificate) }
+    ensures kept { OnOk result (out.new ≡ out.old) }
+    ensures device { result ≡ Err Stop.Device → HasFailed (W.state out.old) (W.state out.new) }
+    ensures told { result ≢ Err Stop.Device → CountsNoFailure (W.state out.old) (W.state out.new) }
+    ensures memory { result ≡ Err Stop.OutOfMemory → out.new ≡ out.old }
+{
+    let given = match read_given(alloc, text, out) {
+        Ok(given) => given,
+        Err(stop) => return Err(stop),
+    };
+    let found = match find(alloc, rom, &given, trials, out, notes, progress) {
+        Ok(found) => found,
+        Err(stop) => return Err(stop),
+    };
+    match found.judged.into_answer() {
+        Ok(accepted) => {
+            accepted.certificate().is_in_form();
+            Ok(accepted)
+        }
+        Err(fault) => {
+            tell_unmade(&fault, out)?;
+            Err(Stop::Refused)
+        }
+    }
+}
+
+/// The refusal of a ROM without bytes, or with too many.
+fn of_rom() -> Refused {
+    Refused {
+        row: None,
+        address: 0,
+        reason: Reason::Rom,
+    }
+}
+
+/// How many notes of each kind a plan has.
+#[derive(Clone, Copy)]
+struct Counts {
+    inlines: u32,
+    splits: u32,
+    loops: u32,
+    cells: u32,
+    contexts: u32,
+    facts: u32,
+    rows: u32,
+}
+
+fn count_of(found: &Inference) -> Counts {
+    let mut counts = Counts {
+        inlines: 0,
+        splits: 0,
+        loops: 0,
+        cells: 0,
+        contexts: 0,
+        facts: 0,
+        rows: 0,
+    };
+    for finding in found.explored.plan.findings.as_slice() {
+        match &finding.family {
+            Family::Inlines(calls) => add(&mut counts.inlines, calls.len()),
+            Family::Split(_) => add(&mut counts.splits, 1),
+            Family::Loop(_) => add(&mut counts.loops, 1),
+            Family::Cells(cells) => add(&mut counts.cells, cells.len()),
+            Family::Calls(calls) => add(&mut counts.contexts, calls.len()),
+            Family::Turns(_) => add(&mut counts.contexts, 1),
+        }
+    }
+    for (_, facts) in found.judged.guide().facts.iter() {
+        add(&mut counts.facts, facts.as_slice().len());
+        add(&mut counts.rows, 1);
+    }
+    counts
+}
+
+fn add(count: &mut u32, more: usize) {
+    *count = count.saturating_add(more.min(1_000_000) as u32);
+}
+
+/// The line that says what was found.
+fn found_line(found: &Inference) -> MadeLine {
+    let counts = count_of(found);
+    let mut line = MadeLine::new();
+    line.add(b"inferred: ");
+    line.add_decimal(u128::from(counts.facts));
+    line.add(b" facts in ");
+    line.add_decimal(u128::from(counts.rows));
+    line.add(b" rows, ");
+    line.add_decimal(u128::from(counts.inlines));
+    line.add(b" inline calls, ");
+    line.add_decimal(u128::from(counts.splits));
+    line.add(b" splits, ");
+    line.add_decimal(u128::from(counts.loops));
+    line.add(b" loops, ");
+    line.add_decimal(u128::from(counts.cells));
+    line.add(b" cells, ");
+    line.add_decimal(u128::from(counts.contexts));
+    line.add(b" contexts, low ");
+    line.add_hex4(found.base.region.low);
+    line.add(b", top ");
+    line.add_hex4(found.base.region.top);
+    line.add(b", trials ");
+    line.add_decimal(u128::from(found.trials));
+    line.add(b"\n");
+    line
+}

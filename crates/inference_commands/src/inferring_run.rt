@@ -1,0 +1,77 @@
+// `galcert check --infer`.
+
+ghost use Rattle.std.specs.Prelude.{◌≡◌, ◌≢◌, ◌⊎◌};
+ghost use Rattle.inference_commands.specs.Inferring.{InfersAndTells};
+ghost use Rattle.command_parts.specs.Status.{IsStatus};
+ghost use Rattle.texts.specs.Device.{HasFailed, CountsNoFailure, Takes};
+
+use crate::finding::infer;
+use command_parts::{ExitStatus, Stop, keep_and_tell, read_all, read_rom};
+use explored_plans::Progress;
+use std::alloc::Global;
+use texts::{DeviceFault, Sink, Source};
+
+/// `galcert check ROM [ANNOT] --infer [--cert FILE]`: finds annotations beside those in ANNOT, makes a certificate,
+/// writes its text to `keep` and then the table to `out`; or writes the refusal to `out` (docs/PROGRAM.md). The search
+/// takes at most `trials` trials. One line on `notes` says what was found. `keep` is used only for an accepted
+/// certificate, and the table is written only after `keep` took the whole text. What `notes` does changes nothing.
+/// `progress` is told of each trial.
+///
+/// The result is the exit status: 0 accepted, 1 refused or bad annotations, 3 a device failed, 4 memory was refused.
+/// What was written before a device failed stays.
+pub fn infer_on<A: Source, B: Source, K: Sink, W: Sink, N: Sink, P: Progress>(
+    alloc: Global,
+    rom: &mut A,
+    annot: &mut B,
+    trials: u32,
+    keep: &mut K,
+    out: &mut W,
+    notes: &mut N,
+    progress: &mut P,
+) -> u8
+    // What each status means, and for which bytes.
+    ensures known { IsStatus result }
+    ensures accepted { result ≡ 0
+        → InfersAndTells Takes (A.state rom.old).bytes (K.state keep.old) (K.state keep.new)
+        (W.state out.old) (W.state out.new) }
+    ensures refused { result ≡ 1 → keep.new ≡ keep.old }
+    ensures device { result ≡ 3
+        → HasFailed (A.state rom.old) (A.state rom.new)
+        ⊎ (HasFailed (B.state annot.old) (B.state annot.new)
+        ⊎ (HasFailed (K.state keep.old) (K.state keep.new)
+        ⊎ HasFailed (W.state out.old) (W.state out.new))) }
+    ensures told { result ≢ 3
+        → CountsNoFailure (A.state rom.old) (A.state rom.new)
+        × CountsNoFailure (B.state annot.old) (B.state annot.new)
+        × CountsNoFailure (K.state keep.old) (K.state keep.new)
+        × CountsNoFailure (W.state out.old) (W.state out.new) }
+    ensures memory { result ≡ 4 → (keep.new ≡ keep.old) × (out.new ≡ out.old) }
+    // The order of the devices: after one failed, no other is used but `notes`.
+    ensures keep_next { CountsNoFailure (K.state keep.old) (K.state keep.new)
+        ⊎ (out.new ≡ out.old) }
+{
+    let bytes = match read_rom(alloc, rom) {
+        Ok(bytes) => bytes,
+        Err(stop) => return stop.status(),
+    };
+    let text = match read_all(alloc, annot) {
+        Ok(text) => text,
+        Err(stop) => return stop.status(),
+    };
+    let accepted = match infer(
+        alloc,
+        bytes.as_slice(),
+        text.as_slice(),
+        trials,
+        out,
+        notes,
+        progress,
+    ) {
+        Ok(accepted) => accepted,
+        Err(stop) => return stop.status(),
+    };
+    match keep_and_tell(accepted.certificate(), keep, out) {
+        Ok(()) => ExitStatus::Done.code(),
+        Err(DeviceFault) => ExitStatus::Device.code(),
+    }
+}

@@ -1,0 +1,224 @@
+// A row as an inferring analysis knows it.
+
+use crate::growing::Growth;
+use crate::held::hold;
+use crate::thresholds::Thresholds;
+use abs_state::AbsState;
+use abs_step::Reason;
+use affine::Space;
+use analysis::{FlowFault, joined, names_slots_below, widest};
+use annotations::{FactNote, RangeNote};
+use loop_bounds::{Linear, Variable};
+use std::alloc::Global;
+
+/// After how many changes of a row its relations no longer tighten it.
+const TIGHTENED: u16 = 300;
+
+/// After how many changes of a row its ranges become full.
+const CHANGES: u16 = 2_000;
+
+/// A row as an inferring analysis knows it.
+#[derive(Drop)]
+pub struct InferredRow {
+    pub state: AbsState,
+    /// What is known of its variables together.
+    pub space: Space,
+    /// The equalities of two or three variables that hold there. They name only slots that the row has.
+    pub relations: Vec<Linear>,
+    /// The state in which the row leaves its procedure, if it does.
+    pub exit: Option<AbsState>,
+    /// The lowest reason that is against the row.
+    pub reason: Option<Reason>,
+    /// Whether a state to which the row leads is in no part of a split, or in no row.
+    pub drops: bool,
+    /// The most bytes of slots on the stack at the row and its successors, 0 to 128; the return address is not counted.
+    pub bytes: u16,
+    growth: Growth,
+    changes: u16,
+}
+
+/// What tightens a row, and how it grows.
+#[derive(Drop)]
+pub struct Tightening<'t> {
+    /// The annotated facts of its address.
+    pub said: &'t [FactNote],
+    /// The ranges of its address, which no widening leaves.
+    pub ranges: &'t [RangeNote],
+    /// The part of a split that its states belong to, counted from 1; 0 for none.
+    pub part: u16,
+    /// The facts of the row itself.
+    pub found: &'t [Linear],
+    /// The pair through which its instruction writes.
+    pub pointer: Option<Variable>,
+    /// Whether its relations tighten it.
+    pub relates: bool,
+    pub thresholds: &'t Thresholds,
+    /// How many kept cells there are.
+    pub cells: usize,
+}
+
+/// What became of a state that came to a row.
+#[derive(Clone, Copy, PartialEq, Eq)]
+pub enum JoinOutcome {
+    /// The row has it, and had it before.
+    Same,
+    /// The row has it now.
+    Changed,
+    /// The row cannot have it: the shapes have two lengths, or the modes or the armed cells differ.
+    Unjoined,
+}
+
+impl InferredRow {
+    /// The row of the first state that comes.
+    pub fn first(
+        alloc: Global,
+        state: &AbsState,
+        space: &Space,
+        by: &Tightening,
+    ) -> Result<InferredRow, FlowFault> {
+        let mut row = InferredRow {
+            state: state.copied(),
+            space: *space,
+            relations: Vec::new(alloc),
+            exit: None,
+            reason: None,
+            drops: false,
+            bytes: 0,
+            growth: Growth::none(),
+            changes: 0,
+        };
+        if by.relates {
+            row.relate(by.pointer)?;
+        }
+        row.state = row.tightened(state, by);
+        Ok(row)
+    }
+
+    /// Finds the relations of the row.
+    fn relate(&mut self, pointer: Option<Variable>) -> Result<(), FlowFault> {
+        let slots = self.state.shape.len();
+        self.relations.clear();
+        for relation in self.space.relations().as_slice() {
+            if names_slots_below(relation, slots) {
+                self.relations.push(*relation)?;
+            }
+        }
+        if let Some(pointer) = pointer {
+            for relation in self.space.triples(pointer).as_slice() {
+                if names_slots_below(relation, slots) {
+                    self.relations.push(*relation)?;
+                }
+            }
+        }
+        Ok(())
+    }
+
+    /// A state tightened by the row's facts and relations; those that leave nothing are passed over.
+    fn tightened(&self, state: &AbsState, by: &Tightening) -> AbsState {
+        let mut left = state.copied();
+        for note in by.said {
+            if speaks_of(note, by.part) {
+                left = tightened_by(left, &note.fact);
+            }
+        }
+        for fact in by.found {
+            left = tightened_by(left, fact);
+        }
+        if by.relates && self.changes < TIGHTENED {
+            for relation in self.relations.as_slice() {
+                left = tightened_by(left, relation);
+            }
+        }
+        left
+    }
+
+    /// Joins a state that comes to the row.
+    pub fn take(
+        &mut self,
+        state: &AbsState,
+        space: &Space,
+        by: &Tightening,
+    ) -> Result<JoinOutcome, FlowFault> {
+        let Some(both) = joined(&self.state, state, by.cells) else {
+            return Ok(JoinOutcome::Unjoined);
+        };
+        let grew = by.relates && self.space.join(space);
+        if grew {
+            self.relate(by.pointer)?;
+        }
+        if !grew && self.state.covers(&both) {
+            return Ok(JoinOutcome::Same);
+        }
+        let left = self.changed(&both, by);
+        let same = self.state.covers(&left) && left.covers(&self.state);
+        if same && !grew {
+            return Ok(JoinOutcome::Same);
+        }
+        if !same {
+            self.changes = self.changes.saturating_add(1);
+        }
+        self.state = left;
+        Ok(JoinOutcome::Changed)
+    }
+
+    /// Joins a state without any widening.
+    pub fn add(
+        &mut self,
+        state: &AbsState,
+        space: &Space,
+        by: &Tightening,
+    ) -> Result<JoinOutcome, FlowFault> {
+        let Some(both) = joined(&self.state, state, by.cells) else {
+            return Ok(JoinOutcome::Unjoined);
+        };
+        if by.relates && self.space.join(space) {
+            self.relate(by.pointer)?;
+        }
+        self.state = self.tightened(&both, by);
+        Ok(JoinOutcome::Same)
+    }
+
+    /// The row's state after a join.
+    fn changed(&mut self, both: &AbsState, by: &Tightening) -> AbsState {
+        if self.changes >= CHANGES {
+            return widest(both);
+        }
+        let before = self.state.copied();
+        let mut grown = self.growth.grown(&before, both, by.thresholds);
+        for note in by.ranges {
+            hold(&mut grown, both, note);
+        }
+        self.tightened(&grown, by)
+    }
+
+    /// Whether a bound of the row was widened.
+    pub fn is_widened(&self) -> bool {
+        self.growth.is_widened()
+    }
+
+    /// Whether the row's exit is the same as this one.
+    pub fn leaves_as(&self, exit: &Option<AbsState>) -> bool {
+        match (&self.exit, exit) {
+            (None, None) => true,
+            (Some(old), Some(new)) => old.covers(new) && new.covers(old),
+            _ => false,
+        }
+    }
+}
+
+/// Whether a fact speaks of the rows of a part.
+pub fn speaks_of(note: &FactNote, part: u16) -> bool {
+    match note.part {
+        Some(only) => only == part,
+        None => true,
+    }
+}
+
+/// A state tightened by a linear that is 0, or as it was if nothing would be left.
+fn tightened_by(state: AbsState, fact: &Linear) -> AbsState {
+    if !names_slots_below(fact, state.shape.len()) {
+        return state;
+    }
+    let mut left = state.copied();
+    if left.tighten(fact) { left } else { state }
+}

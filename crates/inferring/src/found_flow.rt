@@ -1,0 +1,78 @@
+// What an inferring analysis found, for the writer of certificates.
+
+use crate::worklist::{Setting, Worklist};
+use analysis::{Flow, FlowFault, Noted, ProgramPoint, facts_at, names_slots_below};
+use annotations::FactNote;
+use cert_fields::Facts;
+use inferred_rows::{ContextPoint, InferredRow, speaks_of};
+use loop_bounds::Linear;
+use std::alloc::Global;
+use std::collections::BTreeMap;
+
+impl Worklist {
+    /// What was found, for the writer of certificates. Rows at one address of a procedure count as its parts.
+    ///
+    /// # Errors
+    ///
+    /// `Limit` if there are more than 65,535 rows at an address; `NoMemory` where memory was refused.
+    pub fn into_flow(self, alloc: Global, setting: Setting) -> Result<Flow, FlowFault> {
+        let mut numbers = BTreeMap::new(alloc);
+        let mut rows = BTreeMap::new(alloc);
+        let mut facts = BTreeMap::new(alloc);
+        let mut last = None;
+        let mut part = 0u16;
+        for (number, row) in self.rows.iter() {
+            let point = ContextPoint::of(*number);
+            let here = Some((point.proc, point.address));
+            part = if here == last {
+                part.checked_add(1).ok_or(FlowFault::Limit)?
+            } else {
+                0
+            };
+            last = here;
+            let place = ProgramPoint {
+                part,
+                ..point.plain()
+            }
+            .number();
+            numbers.insert(*number, place)?;
+            rows.insert(place, noted_of(row))?;
+            let said = facts_at(setting.task.said().facts(), point.address);
+            let own = setting.guide.facts_of(*number);
+            if !(said.is_empty() && own.is_empty()) {
+                let all = all_facts(said, point.part, own, row.state.shape.len());
+                facts.insert(place, all)?;
+            }
+        }
+        let mut calls = Vec::new(alloc);
+        for (callee, number) in self.calls(alloc)? {
+            if let Some(place) = numbers.get(&number) {
+                calls.push((callee, *place))?;
+            }
+        }
+        Flow::of(alloc, rows, facts, self.entries, &calls, self.timed)
+    }
+}
+
+/// The annotated facts of a row of a part, with this many slots, and those found for it, four at most.
+fn all_facts(said: &[FactNote], part: u16, own: &[Linear], slots: usize) -> Facts {
+    let mut facts = Facts::none();
+    for note in said {
+        if speaks_of(note, part) && names_slots_below(&note.fact, slots) {
+            let _room = facts.push(note.fact);
+        }
+    }
+    for fact in own {
+        let _room = facts.push(*fact);
+    }
+    facts
+}
+
+/// A row for the writer of certificates.
+fn noted_of(row: &InferredRow) -> Noted {
+    let exit = match &row.exit {
+        Some(exit) => Some(exit.copied()),
+        None => None,
+    };
+    Noted::of(row.state.copied(), exit, row.reason, row.bytes)
+}

@@ -1,0 +1,517 @@
+// The worklist solver of an inferring analysis.
+
+ghost use Rattle.std.specs.Prelude.{◌≡◌, ◌+◌, ◌*◌};
+
+use crate::arriving::{Arriving, ArrivingKind, Sent};
+use abs_state::AbsState;
+use abs_step::{Next, NextKind};
+use affine::Space;
+use analysis::{
+    Flow, FlowFault, JudgedRow, MAIN, NMI, Noted, ProgramPoint, Task, facts_at, joined, judged_row,
+    names_slots_below, sub_of,
+};
+use annotations::FactNote;
+use board_fetch::fetch;
+use cert_fields::Facts;
+use cert_form::{PROC_LIMIT, ROW_LIMIT};
+use inferred_rows::{
+    CLASSES, ContextPoint, Guide, InferredRow, JoinOutcome, Manner, Thresholds, Tightening,
+    pointer_of,
+};
+use intervals::ByteRange;
+use loop_bounds::{Effect, Variable};
+use std::alloc::Global;
+use std::collections::{BTreeMap, BTreeSet};
+use z80_moves::NMI_ADDRESS;
+
+/// What an inferring analysis works on.
+#[derive(Clone, Copy)]
+pub struct Setting<'s> {
+    pub task: &'s Task<'s>,
+    pub guide: &'s Guide,
+    pub manner: Manner,
+}
+
+/// A step from a row to another.
+#[derive(Clone, Copy)]
+pub struct RowEdge {
+    /// The number of the place that it leaves.
+    pub from: u64,
+    /// The number of the place that it comes to.
+    pub to: u64,
+    pub effect: Effect,
+    pub kind: ArrivingKind,
+}
+
+/// The rows found so far, the called procedures, and the places that wait.
+#[derive(Drop)]
+pub struct Worklist {
+    pub(crate) rows: BTreeMap<u64, InferredRow>,
+    pub(crate) waiting: BTreeSet<u64>,
+    /// The entries of called procedures.
+    pub(crate) entries: BTreeSet<u16>,
+    /// The number of a called procedure, with the place of a call of it.
+    calls: BTreeSet<u128>,
+    /// The numbers of timed procedures.
+    pub(crate) timed: BTreeSet<u32>,
+    thresholds: Thresholds,
+}
+
+/// A factor that leaves room for the place of a caller.
+const CALLERS: u128 = 0x1_0000_0000_0000_0000;
+
+/// A modulus for the number of a procedure.
+const PROCEDURES: u128 = 0x1_0000_0000;
+
+/// A number for a call; calls of one procedure have adjacent numbers.
+fn call_number(callee: u32, caller: u64) -> u128
+    ensures { result ≡ callee * 0x10000000000000000 + caller }
+{
+    u128::from(callee) * CALLERS + u128::from(caller)
+}
+
+impl Worklist {
+    /// Computes the fixpoint from the entries of main and of the NMI routine, if there is one, in at most `visits`
+    /// visits of rows. Then two rounds without widening lower what a widening raised.
+    ///
+    /// # Errors
+    ///
+    /// `Limit` if there are more than 65,535 rows or 1,024 procedures, or the visits do not suffice; `NoMemory` where
+    /// memory was refused.
+    pub fn run(alloc: Global, setting: Setting, visits: u32) -> Result<Worklist, FlowFault> {
+        let mut list = Worklist::begin(alloc, setting)?;
+        for _ in 0..visits {
+            match list.waiting.pop_first() {
+                Some(number) => list.visit(alloc, setting, number)?,
+                None => return list.lowered_if_widened(alloc, setting),
+            }
+        }
+        Err(FlowFault::Limit)
+    }
+
+    /// Nothing found yet.
+    fn empty(alloc: Global, setting: Setting) -> Result<Worklist, FlowFault> {
+        Ok(Worklist {
+            rows: BTreeMap::new(alloc),
+            waiting: BTreeSet::new(alloc),
+            entries: BTreeSet::new(alloc),
+            calls: BTreeSet::new(alloc),
+            timed: BTreeSet::new(alloc),
+            thresholds: Thresholds::of(alloc, setting.task.map(), setting.task.said().region())?,
+        })
+    }
+
+    /// The rows at the entries, which wait.
+    pub(crate) fn begin(alloc: Global, setting: Setting) -> Result<Worklist, FlowFault> {
+        let mut list = Worklist::empty(alloc, setting)?;
+        let main = entering(ContextPoint::at(MAIN, 0), AbsState::of_main());
+        list.take(alloc, setting, &main, &Space::full(), true)?;
+        if setting.task.has_routine() {
+            list.timed.insert(NMI)?;
+            let state = setting.task.routine_state();
+            let nmi = entering(ContextPoint::at(NMI, NMI_ADDRESS), state);
+            list.take(alloc, setting, &nmi, &Space::full(), true)?;
+        }
+        Ok(list)
+    }
+
+    /// The rows, ordered by the numbers of their places.
+    pub fn rows(&self) -> &BTreeMap<u64, InferredRow> {
+        &self.rows
+    }
+
+    /// The row at the place with this number.
+    pub fn row(&self, number: u64) -> Option<&InferredRow> {
+        self.rows.get(&number)
+    }
+
+    pub fn is_timed(&self, proc: u32) -> bool {
+        self.timed.contains(&proc)
+    }
+
+    /// The entries of called procedures, rising.
+    pub fn entries(&self) -> &BTreeSet<u16> {
+        &self.entries
+    }
+
+    /// The places of the rows that call a procedure.
+    ///
+    /// # Errors
+    ///
+    /// `NoMemory` where memory was refused.
+    pub fn callers_of(&self, alloc: Global, callee: u32) -> Result<Vec<u64>, FlowFault> {
+        let mut callers = Vec::new(alloc);
+        for call in self
+            .calls
+            .range(call_number(callee, 0)..=call_number(callee, u64::MAX))
+        {
+            callers.push((*call % CALLERS) as u64)?;
+        }
+        Ok(callers)
+    }
+
+    /// The calls: the number of the called procedure, and the place of a row that calls it.
+    ///
+    /// # Errors
+    ///
+    /// `NoMemory` where memory was refused.
+    pub fn calls(&self, alloc: Global) -> Result<Vec<(u32, u64)>, FlowFault> {
+        let mut calls = Vec::new(alloc);
+        for call in self.calls.iter() {
+            calls.push((
+                (*call / CALLERS % PROCEDURES) as u32,
+                (*call % CALLERS) as u64,
+            ))?;
+        }
+        Ok(calls)
+    }
+
+    /// A state comes to a place. If its row changes, it waits. The result is whether some row has it.
+    pub(crate) fn take(
+        &mut self,
+        alloc: Global,
+        setting: Setting,
+        arriving: &Arriving,
+        space: &Space,
+        widens: bool,
+    ) -> Result<bool, FlowFault> {
+        for class in 0..CLASSES {
+            let number = ContextPoint {
+                class,
+                ..arriving.to
+            }
+            .number();
+            if !self.rows.contains_key(&number) {
+                self.begin_row(alloc, setting, number, arriving, space)?;
+                return Ok(true);
+            }
+            match self.add_to_row(setting, number, arriving, space, widens)? {
+                JoinOutcome::Same => return Ok(true),
+                JoinOutcome::Changed => {
+                    self.waiting.insert(number)?;
+                    return Ok(true);
+                }
+                JoinOutcome::Unjoined => {}
+            }
+        }
+        Ok(false)
+    }
+
+    /// Adds the row of the first state that comes to a place.
+    fn begin_row(
+        &mut self,
+        alloc: Global,
+        setting: Setting,
+        number: u64,
+        arriving: &Arriving,
+        space: &Space,
+    ) -> Result<(), FlowFault> {
+        if self.rows.len() >= ROW_LIMIT {
+            return Err(FlowFault::Limit);
+        }
+        if let Ok((instr, _)) = fetch(setting.task.rom(), arriving.to.address) {
+            self.thresholds.add(&instr)?;
+        }
+        let by = tightening(setting, number, arriving.to.address, &self.thresholds);
+        let row = InferredRow::first(alloc, &arriving.state, space, &by)?;
+        self.rows.insert(number, row)?;
+        self.waiting.insert(number)?;
+        Ok(())
+    }
+
+    /// Joins a state to a row.
+    fn add_to_row(
+        &mut self,
+        setting: Setting,
+        number: u64,
+        arriving: &Arriving,
+        space: &Space,
+        widens: bool,
+    ) -> Result<JoinOutcome, FlowFault> {
+        let by = tightening(setting, number, arriving.to.address, &self.thresholds);
+        match self.rows.get_mut(&number) {
+            Some(row) => {
+                if widens {
+                    row.take(&arriving.state, space, &by)
+                } else {
+                    row.add(&arriving.state, space, &by)
+                }
+            }
+            None => Ok(JoinOutcome::Unjoined),
+        }
+    }
+
+    /// Computes the successors of a row.
+    pub(crate) fn visit(
+        &mut self,
+        alloc: Global,
+        setting: Setting,
+        number: u64,
+    ) -> Result<(), FlowFault> {
+        let Some(row) = self.rows.get(&number) else {
+            return Ok(());
+        };
+        let point = ContextPoint::of(number);
+        let space = row.space;
+        let state = row.state.copied();
+        let timed = self.is_timed(point.proc);
+        let judged = judged_row(alloc, setting.task, point.plain(), timed, &state);
+        self.note_calls(alloc, setting, point, &judged)?;
+        let sent = self.sent_by(alloc, setting, point, &judged)?;
+        if self.note(number, &state, &judged, setting.manner) {
+            for caller in self.callers_of(alloc, point.proc)? {
+                self.waiting.insert(caller)?;
+            }
+        }
+        let mut drops = !sent.lacking.is_empty();
+        for arriving in sent.states.as_slice() {
+            let space = space_after(setting.manner, &space, arriving);
+            if !self.take(alloc, setting, arriving, &space, true)? {
+                drops = true;
+            }
+        }
+        if let Some(row) = self.rows.get_mut(&number) {
+            row.drops = drops;
+        }
+        Ok(())
+    }
+
+    /// What a judged row sends on.
+    pub(crate) fn sent_by(
+        &self,
+        alloc: Global,
+        setting: Setting,
+        point: ContextPoint,
+        judged: &JudgedRow,
+    ) -> Result<Sent, FlowFault> {
+        let mut sent = Sent::none(alloc);
+        for next in nexts_of(setting.manner, judged) {
+            sent.add_next(setting.task, setting.guide, point, next)?;
+            if next.kind == NextKind::Call {
+                self.send_call(alloc, setting, point, next, &mut sent)?;
+            }
+        }
+        Ok(sent)
+    }
+
+    /// Adds what a call sends: to the callee's entry, and from each of its exits back.
+    fn send_call(
+        &self,
+        alloc: Global,
+        setting: Setting,
+        point: ContextPoint,
+        next: &Next,
+        sent: &mut Sent,
+    ) -> Result<(), FlowFault> {
+        sent.add_call(setting.task, setting.guide, point, next)?;
+        let Ok((_, len)) = fetch(setting.task.rom(), point.address) else {
+            return Ok(());
+        };
+        let after = point.address.wrapping_add(u16::from(len));
+        for exit in self.exits_of(alloc, sub_of(next.address))? {
+            sent.add_return(setting.task, setting.guide, point, after, next, &exit)?;
+        }
+        Ok(())
+    }
+
+    /// Notes the calls of a judged row.
+    pub(crate) fn note_calls(
+        &mut self,
+        alloc: Global,
+        setting: Setting,
+        point: ContextPoint,
+        judged: &JudgedRow,
+    ) -> Result<(), FlowFault> {
+        for next in nexts_of(setting.manner, judged) {
+            if next.kind == NextKind::Call {
+                self.call(alloc, point, next)?;
+            }
+        }
+        Ok(())
+    }
+
+    /// Notes a call.
+    fn call(&mut self, alloc: Global, point: ContextPoint, next: &Next) -> Result<(), FlowFault> {
+        let callee = sub_of(next.address);
+        self.entries.insert(next.address)?;
+        if self.entries.len() >= PROC_LIMIT {
+            return Err(FlowFault::Limit);
+        }
+        self.calls.insert(call_number(callee, point.number()))?;
+        if !self.timed.contains(&point.proc) || self.timed.contains(&callee) {
+            return Ok(());
+        }
+        self.timed.insert(callee)?;
+        let mut rows = Vec::new(alloc);
+        for (number, _) in self.rows.range(
+            ContextPoint::first_of(callee)..=ContextPoint::last_of(callee),
+        ) {
+            rows.push(*number)?;
+        }
+        for number in rows {
+            self.waiting.insert(number)?;
+        }
+        Ok(())
+    }
+
+    /// Notes what was found of a row. The result is whether its exit changed.
+    pub(crate) fn note(
+        &mut self,
+        number: u64,
+        state: &AbsState,
+        judged: &JudgedRow,
+        manner: Manner,
+    ) -> bool {
+        let Some(row) = self.rows.get_mut(&number) else {
+            return false;
+        };
+        row.reason = judged.reason;
+        row.bytes = state.shape.bytes();
+        let mut exit = None;
+        for next in nexts_of(manner, judged) {
+            row.bytes = row.bytes.max(next.state.shape.bytes());
+            if next.kind == NextKind::Exit {
+                exit = Some(next.state.copied());
+            }
+        }
+        if row.leaves_as(&exit) {
+            return false;
+        }
+        row.exit = exit;
+        true
+    }
+
+    /// The states in which a procedure is left, in the order of its rows.
+    fn exits_of(&self, alloc: Global, proc: u32) -> Result<Vec<AbsState>, FlowFault> {
+        let mut exits = Vec::new(alloc);
+        for (_, row) in self
+            .rows
+            .range(ContextPoint::first_of(proc)..=ContextPoint::last_of(proc))
+        {
+            if let Some(exit) = &row.exit {
+                exits.push(exit.copied())?;
+            }
+        }
+        Ok(exits)
+    }
+
+    /// The addresses of splits to which a row sends a state that is not in parts as a whole, with the register's range.
+    ///
+    /// # Errors
+    ///
+    /// `NoMemory` where memory was refused.
+    pub fn lacking(
+        &self,
+        alloc: Global,
+        setting: Setting,
+        number: u64,
+    ) -> Result<Vec<(u16, ByteRange)>, FlowFault> {
+        let Sent { lacking, .. } = self.sent_from(alloc, setting, number)?;
+        Ok(lacking)
+    }
+
+    /// What a row sends on.
+    pub(crate) fn sent_from(
+        &self,
+        alloc: Global,
+        setting: Setting,
+        number: u64,
+    ) -> Result<Sent, FlowFault> {
+        let Some(row) = self.rows.get(&number) else {
+            return Ok(Sent::none(alloc));
+        };
+        let point = ContextPoint::of(number);
+        let timed = self.is_timed(point.proc);
+        let judged = judged_row(alloc, setting.task, point.plain(), timed, &row.state);
+        self.sent_by(alloc, setting, point, &judged)
+    }
+
+    /// The steps between the rows.
+    ///
+    /// # Errors
+    ///
+    /// `NoMemory` where memory was refused.
+    pub fn edges(&self, alloc: Global, setting: Setting) -> Result<Vec<RowEdge>, FlowFault> {
+        let mut edges = Vec::new(alloc);
+        for (number, _) in self.rows.iter() {
+            let sent = self.sent_from(alloc, setting, *number)?;
+            for arriving in sent.states.as_slice() {
+                if let Some(to) = self.number_of(setting.task, arriving) {
+                    edges.push(RowEdge {
+                        from: *number,
+                        to,
+                        effect: arriving.effect,
+                        kind: arriving.kind,
+                    })?;
+                }
+            }
+        }
+        Ok(edges)
+    }
+
+    /// The number of the place whose row has a state that arrives.
+    pub(crate) fn number_of(&self, task: &Task, arriving: &Arriving) -> Option<u64> {
+        for class in 0..CLASSES {
+            let number = ContextPoint {
+                class,
+                ..arriving.to
+            }
+            .number();
+            let row = self.rows.get(&number)?;
+            if joined(&row.state, &arriving.state, task.cells().len()).is_some() {
+                return Some(number);
+            }
+        }
+        None
+    }
+}
+
+/// What tightens a row.
+fn tightening<'t>(
+    setting: Setting<'t>,
+    number: u64,
+    address: u16,
+    thresholds: &'t Thresholds,
+) -> Tightening<'t> {
+    let pointer = match fetch(setting.task.rom(), address) {
+        Ok((instr, _)) => pointer_of(&instr),
+        Err(_) => None,
+    };
+    Tightening {
+        said: facts_at(setting.task.said().facts(), address),
+        ranges: setting.guide.ranges_at(address),
+        part: ContextPoint::of(number).part,
+        found: setting.guide.facts_of(number),
+        pointer,
+        relates: setting.manner.relates,
+        thresholds,
+        cells: setting.task.cells().len(),
+    }
+}
+
+/// The successors to which an analysis goes on from a judged row.
+fn nexts_of<'j>(manner: Manner, judged: &'j JudgedRow) -> &'j [Next] {
+    match &judged.nexts {
+        Some(nexts) if manner.explores || judged.reason.is_none() => nexts.as_slice(),
+        _ => &[],
+    }
+}
+
+/// A state at an entry.
+fn entering(to: ContextPoint, state: AbsState) -> Arriving {
+    Arriving {
+        to,
+        state,
+        effect: Effect::unchanged(),
+        kind: ArrivingKind::Jump,
+    }
+}
+
+/// What is known of the variables together after a step.
+pub(crate) fn space_after(manner: Manner, space: &Space, arriving: &Arriving) -> Space {
+    if manner.relates {
+        space.after(&arriving.effect, arriving.state.shape.len())
+    } else {
+        Space::full()
+    }
+}

@@ -1,0 +1,168 @@
+// What an inferring run finds.
+
+ghost use Rattle.std.specs.Prelude.{◌≡◌, IfOk, IfSome};
+
+use crate::judged::Judged;
+use crate::search::{bound_and_lessen, clear};
+use address_map::Rom;
+use analysis::{FlowFault, judged_row};
+use annotations::Given;
+use explored_plans::{Base, ExploredPlan, Plan, Progress, Search, SearchContext};
+use inferred_rows::ContextPoint;
+use std::alloc::Global;
+use t_states::MAX_BUDGET;
+
+/// The most visits of rows in one analysis.
+const VISITS: u32 = 2_000_000;
+
+/// How many times the stack region is fitted to the depth.
+const FITTINGS: u32 = 4;
+
+/// What an inferring run found.
+#[derive(Drop)]
+pub struct Inference<'r, 'g> {
+    /// The region, the budget and the board, and what was given.
+    pub base: Base<'g>,
+    /// The notes that were found, with the rows that an analysis finds by them.
+    pub explored: ExploredPlan,
+    /// What the writer answers, with the facts of rows.
+    pub judged: Judged<'r>,
+    /// How many trials were taken.
+    pub trials: u32,
+    /// The refused addresses that no move helped, rising.
+    pub stuck: Vec<u16>,
+}
+
+/// Finds annotations by which the writer makes a certificate, in at most `trials` trials (docs/INFERENCE.md). What is
+/// given stays. The same ROM and the same given annotations always give the same answer. None if the ROM has no bytes
+/// or more than 16,384.
+///
+/// # Errors
+///
+/// `Limit` if an analysis takes more rows than a certificate can have; `NoMemory` where memory was refused.
+pub fn inferred<'r, 'g, P: Progress>(
+    alloc: Global,
+    bytes: &'r [u8],
+    given: &'g Given,
+    trials: u32,
+    progress: &mut P,
+) -> Result<Option<Inference<'r, 'g>>, FlowFault>
+    // What is accepted is accepted for this ROM.
+    ensures rom { IfOk result (λ found. IfSome found (λ f. f.judged ≡ bytes.now)) }
+{
+    let Some(rom) = Rom::of(bytes) else {
+        return Ok(None);
+    };
+    let mut base = Base::deduced(alloc, &rom, given)?;
+    if given.nmi.is_none() && given.budget.is_none() && enables_nmis(alloc, &rom, &base)? {
+        base.budget = Some(MAX_BUDGET as u16);
+    }
+    let mut plan = Plan::empty(alloc);
+    let mut left = trials;
+    for round in 0..FITTINGS {
+        let is_last = given.low.is_some() || round == FITTINGS - 1;
+        let Fitting {
+            explored,
+            left: rest,
+            low,
+            judged,
+            stuck,
+        } = fitted(alloc, bytes, &rom, &base, plan, left, is_last, progress)?;
+        left = rest;
+        if let Some(judged) = judged {
+            return Ok(Some(Inference {
+                base,
+                explored,
+                judged,
+                trials: trials.saturating_sub(left),
+                stuck,
+            }));
+        }
+        let ExploredPlan { plan: found, .. } = explored;
+        plan = found;
+        base.region.low = low;
+    }
+    Ok(None)
+}
+
+/// What a search found with one stack region.
+#[derive(Drop)]
+struct Fitting<'r> {
+    explored: ExploredPlan,
+    /// How many trials are left.
+    left: u32,
+    /// The low end of the stack region that fits the depth.
+    low: u16,
+    /// What the writer answers, where the region fits.
+    judged: Option<Judged<'r>>,
+    /// The refused addresses that no move helped, rising.
+    stuck: Vec<u16>,
+}
+
+/// Searches with one stack region. If it fits the depth, or `is_last`, loops are bounded and the writer answers.
+fn fitted<'r, P: Progress>(
+    alloc: Global,
+    bytes: &'r [u8],
+    rom: &Rom,
+    base: &Base,
+    plan: Plan,
+    left: u32,
+    is_last: bool,
+    progress: &mut P,
+) -> Result<Fitting<'r>, FlowFault>
+    ensures { IfOk result (λ fitting. IfSome fitting.judged (λ judged. judged ≡ bytes.now)) }
+{
+    let map = base.board.map(rom.len());
+    let context = SearchContext::of(rom, &map, base, VISITS);
+    let Some(explored) = ExploredPlan::of(alloc, &context, plan)? else {
+        return Err(FlowFault::Limit);
+    };
+    let mut search = Search::of(alloc, &context, explored, left, progress)?;
+    clear(&mut search)?;
+    let low = low_of(base, search.explored.list.depth(alloc)?);
+    let mut judged = None;
+    if is_last || low == base.region.low {
+        judged = Some(bound_and_lessen(&mut search, bytes)?);
+    }
+    let Search { explored, left, .. } = search;
+    let stuck = explored.refused_addresses(alloc)?;
+    Ok(Fitting {
+        explored,
+        left,
+        low,
+        judged,
+        stuck,
+    })
+}
+
+/// The low end of the stack region that leaves room for this many bytes, one word at least.
+fn low_of(base: &Base, depth: u32) -> u16 {
+    let depth = depth.max(2).min(0x400) as u16;
+    base.region
+        .top
+        .saturating_sub(depth)
+        .max(base.board.work_start())
+}
+
+/// Whether some row writes a byte to the NMI enable, and to nothing else.
+fn enables_nmis(alloc: Global, rom: &Rom, base: &Base) -> Result<bool, FlowFault> {
+    let map = base.board.map(rom.len());
+    let context = SearchContext::of(rom, &map, base, VISITS);
+    let Some(explored) = ExploredPlan::of(alloc, &context, Plan::empty(alloc))? else {
+        return Ok(false);
+    };
+    let Some(task) = context.task(&explored.said) else {
+        return Ok(false);
+    };
+    let ground = task.ground();
+    for (number, row) in explored.list.rows().iter() {
+        let place = ContextPoint::of(*number).plain();
+        let judged = judged_row(alloc, &task, place, false, &row.state);
+        for write in judged.writes.as_slice() {
+            if write.at.value().is_some() && ground.may_enable(write) {
+                return Ok(true);
+            }
+        }
+    }
+    Ok(false)
+}

@@ -1,0 +1,109 @@
+// What the writer answers to a plan.
+
+ghost use Rattle.std.specs.Prelude.{◌≡◌, IfOk};
+
+use analysis::FlowFault;
+use cert_checker::Accepted;
+use cert_writer::{WriterFault, certify_flow};
+use explored_plans::{ExploredPlan, SearchContext, exploring};
+use fact_closure::{FactSearch, needed_facts};
+use inferred_rows::{Guide, Manner};
+use inferring::{Setting, Worklist};
+use std::alloc::Global;
+use std::marker::Model;
+
+/// What the writer answers to a plan for a ROM, with the facts that it takes. What is accepted is accepted for the ROM.
+#[derive(Drop)]
+pub struct Judged<'r> {
+    bytes: &'r [u8],
+    answer: Result<Accepted<'r>, WriterFault>,
+    guide: Guide,
+}
+
+impl<'r> Model for Judged<'r> {
+    ghost use Rattle.std.specs.Prelude.{◌≡◌, List, ℕ, IfOk};
+
+    ghost Value = { List ℕ };
+
+    ghost view = { λ j. j.bytes.now };
+
+    ghost invariant = { λ j. IfOk j.answer (λ accepted. accepted.rom ≡ j.bytes.now) };
+}
+
+impl<'r> Judged<'r> {
+    /// What the checker accepted, or why there is no certificate.
+    pub fn answer(&self) -> &Result<Accepted<'r>, WriterFault> {
+        &self.answer
+    }
+
+    /// The same, by value.
+    pub fn into_answer(self) -> Result<Accepted<'r>, WriterFault>
+        ensures { IfOk result (λ accepted. accepted.rom ≡ self.entry) }
+    {
+        self.answer
+    }
+
+    /// The facts of rows, and which states are distinguished.
+    pub fn guide(&self) -> &Guide {
+        &self.guide
+    }
+
+    /// Whether the answer is better than another: it accepts, or where the other names a cycle without bounds, it names
+    /// another or none, or it refuses another place for its time.
+    pub(crate) fn is_better_than(&self, before: &Judged) -> bool {
+        match (&self.answer, &before.answer) {
+            (Ok(_), _) => true,
+            (Err(WriterFault::Limit), _) => false,
+            (Err(WriterFault::LoopUnbounded(at)), Err(WriterFault::LoopUnbounded(before))) => {
+                at != before
+            }
+            (Err(_), Err(WriterFault::LoopUnbounded(_))) => true,
+            (Err(WriterFault::Refused(refused)), Err(WriterFault::Refused(before))) => {
+                matches!(refused.reason.number(), 17 | 18) && refused.address != before.address
+            }
+            _ => false,
+        }
+    }
+}
+
+/// What the writer answers to an explored plan, with the facts that it needs.
+pub(crate) fn judge<'r>(
+    alloc: Global,
+    context: &SearchContext,
+    bytes: &'r [u8],
+    explored: &ExploredPlan,
+) -> Result<Judged<'r>, FlowFault>
+    ensures { IfOk result (λ judged. judged ≡ bytes.now) }
+{
+    let Some(task) = context.task(&explored.said) else {
+        return Ok(Judged {
+            bytes,
+            answer: Err(WriterFault::Limit),
+            guide: Guide::none(alloc),
+        });
+    };
+    let search = FactSearch {
+        setting: exploring(&task, &explored.guide),
+        related: &explored.list,
+        visits: context.visits(),
+    };
+    let guide = needed_facts(alloc, &search)?;
+    let setting = Setting {
+        task: &task,
+        guide: &guide,
+        manner: Manner {
+            explores: false,
+            relates: false,
+        },
+    };
+    let list = Worklist::run(alloc, setting, context.visits())?;
+    let flow = list.into_flow(alloc, setting)?;
+    match certify_flow(alloc, bytes, &explored.said, &flow) {
+        Err(WriterFault::NoMemory) => Err(FlowFault::NoMemory),
+        answer => Ok(Judged {
+            bytes,
+            answer,
+            guide,
+        }),
+    }
+}

@@ -1,0 +1,14 @@
+// The search for annotations (docs/INFERENCE.md, "The search"): moves that take refusals away, each tried by an
+// analysis.
+#![tactic(auto)]
+
+mod cells;
+mod inference;
+mod inlines;
+mod judged;
+mod plain;
+mod search;
+
+pub use inference::{Inference, inferred};
+pub use judged::Judged;
+pub use plain::{plain_annotations, without_fact};

@@ -1,0 +1,115 @@
+// What was found as plain annotations.
+
+use crate::inference::Inference;
+use analysis::{FlowFault, facts_at};
+use annotations::{Annotations, FactNote, Notes};
+use cert_fields::Facts;
+use explored_plans::{Family, copy_of_split};
+use inferred_rows::ContextPoint;
+use std::alloc::Global;
+
+/// The most facts of an address.
+const FACTS: usize = 4;
+
+/// What was found as plain annotations, with the facts of an address for all of its rows; None where contexts or more
+/// than four facts at an address were found. Whether `check` accepts the ROM with them is not known yet.
+///
+/// # Errors
+///
+/// `NoMemory` where memory was refused.
+pub fn plain_annotations(
+    alloc: Global,
+    found: &Inference,
+) -> Result<Option<Annotations>, FlowFault> {
+    if !has_plain_form(found) {
+        return Ok(None);
+    }
+    let mut facts = Vec::new(alloc);
+    for fact in found.base.given.facts.as_slice() {
+        facts.push(*fact)?;
+    }
+    for (number, own) in found.judged.guide().facts.iter() {
+        let address = ContextPoint::of(*number).address;
+        add_facts(&mut facts, address, own)?;
+    }
+    facts.sort_by_key(|note| note.at)?;
+    for note in facts.as_slice() {
+        if facts_at(&facts, note.at).len() > FACTS {
+            return Ok(None);
+        }
+    }
+    let said = found.explored.plan.annotations(alloc, &found.base)?;
+    Ok(Some(with_facts(alloc, &said, facts)?))
+}
+
+/// The same annotations with other facts, which are sorted by address.
+fn with_facts(
+    alloc: Global,
+    said: &Annotations,
+    facts: Vec<FactNote>,
+) -> Result<Annotations, FlowFault> {
+    let mut notes = Notes {
+        inlines: Vec::from_slice(alloc, said.inlines())?,
+        splits: Vec::new(alloc),
+        facts,
+        loops: Vec::from_slice(alloc, said.loops())?,
+        cells: Vec::from_slice(alloc, said.cells())?,
+    };
+    for split in said.splits() {
+        notes.splits.push(copy_of_split(alloc, split)?)?;
+    }
+    Ok(Annotations::of(said.region(), said.budget(), said.board(), notes))
+}
+
+/// The same annotations without the fact at a place in their list.
+///
+/// # Errors
+///
+/// `NoMemory` where memory was refused.
+pub fn without_fact(
+    alloc: Global,
+    said: &Annotations,
+    place: usize,
+) -> Result<Annotations, FlowFault> {
+    let mut facts = Vec::new(alloc);
+    for (at, note) in said.facts().iter().enumerate() {
+        if at != place {
+            facts.push(*note)?;
+        }
+    }
+    with_facts(alloc, said, facts)
+}
+
+/// Whether all that was given and found can be said without the keys that only a writer that infers reads.
+fn has_plain_form(found: &Inference) -> bool {
+    let given = found.base.given;
+    given.contexts.is_empty()
+        && given.turns.is_empty()
+        && given.facts.iter().all(|note| note.part.is_none())
+        && given.loops.iter().all(|note| !note.rises)
+        && found
+            .explored
+            .plan
+            .findings
+            .iter()
+            .all(|finding| match &finding.family {
+                Family::Calls(_) | Family::Turns(_) => false,
+                Family::Loop(note) => !note.rises,
+                Family::Inlines(_) | Family::Split(_) | Family::Cells(_) => true,
+            })
+}
+
+/// Adds the facts of a row at an address, each once.
+fn add_facts(facts: &mut Vec<FactNote>, at: u16, own: &Facts) -> Result<(), FlowFault> {
+    for fact in own.as_slice() {
+        let is_there = facts.iter().any(|note| note.at == at && note.fact == *fact);
+        if !is_there {
+            facts.push(FactNote {
+                at,
+                fact: *fact,
+                part: None,
+            })?;
+        }
+    }
+    Ok(())
+}

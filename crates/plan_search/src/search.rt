@@ -1,0 +1,177 @@
+// The search.
+
+ghost use Rattle.std.specs.Prelude.{◌≡◌, IfOk, IfSome};
+
+use crate::cells::try_cells;
+use crate::inlines::{try_context, try_inline, try_inline_split};
+use crate::judged::{Judged, judge};
+use analysis::FlowFault;
+use cert_writer::WriterFault;
+use explored_plans::{ExploredPlan, Plan, Progress, Search};
+use plan_loops::{try_first_turn, try_unroll, with_counters, with_other_bounds};
+use plan_splits::{try_join, try_lookup, try_parts};
+
+/// The most moves that are kept.
+const MOVES: u32 = 2_000;
+
+/// The most steps of the search for bounds of loops.
+const BOUNDS: u32 = 60;
+
+/// Takes refusals away, move by move, until none is left or no move helps.
+pub(crate) fn clear<P: Progress>(search: &mut Search<P>) -> Result<(), FlowFault> {
+    for _ in 0..MOVES {
+        if search.explored.is_clean() || !search.has_trials() {
+            return Ok(());
+        }
+        match helping(search)? {
+            Some(explored) => search.keep(explored)?,
+            None => return Ok(()),
+        }
+    }
+    Ok(())
+}
+
+/// The first move that helps: what is cheap first, then cells, then what costs trials.
+fn helping<P: Progress>(search: &mut Search<P>) -> Result<Option<ExploredPlan>, FlowFault> {
+    let refused = search.explored.refused_addresses(search.alloc)?;
+    for address in refused.as_slice() {
+        let found = cheap(search, *address)?;
+        if found.is_some() || !search.has_trials() {
+            return Ok(found);
+        }
+    }
+    let found = try_cells(search)?;
+    if found.is_some() {
+        return Ok(found);
+    }
+    for address in refused.as_slice() {
+        let found = dear(search, *address)?;
+        if found.is_some() || !search.has_trials() {
+            return Ok(found);
+        }
+    }
+    Ok(None)
+}
+
+fn cheap<P: Progress>(
+    search: &mut Search<P>,
+    refused: u16,
+) -> Result<Option<ExploredPlan>, FlowFault> {
+    let found = try_parts(search, refused)?;
+    if found.is_some() {
+        return Ok(found);
+    }
+    let found = try_inline(search, refused)?;
+    if found.is_some() {
+        return Ok(found);
+    }
+    let found = try_inline_split(search, refused)?;
+    if found.is_some() {
+        return Ok(found);
+    }
+    try_lookup(search, refused)
+}
+
+fn dear<P: Progress>(
+    search: &mut Search<P>,
+    refused: u16,
+) -> Result<Option<ExploredPlan>, FlowFault> {
+    let found = try_first_turn(search, refused)?;
+    if found.is_some() {
+        return Ok(found);
+    }
+    let found = try_unroll(search, refused)?;
+    if found.is_some() {
+        return Ok(found);
+    }
+    let found = try_context(search, refused)?;
+    if found.is_some() {
+        return Ok(found);
+    }
+    try_join(search, refused)
+}
+
+/// Bounds the loops of timed procedures, and answers what the writer answers at last.
+fn bound<'r, P: Progress>(search: &mut Search<P>, bytes: &'r [u8]) -> Result<Judged<'r>, FlowFault>
+    ensures { IfOk result (λ judged. judged ≡ bytes.now) }
+{
+    let mut judged = judge(search.alloc, search.context, bytes, &search.explored)?;
+    for _ in 0..BOUNDS {
+        let plans = match judged.answer() {
+            Err(WriterFault::LoopUnbounded(_)) => with_counters(search)?,
+            Err(WriterFault::Refused(refused))
+                if matches!(refused.reason.number(), 6 | 7 | 12 | 17) => {
+                with_other_bounds(search, refused.address)?
+            }
+            _ => return Ok(judged),
+        };
+        match first_better(search, bytes, &judged, plans)? {
+            Some((explored, better)) => {
+                search.keep(explored)?;
+                judged = better;
+            }
+            None => return Ok(judged),
+        }
+    }
+    Ok(judged)
+}
+
+/// The same; an accepted plan loses the families that it does not need.
+pub(crate) fn bound_and_lessen<'r, P: Progress>(
+    search: &mut Search<P>,
+    bytes: &'r [u8],
+) -> Result<Judged<'r>, FlowFault>
+    ensures { IfOk result (λ judged. judged ≡ bytes.now) }
+{
+    let judged = bound(search, bytes)?;
+    if judged.answer().is_ok() {
+        lessen(search, bytes, judged)
+    } else {
+        Ok(judged)
+    }
+}
+
+/// The first of these plans whose answer is better.
+fn first_better<'r, P: Progress>(
+    search: &mut Search<P>,
+    bytes: &'r [u8],
+    judged: &Judged<'r>,
+    plans: Vec<Plan>,
+) -> Result<Option<(ExploredPlan, Judged<'r>)>, FlowFault>
+    ensures { IfOk result (λ found. IfSome found (λ both. both.1 ≡ bytes.now)) }
+{
+    for plan in plans {
+        if let Some(explored) = search.try_plan(plan)? {
+            let other = judge(search.alloc, search.context, bytes, &explored)?;
+            if other.is_better_than(judged) {
+                return Ok(Some((explored, other)));
+            }
+        }
+    }
+    Ok(None)
+}
+
+/// Leaves families out, the last ones first, as long as the plan is accepted without them. The answer is that to the
+/// plan that is left.
+fn lessen<'r, P: Progress>(
+    search: &mut Search<P>,
+    bytes: &'r [u8],
+    judged: Judged<'r>,
+) -> Result<Judged<'r>, FlowFault>
+    requires { judged ≡ bytes.now }
+    ensures { IfOk result (λ judged. judged ≡ bytes.now) }
+{
+    let mut judged = judged;
+    for place in (0..search.explored.plan.findings.len()).rev() {
+        let plan = search.explored.plan.without(search.alloc, place)?;
+        let Some(explored) = ExploredPlan::of(search.alloc, search.context, plan)? else {
+            continue;
+        };
+        let other = judge(search.alloc, search.context, bytes, &explored)?;
+        if other.answer().is_ok() {
+            search.keep(explored)?;
+            judged = other;
+        }
+    }
+    Ok(judged)
+}

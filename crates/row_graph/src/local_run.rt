@@ -1,0 +1,148 @@
+// Runs of a procedure from one state.
+
+use abs_state::AbsState;
+use abs_step::NextKind;
+use analysis::{FlowFault, Task, joined, judged_row, sub_of};
+use board_fetch::fetch;
+use inferred_rows::ContextPoint;
+use inferring::Worklist;
+use intervals::Domain;
+use std::alloc::Global;
+use std::collections::{BTreeMap, BTreeSet};
+
+/// After how many joins an address takes no more states.
+const JOINS: u16 = 24;
+
+/// A run of a procedure from one state: the states that come to each address, joined.
+#[derive(Drop)]
+pub struct LocalRun<'w> {
+    task: &'w Task<'w>,
+    /// The analysis whose exits of callees count.
+    list: &'w Worklist,
+    proc: u32,
+    rows: BTreeMap<u16, AbsState>,
+    joins: BTreeMap<u16, u16>,
+    waiting: BTreeSet<u16>,
+}
+
+impl<'w> LocalRun<'w> {
+    /// A run that has not begun.
+    pub fn new(alloc: Global, task: &'w Task<'w>, list: &'w Worklist, proc: u32) -> LocalRun<'w> {
+        LocalRun {
+            task,
+            list,
+            proc,
+            rows: BTreeMap::new(alloc),
+            joins: BTreeMap::new(alloc),
+            waiting: BTreeSet::new(alloc),
+        }
+    }
+
+    /// The state at an address, if one came there.
+    pub fn state(&self, address: u16) -> Option<&AbsState> {
+        self.rows.get(&address)
+    }
+
+    /// A state comes to an address.
+    pub fn arrive(&mut self, address: u16, state: &AbsState) -> Result<(), FlowFault> {
+        if let Some(row) = self.rows.get_mut(&address) {
+            let Some(both) = joined(row, state, self.task.cells().len()) else {
+                return Ok(());
+            };
+            let joins = self.joins.get(&address).copied().unwrap_or(0);
+            if row.covers(&both) || joins >= JOINS {
+                return Ok(());
+            }
+            *row = both;
+            self.joins.insert(address, joins.saturating_add(1))?;
+        } else {
+            self.rows.insert(address, state.copied())?;
+        }
+        self.waiting.insert(address)?;
+        Ok(())
+    }
+
+    /// The lowest waiting address, which waits no more.
+    pub fn take_waiting(&mut self) -> Option<u16> {
+        self.waiting.pop_first()
+    }
+
+    /// The states that an address of the run sends to addresses of its procedure.
+    ///
+    /// # Errors
+    ///
+    /// `NoMemory` where memory was refused.
+    pub fn sent(&self, alloc: Global, address: u16) -> Result<Vec<(u16, AbsState)>, FlowFault> {
+        let mut sent = Vec::new(alloc);
+        if let Some(state) = self.rows.get(&address) {
+            send(
+                alloc, self.task, self.list, self.proc, address, state, &mut sent,
+            )?;
+        }
+        Ok(sent)
+    }
+
+    /// Goes on until no address waits, but not beyond `goal`. The result is whether it came to its end within `most`
+    /// steps.
+    ///
+    /// # Errors
+    ///
+    /// `NoMemory` where memory was refused.
+    pub fn run_to(&mut self, alloc: Global, goal: u16, most: u32) -> Result<bool, FlowFault> {
+        for _ in 0..most {
+            let Some(address) = self.take_waiting() else {
+                return Ok(true);
+            };
+            if address == goal {
+                continue;
+            }
+            for (to, state) in self.sent(alloc, address)? {
+                self.arrive(to, &state)?;
+            }
+        }
+        Ok(false)
+    }
+}
+
+/// Adds the states that a state at an address of a procedure sends to addresses of the procedure. After a call they are
+/// those from each exit of the callee.
+///
+/// # Errors
+///
+/// `NoMemory` where memory was refused.
+pub(crate) fn send(
+    alloc: Global,
+    task: &Task,
+    list: &Worklist,
+    proc: u32,
+    address: u16,
+    state: &AbsState,
+    sent: &mut Vec<(u16, AbsState)>,
+) -> Result<(), FlowFault> {
+    let place = ContextPoint::at(proc, address).plain();
+    let judged = judged_row(alloc, task, place, list.is_timed(proc), state);
+    let Some(nexts) = &judged.nexts else {
+        return Ok(());
+    };
+    for next in nexts.as_slice() {
+        match next.kind {
+            NextKind::Jump => sent.push((next.address, next.state.copied()))?,
+            NextKind::Call => {
+                let Ok((_, len)) = fetch(task.rom(), address) else {
+                    continue;
+                };
+                let after = address.wrapping_add(u16::from(len));
+                let callee = sub_of(next.address);
+                for (_, row) in list.rows().range(
+                    ContextPoint::first_of(callee)..=ContextPoint::last_of(callee),
+                ) {
+                    if let Some(exit) = &row.exit {
+                        sent.push((after, next.state.after_call(exit)))?;
+                    }
+                }
+            }
+            NextKind::Exit => {}
+        }
+    }
+    Ok(())
+}
