@@ -273,11 +273,8 @@ ask check "$six.rom" six.toml --cert pipe
 wait
 judge "a pipe as FILE" 0 "$table" ''
 holds "what the pipe takes" piped.cert "$six.cert"
-ln -s linked.cert link.cert
-ask check "$six.rom" six.toml --cert link.cert
-judge "a link to no file as FILE" 0 "$table" ''
-holds "what the link leads to" linked.cert "$six.cert"
 : > linked.cert
+ln -s linked.cert link.cert
 chmod 640 linked.cert
 ask check "$six.rom" six.toml --cert link.cert
 judge "a link to a file as FILE" 0 "$table" ''
@@ -292,7 +289,7 @@ judge "check --quiet, refused" 1 '' ''
 # Files that are something else.
 printf ':0600000031004418FE0073\n:00000001FF\n' > six.hex
 ask verify six.hex "$six.cert"
-judge "Intel HEX as ROM" 1 $'refused 0000 1 Rom\n' $'galcert: six.hex looks like an Intel HEX file; ROM is a file of the bytes themselves\ngalcert: '"$six.cert"$' is for a ROM of 6 bytes, and the ROM has 29\n'
+judge "Intel HEX as ROM" 1 $'refused 0000 1 Rom\n' $'galcert: six.hex looks like an Intel HEX file; ROM is a file of the bytes themselves\ngalcert: '"$six.cert"$' is for a ROM of 6 bytes, and the ROM has 36\n'
 ask verify "$six.rom" six.toml
 judge "annotations as certificate" 1 $'bad certificate line 1\n' $'galcert: six.toml looks like a TOML text; CERT is a certificate\n'
 ask verify nmi.rom "$six.cert"
