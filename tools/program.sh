@@ -205,7 +205,7 @@ sed 's/148/50666/' loop.toml > late.toml
 ask check missing.rom late.toml
 judge "no ROM, and bad annotations" 3 '' $'device error\ngalcert: cannot open missing.rom: No such file or directory (os error 2)\n'
 ask check empty late.toml
-judge "bad annotations, and a ROM of no bytes" 1 $'bad annotation budget\n' $'galcert: empty has no bytes; a ROM has 1 to 16,384\n'
+judge "bad annotations, and a ROM of no bytes" 1 $'bad annotation budget\n' $'galcert: empty has no bytes; a ROM has 1 to 16,384\nlate.toml:5: \'budget\' has to be 0 to 50665 T-states, and stands exactly where nmi is true\n'
 ask check loop.rom missing.toml
 judge "no annotations" 3 '' $'device error\ngalcert: cannot open missing.toml: No such file or directory (os error 2)\n'
 ask check "$six.rom" "$six.cert"
@@ -304,10 +304,10 @@ judge "a command that is not UTF-8" 2 '' $'word 1 is not UTF-8: \\xc3\n'
 # Keys with control characters stay on one line.
 printf '"accepted\\nmain\\u001B[2J\\u009F \\"\\\\\\u0000\\b\\t\\f\\r\\u007F" = 1\nlow = 0x4380\ntop = 0x4400\n' > control.toml
 ask check "$six.rom" control.toml
-judge "a key with control characters" 1 $'bad annotation accepted\\nmain\\u001B[2J\\u009F "\\\\u0000\\b\\t\\f\\r\\u007F\n' ''
+judge "a key with control characters" 1 $'bad annotation accepted\\nmain\\u001B[2J\\u009F "\\\\u0000\\b\\t\\f\\r\\u007F\n' +
 printf 'low = 0x4380\ntop = 0x4400\ntext = 1\n' > text.toml
 ask check "$six.rom" text.toml
-judge "an unknown key called text" 1 $'bad annotation text\n' ''
+judge "an unknown key called text" 1 $'bad annotation text\n' $'text.toml:3: annotations have no key \'text\'\n'
 
 # Outputs that take a part of what they are given: files of at most 1,024 bytes. A text of 1,025 to 4,096 bytes is written at once,
 # and the last line of a certificate of 1,026 bytes is cut, so that only the count of a write tells it.
@@ -346,7 +346,7 @@ holds "a FILE that cannot be written whole stays as it was" part.cert "$six.cert
 # Memory that runs out.
 rows 65535 > rows.cert
 (ulimit -v 20000; "$galcert" verify "$six.rom" rows.cert > out 2> err < /dev/null; echo $? > status)
-judge "65,535 rows in 20 MB" 4 '' $'out of memory\n'
+judge "65,535 rows in 20 MB" 4 '' $'out of memory\ngalcert: memory ran out while rows.cert was read\n'
 
 # Memory that is refused once, at each growth in turn: the answer is `out of memory`, and nothing is written; or it is the whole
 # answer, where the program can do without.
