@@ -381,9 +381,6 @@ growths "check of the states without memory" 40 check "$states.rom" "$states.tom
 growths "verify of the states without memory" 10 verify "$states.rom" "$states.cert"
 growths "check --infer without memory" 1 check "$six.rom" --infer --cert kept.cert
 growths "suggest without memory" 1 suggest "$six.rom"
-growths "check --infer of a routine without memory" 10 check loop.rom --infer --cert kept.cert
-growths "suggest for a routine without memory" 10 suggest loop.rom
-growths "check --infer of the states without memory" "${GROWTHS_APART:-20000}" check "$states.rom" --infer --cert kept.cert
 
 # Certificates carried to version 2.
 ask migrate "$six.cert"
