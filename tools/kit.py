@@ -12,7 +12,9 @@ import sys
 import threading
 
 # What the functions are called that are used here, and what they take.
-TAKEN = {"main": ["words"], "rtlib.Crate.stamp": ["self"], "rtlib.Crate.below": ["self"]}
+TAKEN = {"main": ["words"], "rtlib.Crate.below": ["self"]}
+# Some kits remember the sums by themselves, by a function of this name. The others sum by this one.
+REMEMBERS, SUMS = "stamp_once", {"rtlib.Crate.stamp": ["self"]}
 
 
 class Unexpected(Exception):
@@ -41,9 +43,11 @@ def load(taken=None):
         loader.exec_module(rt)
     except (Exception, SystemExit) as error:
         raise Unexpected(f"{plain()} does not load as a module ({error})") from error
-    for name, parameters in {**TAKEN, **(taken or {})}.items():
+    has_sums = hasattr(rt, REMEMBERS)
+    for name, parameters in {**TAKEN, **({} if has_sums else SUMS), **(taken or {})}.items():
         check(rt, name, parameters)
-    remember_sums(rt.rtlib.Crate)
+    if not has_sums:
+        remember_sums(rt.rtlib.Crate)
     remember_lists(rt.rtlib.Crate)
     return rt
 
