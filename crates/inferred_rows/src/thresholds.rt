@@ -58,11 +58,15 @@ impl Thresholds {
         }
     }
 
-    /// The greatest threshold that is not above a word; if there is none, 1, or 0 for the word 0.
+    /// The greatest threshold from 1 on that is not above a word; 1 if there is none, and 0 for the word 0. So a counter
+    /// that is never 0 keeps that, and where it is lowered it does not seem to wrap.
     pub fn word_below(&self, word: u16) -> u16 {
-        match self.words.range(0..=word).next_back() {
+        if word == 0 {
+            return 0;
+        }
+        match self.words.range(1..=word).next_back() {
             Some(threshold) => *threshold,
-            None => word.min(1),
+            None => 1,
         }
     }
 
@@ -74,11 +78,14 @@ impl Thresholds {
         }
     }
 
-    /// The greatest threshold that is not above a byte; if there is none, 1, or 0 for the byte 0.
+    /// The greatest threshold from 1 on that is not above a byte; 1 if there is none, and 0 for the byte 0.
     pub fn byte_below(&self, byte: u8) -> u8 {
-        match self.bytes.range(0..=u16::from(byte)).next_back() {
+        if byte == 0 {
+            return 0;
+        }
+        match self.bytes.range(1..=u16::from(byte)).next_back() {
             Some(threshold) => (*threshold).min(255) as u8,
-            None => byte.min(1),
+            None => 1,
         }
     }
 }
