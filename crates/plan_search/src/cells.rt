@@ -7,7 +7,11 @@ use board_fetch::fetch;
 use explored_plans::{ExploredPlan, Family, Plan, Progress, Search, read_by};
 use inferred_rows::ContextPoint;
 use intervals::ByteRange;
+use plan_splits::try_lookup;
+use row_graph::FlowGraph;
+use std::alloc::Global;
 use std::collections::{BTreeMap, BTreeSet};
+use std::mem::replace;
 
 /// How many times the ranges are made larger.
 const ROUNDS: u32 = 24;
@@ -66,6 +70,30 @@ impl Attempted {
         }
         Ok(())
     }
+
+    /// Whether a cell says nothing: its range is full, and it is not the low byte of a word whose high byte has a range.
+    fn is_idle(&self, at: u16, range: ByteRange) -> bool {
+        let serves = match self.ranges.get(&at.wrapping_add(1)) {
+            Some(high) => !high.is_full(),
+            None => false,
+        };
+        range.is_full() && !serves
+    }
+
+    /// Drops the cells that say nothing.
+    fn drop_idle(&mut self, alloc: Global) -> Result<(), FlowFault> {
+        let mut idle = Vec::new(alloc);
+        for (at, range) in self.ranges.iter() {
+            if self.is_idle(*at, *range) {
+                idle.push(*at)?;
+            }
+        }
+        for at in idle {
+            self.ranges.remove(&at);
+            self.changed = true;
+        }
+        Ok(())
+    }
 }
 
 /// A plan with cells for the bytes of work RAM that are read at one address: each begins with what the last store
@@ -89,6 +117,7 @@ pub(crate) fn try_cells<P: Progress>(
         };
         cells.changed = false;
         let unarmed = grow_by(search, &explored, &mut cells)?;
+        cells.drop_idle(search.alloc)?;
         if cells.changed {
             continue;
         }
@@ -99,7 +128,52 @@ pub(crate) fn try_cells<P: Progress>(
         if is_worse_without_drops(search, &explored) || has_these_cells(search, &cells) {
             return Ok(None);
         }
-        return Ok(Some(explored));
+        if takes_some_away(search, &explored) {
+            return Ok(Some(explored));
+        }
+        return with_lookup(search, explored);
+    }
+    Ok(None)
+}
+
+/// Whether some refused place is not refused in another plan.
+fn takes_some_away<P: Progress>(search: &Search<P>, explored: &ExploredPlan) -> bool {
+    search
+        .explored
+        .refused
+        .iter()
+        .any(|(number, _)| !explored.refused.contains_key(number))
+}
+
+/// Another plan with a split for a look-up, which takes refusals away that the search has too.
+fn with_lookup<P: Progress>(
+    search: &mut Search<P>,
+    explored: ExploredPlan,
+) -> Result<Option<ExploredPlan>, FlowFault> {
+    let refused = explored.refused_addresses(search.alloc)?;
+    let edges = explored.edges(search.alloc, search.context)?;
+    let graph = FlowGraph::of(search.alloc, &edges)?;
+    let here = replace(&mut search.explored, explored);
+    let graph_here = replace(&mut search.graph, graph);
+    let found = first_lookup(search, &refused);
+    search.explored = here;
+    search.graph = graph_here;
+    match found? {
+        Some(explored) if !is_worse_without_drops(search, &explored) => Ok(Some(explored)),
+        _ => Ok(None),
+    }
+}
+
+/// The first plan with a split for a look-up that takes the refusals at one of these addresses away.
+fn first_lookup<P: Progress>(
+    search: &mut Search<P>,
+    refused: &[u16],
+) -> Result<Option<ExploredPlan>, FlowFault> {
+    for address in refused {
+        let found = try_lookup(search, *address)?;
+        if found.is_some() {
+            return Ok(found);
+        }
     }
     Ok(None)
 }
