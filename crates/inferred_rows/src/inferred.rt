@@ -139,7 +139,7 @@ impl InferredRow {
         space: &Space,
         by: &Tightening,
     ) -> Result<JoinOutcome, FlowFault> {
-        let Some(both) = joined(&self.state, state, by.cells) else {
+        let Some(both) = join_of(&self.state, state, by.cells) else {
             return Ok(JoinOutcome::Unjoined);
         };
         let grew = by.relates && self.space.join(space);
@@ -168,7 +168,7 @@ impl InferredRow {
         space: &Space,
         by: &Tightening,
     ) -> Result<JoinOutcome, FlowFault> {
-        let Some(both) = joined(&self.state, state, by.cells) else {
+        let Some(both) = join_of(&self.state, state, by.cells) else {
             return Ok(JoinOutcome::Unjoined);
         };
         if by.relates && self.space.join(space) {
@@ -203,6 +203,16 @@ impl InferredRow {
             (Some(old), Some(new)) => old.covers(new) && new.covers(old),
             _ => false,
         }
+    }
+}
+
+/// The join of two states, if one row can have both. The writer's analysis joins no state in which an NMI may come before
+/// the cells are armed; here two such states are joined, so that they take one row.
+pub fn join_of(one: &AbsState, other: &AbsState, cells: usize) -> Option<AbsState> {
+    if one.mode == other.mode && one.armed == other.armed {
+        one.join(other)
+    } else {
+        joined(one, other, cells)
     }
 }
 

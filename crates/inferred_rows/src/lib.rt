@@ -13,6 +13,6 @@ mod thresholds;
 
 pub use context_point::{CLASSES, CONTEXT_LIMIT, ContextPoint};
 pub use guide::{Guide, Manner};
-pub use inferred::{InferredRow, JoinOutcome, Tightening, speaks_of};
+pub use inferred::{InferredRow, JoinOutcome, Tightening, join_of, speaks_of};
 pub use operands::pointer_of;
 pub use thresholds::Thresholds;

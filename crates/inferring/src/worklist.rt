@@ -7,7 +7,7 @@ use abs_state::AbsState;
 use abs_step::{Next, NextKind};
 use affine::Space;
 use analysis::{
-    Flow, FlowFault, JudgedRow, MAIN, NMI, Noted, ProgramPoint, Task, facts_at, joined, judged_row,
+    Flow, FlowFault, JudgedRow, MAIN, NMI, Noted, ProgramPoint, Task, facts_at, judged_row,
     names_slots_below, sub_of,
 };
 use annotations::FactNote;
@@ -15,7 +15,7 @@ use board_fetch::fetch;
 use cert_fields::Facts;
 use cert_form::{PROC_LIMIT, ROW_LIMIT};
 use inferred_rows::{
-    CLASSES, ContextPoint, Guide, InferredRow, JoinOutcome, Manner, Thresholds, Tightening,
+    CLASSES, ContextPoint, Guide, InferredRow, JoinOutcome, Manner, Thresholds, Tightening, join_of,
     pointer_of,
 };
 use intervals::ByteRange;
@@ -458,7 +458,7 @@ impl Worklist {
             }
             .number();
             let row = self.rows.get(&number)?;
-            if joined(&row.state, &arriving.state, task.cells().len()).is_some() {
+            if join_of(&row.state, &arriving.state, task.cells().len()).is_some() {
                 return Some(number);
             }
         }
