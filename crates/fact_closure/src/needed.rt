@@ -99,9 +99,22 @@ impl Stage {
 }
 
 impl<'s> FactSearch<'s> {
+    /// The number of the row with relations for a row without. It is that of the same class, or else of the first class:
+    /// a wide store may seem to enable NMIs, and then the analysis without relations distinguishes more classes.
+    fn related_number(&self, number: u64) -> u64 {
+        if self.related.row(number).is_some() {
+            return number;
+        }
+        ContextPoint {
+            class: 0,
+            ..ContextPoint::of(number)
+        }
+        .number()
+    }
+
     /// Whether a row is refused in the analysis without relations, and not in the one with them.
     fn is_refused(&self, number: u64, row: &InferredRow) -> bool {
-        match self.related.row(number) {
+        match self.related.row(self.related_number(number)) {
             Some(related) => is_soft(row.reason) && related.reason.is_none(),
             None => false,
         }
@@ -142,13 +155,14 @@ impl<'s> FactSearch<'s> {
         let mut all = BTreeMap::new(alloc);
         let mut table = guide.copied(alloc)?;
         for (number, row) in plain.rows().iter() {
-            let Some(related) = self.related.row(*number) else {
+            let place = self.related_number(*number);
+            let Some(related) = self.related.row(place) else {
                 continue;
             };
             if !self.is_refused(*number, row) {
                 continue;
             }
-            let Ok((instr, _)) = fetch(self.setting.task.rom(), ContextPoint::of(*number).address)
+            let Ok((instr, _)) = fetch(self.setting.task.rom(), ContextPoint::of(place).address)
             else {
                 continue;
             };
@@ -159,7 +173,7 @@ impl<'s> FactSearch<'s> {
                 if !says_of(relation, &pointer) {
                     continue;
                 }
-                if let Some(closure) = self.closure(alloc, incoming, &table, *number, relation)? {
+                if let Some(closure) = self.closure(alloc, incoming, &table, place, relation)? {
                     merge(&mut all, &closure)?;
                     merge(&mut table.facts, &closure)?;
                 }
@@ -182,7 +196,8 @@ impl<'s> FactSearch<'s> {
             if !self.is_refused(*number, row) {
                 continue;
             }
-            if let Some(best) = self.best_for(alloc, incoming, &table, *number, row)? {
+            let place = self.related_number(*number);
+            if let Some(best) = self.best_for(alloc, incoming, &table, place, row)? {
                 merge(&mut all, &best)?;
                 merge(&mut table.facts, &best)?;
             }
@@ -260,11 +275,12 @@ impl<'s> FactSearch<'s> {
             let Some(counter) = self.counter_at(point) else {
                 continue;
             };
-            let Some(related) = self.related.row(*number) else {
+            let place = self.related_number(*number);
+            let Some(related) = self.related.row(place) else {
                 continue;
             };
             for relation in related.relations.as_slice() {
-                let facts = table.facts.get(number);
+                let facts = table.facts.get(&place);
                 let Some(left) = tightened(&row.state, facts, relation) else {
                     continue;
                 };
@@ -272,7 +288,7 @@ impl<'s> FactSearch<'s> {
                 if !says_of(relation, &counter) || !is_narrower {
                     continue;
                 }
-                if let Some(closure) = self.closure(alloc, incoming, &table, *number, relation)? {
+                if let Some(closure) = self.closure(alloc, incoming, &table, place, relation)? {
                     merge(&mut all, &closure)?;
                     merge(&mut table.facts, &closure)?;
                 }
@@ -312,22 +328,23 @@ impl<'s> FactSearch<'s> {
         let mut all = BTreeMap::new(alloc);
         let mut table = guide.copied(alloc)?;
         for (number, row) in plain.rows().iter() {
-            if incoming.to(*number).len() < 2 {
+            let place = self.related_number(*number);
+            if incoming.to(place).len() < 2 {
                 continue;
             }
-            let Some(related) = self.related.row(*number) else {
+            let Some(related) = self.related.row(place) else {
                 continue;
             };
             let mut state = row.state.copied();
             for relation in related.relations.as_slice() {
-                let facts = table.facts.get(number);
+                let facts = table.facts.get(&place);
                 let Some(left) = tightened(&state, facts, relation) else {
                     continue;
                 };
                 if !narrows(&state, &left, relation) {
                     continue;
                 }
-                let closure = self.closure(alloc, incoming, &table, *number, relation)?;
+                let closure = self.closure(alloc, incoming, &table, place, relation)?;
                 if let Some(closure) = closure {
                     merge(&mut all, &closure)?;
                     merge(&mut table.facts, &closure)?;
