@@ -207,9 +207,8 @@ impl ExploredPlan {
         false
     }
 
-    /// Whether another plan takes the refusals of an address away, and is no worse elsewhere. Where more code is
-    /// reached, more may be refused there.
-    pub fn is_bettered_by(&self, other: &ExploredPlan, address: u16) -> bool {
+    /// Whether another plan has rows at an address, and takes the refusals there away.
+    pub fn is_cleared_by(&self, other: &ExploredPlan, address: u16) -> bool {
         if other.rows_at(address).is_empty() {
             return false;
         }
@@ -218,8 +217,21 @@ impl ExploredPlan {
                 return false;
             }
         }
-        let led_nowhere = self.refusals_at(address).has_any(&[0, 10, 12]);
-        if led_nowhere && other.count_of_spots() > self.count_of_spots() {
+        true
+    }
+
+    /// Whether the rows at an address lead nowhere, or not with all of their states.
+    pub fn leads_nowhere(&self, address: u16) -> bool {
+        self.refusals_at(address).has_any(&[0, 10, 12])
+    }
+
+    /// Whether another plan takes the refusals of an address away, and is no worse elsewhere. Where more code is
+    /// reached, more may be refused there.
+    pub fn is_bettered_by(&self, other: &ExploredPlan, address: u16) -> bool {
+        if !self.is_cleared_by(other, address) {
+            return false;
+        }
+        if self.leads_nowhere(address) && other.count_of_spots() > self.count_of_spots() {
             return !self.drops_more(other);
         }
         !self.is_worse(other)

@@ -82,7 +82,7 @@ enum Stage {
     Wanted,
     /// Those of refused rows that say something of the pair through which they write.
     Pointing,
-    /// Those that narrow rows at which states join.
+    /// Those that narrow rows at which states join or are cut.
     Narrowing,
     /// Those that narrow the counters of loops.
     Counting,
@@ -317,7 +317,8 @@ impl<'s> FactSearch<'s> {
         judged_row(alloc, self.setting.task, point.plain(), timed, state).reason
     }
 
-    /// The relations that narrow rows at which states join, with all from which these follow.
+    /// The relations that narrow rows at which states join, or at which a split cuts them, with all from which these
+    /// follow.
     fn narrowing(
         &self,
         alloc: Global,
@@ -329,7 +330,8 @@ impl<'s> FactSearch<'s> {
         let mut table = guide.copied(alloc)?;
         for (number, row) in plain.rows().iter() {
             let place = self.related_number(*number);
-            if incoming.to(place).len() < 2 {
+            let is_cut = self.setting.task.split_at(ContextPoint::of(place).address).is_some();
+            if incoming.to(place).len() < 2 && !is_cut {
                 continue;
             }
             let Some(related) = self.related.row(place) else {

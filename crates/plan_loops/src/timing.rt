@@ -3,7 +3,7 @@
 use crate::counters::{counter_of, raised_variable};
 use crate::unrolling::{Unrolling, first_exits, unrollings};
 use analysis::{FlowFault, NMI};
-use annotations::{LoopNote, TurnNote};
+use annotations::{LoopNote, SplitNote, TurnNote};
 use explored_plans::{
     ExploredPlan, Family, Finding, Plan, Progress, Search, code_of, register_of, split_of,
 };
@@ -38,7 +38,7 @@ pub fn with_counters<P: Progress>(search: &Search<P>) -> Result<Vec<Plan>, FlowF
         let loops = search.loops(proc)?;
         for found in loops.as_slice() {
             let is_known = plan.has_loop(search.context.base(), found.head)
-                || plan.has_split(search.context.base(), found.head);
+                || has_turns_apart(search, &plan, found);
             if is_known {
                 continue;
             }
@@ -56,6 +56,25 @@ pub fn with_counters<P: Progress>(search: &Search<P>) -> Result<Vec<Plan>, FlowF
         plans.push(plan)?;
     }
     Ok(plans)
+}
+
+/// Whether a split at the head of a loop keeps its turns apart: it does not end within the loop.
+fn has_turns_apart<P: Progress>(search: &Search<P>, plan: &Plan, found: &NaturalLoop) -> bool {
+    search
+        .context
+        .base()
+        .given
+        .splits
+        .iter()
+        .any(|split| keeps_apart(split, found))
+        || plan.findings.iter().any(|finding| match &finding.family {
+            Family::Split(split) => keeps_apart(split, found),
+            _ => false,
+        })
+}
+
+fn keeps_apart(split: &SplitNote, found: &NaturalLoop) -> bool {
+    split.at == found.head && (split.until == split.at || !found.contains(split.until))
 }
 
 /// What bounds a loop: its counter, or where it has none, a split by turns. A loop of many turns that raises a variable

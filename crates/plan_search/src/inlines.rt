@@ -175,15 +175,20 @@ fn inline_sites<P: Progress>(search: &Search<P>, entry: u16) -> Result<Vec<u16>,
     Ok(sites)
 }
 
-/// The ranges of a register at calls, if those of each two are apart.
+/// The ranges of a register at calls that are reached, if those of each two are apart.
 fn parts_by_site<P: Progress>(
     search: &Search<P>,
     sites: &[u16],
     register: Register8,
 ) -> Result<Option<Vec<ByteRange>>, FlowFault> {
     let mut parts: Vec<ByteRange> = Vec::new(search.alloc);
+    let mut reached = 0usize;
     for site in sites {
-        for row in search.explored.rows_of(search.alloc, None, *site)? {
+        let rows = search.explored.rows_of(search.alloc, None, *site)?;
+        if !rows.is_empty() {
+            reached = reached.saturating_add(1);
+        }
+        for row in rows {
             let range = row.state.byte(register);
             if range.high().saturating_sub(range.low()) > 7 {
                 return Ok(None);
@@ -203,7 +208,7 @@ fn parts_by_site<P: Progress>(
         }
         last = Some(*part);
     }
-    if parts.len() < sites.len() || parts.len() > 64 {
+    if parts.len() < reached || parts.len() > 64 {
         return Ok(None);
     }
     Ok(Some(parts))

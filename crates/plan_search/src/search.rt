@@ -31,9 +31,10 @@ pub(crate) fn clear<P: Progress>(search: &mut Search<P>) -> Result<(), FlowFault
     Ok(())
 }
 
-/// The first move that helps: what is cheap first, then cells, then what costs trials.
+/// The first move that helps: what is cheap first, then cells, then what costs trials. Rows that lead nowhere come
+/// before others, since more code is reached from them.
 fn helping<P: Progress>(search: &mut Search<P>) -> Result<Option<ExploredPlan>, FlowFault> {
-    let refused = search.explored.refused_addresses(search.alloc)?;
+    let refused = in_order(search)?;
     for address in refused.as_slice() {
         let found = cheap(search, *address)?;
         if found.is_some() || !search.has_trials() {
@@ -51,6 +52,20 @@ fn helping<P: Progress>(search: &mut Search<P>) -> Result<Option<ExploredPlan>, 
         }
     }
     Ok(None)
+}
+
+/// The refused addresses: those that lead nowhere first, then the others, both rising.
+fn in_order<P: Progress>(search: &Search<P>) -> Result<Vec<u16>, FlowFault> {
+    let refused = search.explored.refused_addresses(search.alloc)?;
+    let mut order = Vec::new(search.alloc);
+    for first in [true, false] {
+        for address in refused.as_slice() {
+            if search.explored.leads_nowhere(*address) == first {
+                order.push(*address)?;
+            }
+        }
+    }
+    Ok(order)
 }
 
 fn cheap<P: Progress>(

@@ -50,7 +50,7 @@ pub struct Splitting<'p> {
 }
 
 /// A plan with this split that takes the refusals at an address away. Of the ends that do, the one with the fewest
-/// rows.
+/// rows. Without an end the parts stay apart the longest: where that does not help, no end is tried.
 pub fn with_split<P: Progress>(
     search: &mut Search<P>,
     refused: u16,
@@ -75,6 +75,9 @@ pub fn with_split<P: Progress>(
     let Some(open) = split_until(search, refused, splitting, at)? else {
         return Ok(None);
     };
+    if !search.explored.is_cleared_by(&open, refused) {
+        return Ok(None);
+    }
     let ends = ends_of(search, &open, refused, splitting)?;
     let mut best = None;
     let mut least = usize::MAX;
