@@ -66,7 +66,7 @@ pub fn suggested(alloc: Global, rom: &[u8], given: &str) -> (u8, Vec<u8>) {
 }
 
 /// Whether the file that `suggest` prints is enough: with it, and without a trial, `check --infer` answers as the search
-/// did.
+/// did. The certificate may differ, since the file leaves out facts that are not needed.
 pub fn is_enough(alloc: Global, rom: &[u8], given: &str) -> bool {
     let (status, file) = suggested(alloc, rom, given);
     let searched = inferred(alloc, rom, given.as_bytes(), TRIALS);
@@ -74,5 +74,4 @@ pub fn is_enough(alloc: Global, rom: &[u8], given: &str) -> bool {
     status == searched.status
         && again.status == searched.status
         && again.printed == searched.printed
-        && again.kept == searched.kept
 }
