@@ -77,31 +77,19 @@ pub fn check_named_on<A: Source, B: Source, K: Sink, W: Sink, N: Sink, P: Progre
         Ok(bytes) => bytes,
         Err(stop) => return stop.status(),
     };
+    let read = bytes.as_slice();
     let text = match read_all(alloc, annot) {
         Ok(text) => text,
         Err(stop) => return stop.status(),
     };
-    let said = match said_by(
-        alloc,
-        bytes.as_slice(),
-        text.as_slice(),
-        how.names,
-        out,
-        notes,
-    ) {
+    let said = match said_by(alloc, read, text.as_slice(), how.names, out, notes) {
         Ok(said) => said,
         Err(stop) => return stop.status(),
     };
-    warn_of_misplaced(
-        alloc,
-        how.names.names(),
-        bytes.as_slice(),
-        said.as_slice(),
-        notes,
-    );
+    warn_of_misplaced(alloc, how.names.names(), read, said.as_slice(), notes);
     let accepted = match certified(
         alloc,
-        bytes.as_slice(),
+        read,
         said.as_slice(),
         how.trials,
         out,
@@ -113,14 +101,7 @@ pub fn check_named_on<A: Source, B: Source, K: Sink, W: Sink, N: Sink, P: Progre
     };
     match keep_and_tell(accepted.certificate(), keep, out) {
         Ok(()) => {
-            warn_of_idle(
-                alloc,
-                how,
-                bytes.as_slice(),
-                said.as_slice(),
-                &accepted,
-                notes,
-            );
+            warn_of_idle(alloc, how, read, said.as_slice(), &accepted, notes);
             ExitStatus::Done.code()
         }
         Err(DeviceFault) => ExitStatus::Device.code(),

@@ -47,17 +47,18 @@ pub fn suggest_named_on<A: Source, B: Source, W: Sink, N: Sink, P: Progress>(
         Ok(bytes) => bytes,
         Err(stop) => return stop.status(),
     };
+    let read = bytes.as_slice();
     let text = match read_all(alloc, annot) {
         Ok(text) => text,
         Err(stop) => return stop.status(),
     };
-    let said = match said_by(alloc, bytes.as_slice(), text.as_slice(), names, out, notes) {
+    let said = match said_by(alloc, read, text.as_slice(), names, out, notes) {
         Ok(said) => said,
         Err(stop) => return stop.status(),
     };
     suggest(
         alloc,
-        bytes.as_slice(),
+        read,
         said.as_slice(),
         text.as_slice(),
         trials,
