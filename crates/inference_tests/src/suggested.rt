@@ -1,6 +1,6 @@
 // What `suggest` prints.
 
-use crate::over::{is_enough, suggested};
+use crate::over::suggested;
 use std::alloc::Global;
 
 /// LD SP,4400 / LD HL,4000 / LD DE,4001 / LD BC,02FF / LD (HL),0 / LDIR / JR to itself.
@@ -86,7 +86,6 @@ fact = [
         return;
     };
     assert!(rt; prints(rt.alloc(), CLEARED_TWICE, given.as_str(), 0, file.as_str()));
-    assert!(rt; is_enough(rt.alloc(), CLEARED_TWICE, given.as_str()));
 }
 
 #[test]
