@@ -1,9 +1,10 @@
 // `galcert check` with names for addresses.
 
-ghost use Rattle.std.specs.Prelude.{◌≡◌, ◌≢◌, ◌⊎◌, IfOk, OnOk};
+ghost use Rattle.std.specs.Prelude.{◌≡◌, ◌≢◌, ◌⊎◌, Some, IfOk, OnOk};
 ghost use Rattle.cert_form.specs.Text.{text_of};
 ghost use Rattle.command_parts.specs.Judging.{IsAccepted};
 ghost use Rattle.command_parts.specs.Status.{IsStatus};
+ghost use Rattle.command_verdicts.specs.Verdict.{accepted_text};
 ghost use Rattle.inference_commands.specs.Inferring.{InfersAndTells};
 ghost use Rattle.texts.specs.Device.{HasFailed, CountsNoFailure, Takes};
 
@@ -77,31 +78,114 @@ pub fn check_named_on<A: Source, B: Source, K: Sink, W: Sink, N: Sink, P: Progre
         Ok(bytes) => bytes,
         Err(stop) => return stop.status(),
     };
-    let read = bytes.as_slice();
     let text = match read_all(alloc, annot) {
         Ok(text) => text,
         Err(stop) => return stop.status(),
     };
-    let said = match said_by(alloc, read, text.as_slice(), how.names, out, notes) {
-        Ok(said) => said,
-        Err(stop) => return stop.status(),
-    };
-    warn_of_misplaced(alloc, how.names.names(), read, said.as_slice(), notes);
-    let accepted = match certified(
+    check_read(
         alloc,
-        read,
-        said.as_slice(),
-        how.trials,
+        bytes.as_slice(),
+        text.as_slice(),
+        how,
+        keep,
         out,
         notes,
         progress,
-    ) {
+    )
+}
+
+/// The same for the bytes that were read of ROM and ANNOT.
+fn check_read<K: Sink, W: Sink, N: Sink, P: Progress>(
+    alloc: Global,
+    rom: &[u8],
+    text: &[u8],
+    how: NamedCheck<'_>,
+    keep: &mut K,
+    out: &mut W,
+    notes: &mut N,
+    progress: &mut P,
+) -> u8
+    ensures known { IsStatus result }
+    ensures accepted { result ≡ 0
+        → InfersAndTells Takes (Some rom.now) (K.state keep.old) (K.state keep.new)
+        (W.state out.old) (W.state out.new) }
+    ensures refused { result ≡ 1 → keep.new ≡ keep.old }
+    ensures device { result ≡ 3
+        → HasFailed (K.state keep.old) (K.state keep.new)
+        ⊎ HasFailed (W.state out.old) (W.state out.new) }
+    ensures told { result ≢ 3
+        → CountsNoFailure (K.state keep.old) (K.state keep.new)
+        × CountsNoFailure (W.state out.old) (W.state out.new) }
+    ensures memory { result ≡ 4 → (keep.new ≡ keep.old) × (out.new ≡ out.old) }
+    ensures keep_next { CountsNoFailure (K.state keep.old) (K.state keep.new)
+        ⊎ (out.new ≡ out.old) }
+{
+    let said = match said_by(alloc, rom, text, how.names, out, notes) {
+        Ok(said) => said,
+        Err(stop) => return stop.status(),
+    };
+    check_said(alloc, rom, said.as_slice(), how, keep, out, notes, progress)
+}
+
+/// The same for annotations without names.
+fn check_said<K: Sink, W: Sink, N: Sink, P: Progress>(
+    alloc: Global,
+    rom: &[u8],
+    said: &[u8],
+    how: NamedCheck<'_>,
+    keep: &mut K,
+    out: &mut W,
+    notes: &mut N,
+    progress: &mut P,
+) -> u8
+    ensures known { IsStatus result }
+    ensures accepted { result ≡ 0
+        → InfersAndTells Takes (Some rom.now) (K.state keep.old) (K.state keep.new)
+        (W.state out.old) (W.state out.new) }
+    ensures refused { result ≡ 1 → keep.new ≡ keep.old }
+    ensures device { result ≡ 3
+        → HasFailed (K.state keep.old) (K.state keep.new)
+        ⊎ HasFailed (W.state out.old) (W.state out.new) }
+    ensures told { result ≢ 3
+        → CountsNoFailure (K.state keep.old) (K.state keep.new)
+        × CountsNoFailure (W.state out.old) (W.state out.new) }
+    ensures memory { result ≡ 4 → (keep.new ≡ keep.old) × (out.new ≡ out.old) }
+    ensures keep_next { CountsNoFailure (K.state keep.old) (K.state keep.new)
+        ⊎ (out.new ≡ out.old) }
+{
+    warn_of_misplaced(alloc, how.names.names(), rom, said, notes);
+    let accepted = match certified(alloc, rom, said, how.trials, out, notes, progress) {
         Ok(accepted) => accepted,
         Err(stop) => return stop.status(),
     };
+    keep_named(alloc, rom, said, how, &accepted, keep, out, notes)
+}
+
+/// Writes the text of an accepted certificate to `keep`, then the table to `out`, and then warnings to `notes`. The
+/// result is the exit status: 0, or 3 where a device failed.
+fn keep_named<K: Sink, W: Sink, N: Sink>(
+    alloc: Global,
+    rom: &[u8],
+    said: &[u8],
+    how: NamedCheck<'_>,
+    accepted: &Accepted,
+    keep: &mut K,
+    out: &mut W,
+    notes: &mut N,
+) -> u8
+    ensures known { (result ≡ 0) ⊎ (result ≡ 3) }
+    ensures done { result ≡ 0
+        → Takes (K.state keep.old) (text_of accepted.now.certificate) (K.state keep.new)
+        × Takes (W.state out.old) (accepted_text accepted.now.certificate) (W.state out.new) }
+    ensures device { result ≡ 3
+        → HasFailed (K.state keep.old) (K.state keep.new)
+        ⊎ HasFailed (W.state out.old) (W.state out.new) }
+    ensures keep_next { CountsNoFailure (K.state keep.old) (K.state keep.new)
+        ⊎ (out.new ≡ out.old) }
+{
     match keep_and_tell(accepted.certificate(), keep, out) {
         Ok(()) => {
-            warn_of_idle(alloc, how, read, said.as_slice(), &accepted, notes);
+            warn_of_idle(alloc, how, rom, said, accepted, notes);
             ExitStatus::Done.code()
         }
         Err(DeviceFault) => ExitStatus::Device.code(),
