@@ -44,8 +44,8 @@ judge 0 "$notes" '' check raid.rom raid.toml -s raid.sym
 judge 0 "$notes" '' check raid.rom raid.toml -s raid.sym --listing raid.lst
 
 # Where an address is, in each command.
-sed 's/"nldir"/"clr"/' raid.toml > other.toml
-judge 1 'bad annotation loop' 'galcert: no symbol nldri; did you mean nldir, nmi or ldig?' check raid.rom <(sed 's/"nldir"/"nldri"/' raid.toml) -s raid.sym
+sed 's/"nldir"/"nldri"/' raid.toml > typo.toml
+judge 1 'bad annotation loop' $'galcert: no symbol nldri; did you mean nldir, nmi or ldig?\ntypo.toml:XX' check raid.rom typo.toml -s raid.sym
 
 # Files that are none.
 judge 2 '' 'raid.rom: no listing of z80asm, sjasmplus, SDCC, GNU as or crasm' check raid.rom --listing raid.rom
@@ -57,7 +57,7 @@ for words in 'check raid.rom raid.toml' 'suggest raid.rom' 'verify raid.rom raid
 done
 judge 3 '' $'device error\ngalcert: cannot open missing: No such file or directory (os error 2)' check raid.rom raid.toml -s missing
 judge 3 '' $'device error\ngalcert: cannot open missing: No such file or directory (os error 2)' verify raid.rom raid.toml --listing missing
-judge 2 '' 'FILE raid.sym and symbols raid.sym are the same file' check raid.rom raid.toml -s raid.sym --cert raid.sym
+judge 2 '' 'FILE raid.sym and --symbols raid.sym are the same file' check raid.rom raid.toml -s raid.sym --cert raid.sym
 
 # The same after the code moved.
 if command -v z80asm > /dev/null; then

@@ -4,6 +4,7 @@ use crate::devices::Input;
 use crate::ending::report;
 use annotation_faults::place_of_fault;
 use file_devices::{Likeness, certified_len};
+use named_commands::ProgramNames;
 use std::fs;
 
 /// The most bytes of a ROM.
@@ -71,8 +72,13 @@ pub fn hint_certificate(rt: &HostRuntime, rom: &Input, cert: &Input) {
 }
 
 /// Says what annotations look like, if they are none, and where they are at fault. With `infers` they were read for
-/// `--infer`.
-pub fn hint_annotations(rt: &HostRuntime, annot: &Input, infers: bool) {
+/// `--infer`. With `names` names may stand for addresses, and notes may say what is required.
+pub fn hint_annotations(
+    rt: &HostRuntime,
+    annot: &Input,
+    names: Option<&ProgramNames>,
+    infers: bool,
+) {
     let name = annot.path().escape_debug();
     match Likeness::of(annot.head()) {
         None | Some(Likeness::Toml) => {}
@@ -88,6 +94,19 @@ pub fn hint_annotations(rt: &HostRuntime, annot: &Input, infers: bool) {
     let Some(text) = annot.text() else {
         return;
     };
+    match names {
+        None => hint_fault(rt, annot, text, infers),
+        Some(names) => {
+            if let Ok(text) = names.numbered(rt.alloc(), text) {
+                hint_fault(rt, annot, text.as_slice(), infers || names.has_notes());
+            }
+        }
+    }
+}
+
+/// Says where annotations are at fault.
+fn hint_fault(rt: &HostRuntime, annot: &Input, text: &[u8], infers: bool) {
+    let name = annot.path().escape_debug();
     if let Ok(Some(place)) = place_of_fault(rt.alloc(), text, infers) {
         let why = &place.why;
         match (place.line, place.column) {

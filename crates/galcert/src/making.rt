@@ -79,9 +79,7 @@ pub fn check_files<'a>(rt: &'a HostRuntime, matches: &ArgMatches<'a>) -> u8 {
     tell_refused(rt, names.as_ref(), status, &out);
     if status == ExitStatus::Refused.code() {
         hint_rom(rt, &rom);
-        if names.is_none() {
-            hint_annotations(rt, &annot, infers);
-        }
+        hint_annotations(rt, &annot, names.as_ref(), infers);
     }
     let kept_failure = match kept.try_borrow_mut() {
         Ok(mut kept) => {
@@ -176,9 +174,7 @@ pub fn suggest_files<'a>(rt: &'a HostRuntime, matches: &ArgMatches<'a>) -> u8 {
     let status = finished(suggested, &mut out);
     if status == ExitStatus::Refused.code() {
         hint_rom(rt, &rom);
-        if names.is_none() {
-            hint_annotations(rt, &annot, true);
-        }
+        hint_annotations(rt, &annot, names.as_ref(), true);
     }
     let name = match matches.get_str(OUTPUT) {
         None | Some("-") => "standard output",

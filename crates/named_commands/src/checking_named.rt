@@ -10,6 +10,7 @@ ghost use Rattle.texts.specs.Device.{HasFailed, CountsNoFailure, Takes};
 
 use crate::bytes_source::BytesSource;
 use crate::program_names::ProgramNames;
+use crate::refused_warnings::warn_of_refused;
 use crate::reports::{tell_bad_note, tell_conflict, tell_lines, tell_unknown};
 use crate::unneeded::warn_of_unneeded;
 use crate::warnings::{warn_of_effects, warn_of_places};
@@ -156,7 +157,10 @@ fn check_said<K: Sink, W: Sink, N: Sink, P: Progress>(
     warn_of_misplaced(alloc, how.names.names(), rom, said, notes);
     let accepted = match certified(alloc, rom, said, how.trials, out, notes, progress) {
         Ok(accepted) => accepted,
-        Err(stop) => return stop.status(),
+        Err(stop) => {
+            warn_of_stop(alloc, how, rom, said, stop, notes);
+            return stop.status();
+        }
     };
     keep_named(alloc, rom, said, how, &accepted, keep, out, notes)
 }
@@ -202,6 +206,27 @@ fn warn_of_misplaced<N: Sink>(
 ) {
     if let Ok(given) = Given::read(alloc, said) {
         let _warned = warn_of_places(alloc, names, rom, &given, notes);
+    }
+}
+
+/// Warns of annotations that have no effect as far as a refused ROM is followed. After a search, or where a device
+/// failed or memory was refused, nothing is told.
+fn warn_of_stop<N: Sink>(
+    alloc: Global,
+    how: NamedCheck<'_>,
+    rom: &[u8],
+    said: &[u8],
+    stop: Stop,
+    notes: &mut N,
+) {
+    let Stop::Refused = stop else {
+        return;
+    };
+    if how.trials.is_some() {
+        return;
+    }
+    if let Ok(given) = Given::read(alloc, said) {
+        let _warned = warn_of_refused(alloc, how.names.names(), rom, &given, notes);
     }
 }
 

@@ -4,7 +4,9 @@
 
 mod bytes_source;
 mod checking_named;
+mod in_place;
 mod program_names;
+mod refused_warnings;
 mod reports;
 mod suggesting_named;
 mod unneeded;

@@ -1,10 +1,11 @@
 // Reads what names the addresses of a program: a symbol file and a listing.
 
+use crate::in_place::numbered;
 use crate::reports::{tell_lines, tell_note, tell_symbols};
 use command_parts::{ExitStatus, Stop};
 use source_lines::{AddressNames, ListingFault, Locations, SourceLines};
 use source_notes::{NoteFault, SourceNotes};
-use std::alloc::Global;
+use std::alloc::{AllocError, Global};
 use symbols::{SymbolFault, Symbols};
 use texts::{Sink, Source};
 
@@ -34,6 +35,17 @@ impl ProgramNames<'_> {
     /// The labels and the lines of addresses.
     pub fn names(&self) -> &AddressNames {
         &self.names
+    }
+
+    /// Whether notes of a listing are added to annotations.
+    pub fn has_notes(&self) -> bool {
+        self.notes.is_some()
+    }
+
+    /// A text of annotations in which each name for an address is replaced by the address. All else stays where it is,
+    /// so each line keeps its number. The error is refused memory.
+    pub fn numbered(&self, alloc: Global, text: &[u8]) -> Result<Vec<u8>, AllocError> {
+        numbered(alloc, text, &self.names.symbols)
     }
 }
 

@@ -16,13 +16,13 @@ use z80_decode::{Instr, Register8};
 
 /// An annotation of code.
 #[derive(Clone, Copy)]
-struct OfCode {
-    what: &'static str,
-    at: u16,
+pub(crate) struct OfCode {
+    pub(crate) what: &'static str,
+    pub(crate) at: u16,
 }
 
 /// The most bytes of an instruction, less one.
-const BEFORE: u16 = 3;
+pub(crate) const BEFORE: u16 = 3;
 
 /// A range with so many addresses says nothing of a single byte.
 const WIDE: u16 = 4096;
@@ -73,22 +73,12 @@ pub(crate) fn warn_of_effects<N: Sink>(
     }
     for split in &given.splits {
         if rows.binary_search(&split.at).is_ok() && !distinguishes(accepted, split) {
-            let named = names.named(split.at);
-            tell_note(
-                alloc,
-                notes,
-                format_args!("{named}: warning: the split distinguishes nothing"),
-            );
+            warn_of_split(alloc, names, split.at, notes);
         }
     }
     for cell in &given.cells {
         if !is_read(accepted, cell.at) {
-            let named = names.named(cell.at);
-            tell_note(
-                alloc,
-                notes,
-                format_args!("{named}: warning: nothing reads the cell"),
-            );
+            warn_of_cell(alloc, names, cell.at, notes);
         }
     }
     Ok(())
@@ -102,27 +92,59 @@ fn warn_of_no_row<N: Sink>(
     of_code: OfCode,
     notes: &mut N,
 ) {
+    if let Some(begin) = begun_before(accepted, of_code.at) {
+        warn_of_amid(alloc, names, of_code, begin, notes);
+        return;
+    }
     let OfCode { what, at } = of_code;
     let named = names.named(at);
-    match begun_before(accepted, at) {
-        Some(begin) => {
-            let begin = names.named(begin);
-            tell_note(
-                alloc,
-                notes,
-                format_args!("{named}: warning: the {what} is amid the instruction at {begin}"),
-            );
-        }
-        None => tell_note(
-            alloc,
-            notes,
-            format_args!("{named}: warning: the {what} has no effect, no row is here"),
-        ),
-    }
+    tell_note(
+        alloc,
+        notes,
+        format_args!("{named}: warning: the {what} has no effect, no row is here"),
+    );
+}
+
+/// Warns of an annotation amid the instruction that begins at another address.
+pub(crate) fn warn_of_amid<N: Sink>(
+    alloc: Global,
+    names: &AddressNames,
+    of_code: OfCode,
+    begin: u16,
+    notes: &mut N,
+) {
+    let OfCode { what, at } = of_code;
+    let named = names.named(at);
+    let begin = names.named(begin);
+    tell_note(
+        alloc,
+        notes,
+        format_args!("{named}: warning: the {what} is amid the instruction at {begin}"),
+    );
+}
+
+/// Warns of a split at an address whose register has one range alone.
+pub(crate) fn warn_of_split<N: Sink>(alloc: Global, names: &AddressNames, at: u16, notes: &mut N) {
+    let named = names.named(at);
+    tell_note(
+        alloc,
+        notes,
+        format_args!("{named}: warning: the split distinguishes nothing"),
+    );
+}
+
+/// Warns of a cell that nothing reads.
+pub(crate) fn warn_of_cell<N: Sink>(alloc: Global, names: &AddressNames, at: u16, notes: &mut N) {
+    let named = names.named(at);
+    tell_note(
+        alloc,
+        notes,
+        format_args!("{named}: warning: nothing reads the cell"),
+    );
 }
 
 /// The annotations of code, by kind.
-fn of_code(alloc: Global, given: &Given) -> Result<Vec<OfCode>, AllocError> {
+pub(crate) fn of_code(alloc: Global, given: &Given) -> Result<Vec<OfCode>, AllocError> {
     let mut all = Vec::new(alloc);
     for at in &given.inlines {
         add(&mut all, "inline call", *at)?;
@@ -212,7 +234,7 @@ fn distinguishes(accepted: &Accepted, split: &SplitNote) -> bool {
 }
 
 /// The range of a register.
-fn range_of(pairs: &Pairs, register: Register8) -> ByteRange {
+pub(crate) fn range_of(pairs: &Pairs, register: Register8) -> ByteRange {
     match register {
         Register8::A => pairs.af.high,
         Register8::B => pairs.bc.high,
@@ -234,11 +256,19 @@ fn is_read(accepted: &Accepted, at: u16) -> bool {
         let Some(instr) = accepted.code().instr_at(row.address) else {
             continue;
         };
-        for range in data_reads(&instr, row.pairs) {
-            if let Some(range) = range {
-                if has_byte(range, at) {
-                    return true;
-                }
+        if may_be(data_reads(&instr, row.pairs), at) {
+            return true;
+        }
+    }
+    false
+}
+
+/// Whether one of the addresses that an instruction reads may be this one.
+pub(crate) fn may_be(reads: [Option<WordRange>; 2], at: u16) -> bool {
+    for range in reads {
+        if let Some(range) = range {
+            if has_byte(range, at) {
+                return true;
             }
         }
     }

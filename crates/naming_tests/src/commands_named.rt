@@ -327,6 +327,37 @@ fn warnings(rt: HostRuntime) -> Result<(), Fail> {
     Ok(())
 }
 
+/// Annotations without effect in a refused ROM: LD SP,4400 / LD B,5 / LD A,(4000) / LD (0000),A / JR 0003.
+#[test]
+fn warnings_of_refused(rt: HostRuntime) -> Result<(), Fail> {
+    let files = Files {
+        annotations: "low = 0x4380\ntop = 0x4400\n\
+            inline = [{ at = \"halt\" }]\n\
+            loop = [{ at = 4, counter = \"B\" }, { at = 0x700, counter = \"B\" }]\n\
+            split = [{ at = 5, register = \"B\", parts = [[0, 4], [5, 255]], until = 8 }]\n\
+            cell = [{ at = 0x4000, lo = 0, hi = 255 }, { at = 0x4005, lo = 0, hi = 255 }]\n",
+        rom: b"\x31\x00\x44\x06\x05\x3A\x00\x40\x32\x00\x00\x18\xF6",
+        ..JUMP
+    };
+    let left = check_named(rt.alloc(), files);
+    let notes = str::from_utf8(left.notes.as_slice()).unwrap_or("?");
+    assert!(rt;
+        left.is(
+            1,
+            "refused 0008 6 WriteRom\n",
+            "0003 halt: warning: the inline call is at no CALL or RST\n\
+        0700: warning: the loop is beyond the ROM\n\
+        0004 halt+1: warning: the loop is amid the instruction at 0003 halt\n\
+        0005 halt+2: warning: the split distinguishes nothing\n\
+        4005: warning: nothing reads the cell\n\
+        0008 halt+5: refused 6 WriteRom\n"
+        ),
+        "{} {notes}",
+        left.status
+    );
+    Ok(())
+}
+
 /// A file of annotations with names, and the ROM is accepted with it.
 #[test]
 fn suggested(rt: HostRuntime) -> Result<(), Fail> {

@@ -4,6 +4,8 @@
 #[cfg(test)]
 mod commands_named;
 #[cfg(test)]
+mod in_place;
+#[cfg(test)]
 mod memory;
 #[cfg(test)]
 mod merged;
