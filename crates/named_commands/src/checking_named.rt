@@ -11,7 +11,7 @@ ghost use Rattle.texts.specs.Device.{HasFailed, CountsNoFailure, Takes};
 use crate::bytes_source::BytesSource;
 use crate::program_names::ProgramNames;
 use crate::refused_warnings::warn_of_refused;
-use crate::reports::{tell_bad_note, tell_conflict, tell_lines, tell_unknown};
+use crate::reports::{tell_bad_note, tell_conflict, tell_lines, tell_unknown_names};
 use crate::unneeded::warn_of_unneeded;
 use crate::warnings::{warn_of_effects, warn_of_places};
 use annotations::Given;
@@ -283,13 +283,27 @@ pub(crate) fn said_by<W: Sink, N: Sink>(
     }
     match named_text(alloc, rom, text, &names.names.symbols, found) {
         Ok(named) => {
-            for unknown in &named.unknown {
-                tell_unknown(alloc, notes, unknown);
-            }
+            tell_unknown_names(alloc, notes, named.unknown.as_slice());
             Ok(named.bytes)
         }
         Err(NamedFault::NoMemory) => Err(Stop::OutOfMemory),
-        Err(fault) => refuse_note(out, tell_conflict(alloc, notes, listing, &fault)),
+        Err(fault) => {
+            tell_unknown_texts(alloc, rom, text, names, notes);
+            refuse_note(out, tell_conflict(alloc, notes, listing, &fault))
+        }
+    }
+}
+
+/// Tells of the texts in annotations that name no address: one of them may be why a note says another thing.
+fn tell_unknown_texts<N: Sink>(
+    alloc: Global,
+    rom: &[u8],
+    text: &[u8],
+    names: &ProgramNames<'_>,
+    notes: &mut N,
+) {
+    if let Ok(named) = named_text(alloc, rom, text, &names.names.symbols, None) {
+        tell_unknown_names(alloc, notes, named.unknown.as_slice());
     }
 }
 

@@ -51,8 +51,38 @@ pub(crate) fn tell_lines<N: Sink>(
     }
 }
 
+/// Tells of texts in annotations that name no address: of the first three each, and of the others how many they are.
+/// The same text is told once.
+pub(crate) fn tell_unknown_names<N: Sink>(alloc: Global, notes: &mut N, unknown: &[UnknownName]) {
+    let mut told = 0usize;
+    let mut others = 0usize;
+    for (place, name) in unknown.iter().enumerate() {
+        let text = name.text.as_str();
+        if unknown
+            .iter()
+            .take(place)
+            .any(|before| before.text.as_str() == text)
+        {
+            continue;
+        }
+        if told < TOLD {
+            tell_unknown(alloc, notes, name);
+            told = told.saturating_add(1);
+        } else {
+            others = others.saturating_add(1);
+        }
+    }
+    if others > 0 {
+        tell_note(
+            alloc,
+            notes,
+            format_args!("galcert: {others} more texts name no address"),
+        );
+    }
+}
+
 /// Tells of a text in annotations that names no address.
-pub(crate) fn tell_unknown<N: Sink>(alloc: Global, notes: &mut N, unknown: &UnknownName) {
+fn tell_unknown<N: Sink>(alloc: Global, notes: &mut N, unknown: &UnknownName) {
     let fault = &unknown.fault;
     match fault {
         ResolveFault::Unknown { .. } => tell_note(alloc, notes, format_args!("galcert: {fault}")),

@@ -123,6 +123,19 @@ const REFUSED: &[Case] = &[
         out: "bad annotation loop\n",
         notes: "galcert: \"7\\n\": not a name or an address\n",
     },
+    // The same text once, the first three, and how many others.
+    Case {
+        files: Files {
+            annotations: "low = \"a\"\ntop = \"a\"\ninline = [{ at = \"b+\" }, { at = \"a\" }, { at = \"c+\" }, \
+                { at = \"d+\" }, { at = \"b+\" }, { at = \"e+\" }]\n",
+            symbols: "low equ $4380\n",
+            ..JUMP
+        },
+        status: 1,
+        out: "bad annotation low\n",
+        notes: "galcert: no symbol a; did you mean low?\ngalcert: \"b+\": not a name or an address\n\
+            galcert: \"c+\": not a name or an address\ngalcert: 2 more texts name no address\n",
+    },
     // Keys that are required have to come from somewhere.
     Case {
         files: Files {
@@ -178,6 +191,17 @@ const REFUSED: &[Case] = &[
         status: 1,
         out: "bad note line 1\n",
         notes: "game.lst:1: the stack is said otherwise before\n",
+    },
+    Case {
+        files: Files {
+            annotations: "low = \"lwo\"\n",
+            listing: "0000 00\t\t\tnop ;@ stack 4380..4400\n",
+            ..JUMP
+        },
+        status: 1,
+        out: "bad note line 1\n",
+        notes: "galcert: no symbol lwo; did you mean low, halt or stack?\n\
+            game.lst:1: the stack is said otherwise before\n",
     },
     // Files that are none of their kind: nothing else is read.
     Case {
