@@ -6,7 +6,8 @@ use crate::words::{LISTING, SYMBOLS, WARN_UNNEEDED};
 use clap::ArgMatches;
 use command_parts::ExitStatus;
 use file_devices::{FileSource, WriterSink};
-use named_commands::{NameFiles, ProgramNames, Watched, read_names, tell_refusal};
+use named_commands::{NameFiles, ProgramNames, Watched, read_names};
+use named_reports::tell_refusal;
 use texts::Sink;
 
 /// Whether the command line names a symbol file or a listing.

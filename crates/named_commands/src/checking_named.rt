@@ -10,16 +10,16 @@ ghost use Rattle.texts.specs.Device.{HasFailed, CountsNoFailure, Takes};
 
 use crate::bytes_source::BytesSource;
 use crate::program_names::ProgramNames;
-use crate::refused_warnings::warn_of_refused;
-use crate::reports::{tell_bad_note, tell_conflict, tell_lines, tell_unknown_names};
-use crate::unneeded::warn_of_unneeded;
-use crate::warnings::{warn_of_effects, warn_of_places};
 use annotations::Given;
 use command_parts::{ExitStatus, Stop, keep_and_tell, read_all, read_rom};
 use command_verdicts::bad_line;
 use commands::{make, read_annotations};
 use inference_commands::{Progress, infer};
 use named_annotations::{NamedFault, named_text};
+use named_reports::{
+    tell_bad_note, tell_conflict, tell_lines, tell_unknown_names, warn_of_effects, warn_of_places,
+    warn_of_refused, warn_of_unneeded,
+};
 use runner::cert_checker::Accepted;
 use source_lines::AddressNames;
 use source_notes::SourceNotes;

@@ -4,17 +4,11 @@
 
 mod bytes_source;
 mod checking_named;
-mod in_place;
 mod program_names;
-mod refused_warnings;
-mod reports;
 mod suggesting_named;
-mod unneeded;
-mod warnings;
 mod watched;
 
 pub use checking_named::{NamedCheck, check_named_on};
 pub use program_names::{NameFiles, ProgramNames, read_names};
-pub use reports::tell_refusal;
 pub use suggesting_named::suggest_named_on;
 pub use watched::Watched;

@@ -1,8 +1,7 @@
 // Reads what names the addresses of a program: a symbol file and a listing.
 
-use crate::in_place::numbered;
-use crate::reports::{tell_lines, tell_note, tell_symbols};
 use command_parts::{ExitStatus, Stop};
+use named_reports::{numbered, tell_lines, tell_note, tell_symbols};
 use source_lines::{AddressNames, ListingFault, Locations, SourceLines};
 use source_notes::{NoteFault, SourceNotes};
 use std::alloc::{AllocError, Global};

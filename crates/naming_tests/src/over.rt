@@ -3,8 +3,9 @@
 use inference_commands::Unwatched;
 use memory_devices::{Bytes, Taken};
 use named_commands::{
-    NameFiles, NamedCheck, Watched, check_named_on, read_names, suggest_named_on, tell_refusal,
+    NameFiles, NamedCheck, Watched, check_named_on, read_names, suggest_named_on,
 };
+use named_reports::tell_refusal;
 use std::alloc::Global;
 
 /// The files of a command. A symbol file and a listing without bytes are not named.

@@ -1,7 +1,8 @@
 // The lines of refusals, with names.
 
 use memory_devices::Taken;
-use named_commands::{Watched, tell_refusal};
+use named_commands::Watched;
+use named_reports::tell_refusal;
 use source_lines::{AddressNames, Locations, SourceLines};
 use std::test::Fail;
 use symbols::Symbols;

@@ -19,7 +19,7 @@ const KINDS: [(&str, &str); 5] = [
 
 /// Warns of each annotation without which `check` accepts the ROM too. Each is tried alone: without all of them the ROM
 /// may be refused. `said` is the text of annotations by which it is accepted.
-pub(crate) fn warn_of_unneeded<N: Sink>(
+pub fn warn_of_unneeded<N: Sink>(
     alloc: Global,
     names: &AddressNames,
     rom: &[u8],

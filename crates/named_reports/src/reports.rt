@@ -12,14 +12,14 @@ use texts::{Sink, put};
 const TOLD: usize = 3;
 
 /// Tells a line. What cannot be written, or made in memory, is left out.
-pub(crate) fn tell_note<N: Sink, D: fmt::Display + Drop>(alloc: Global, notes: &mut N, said: D) {
+pub fn tell_note<N: Sink, D: fmt::Display + Drop>(alloc: Global, notes: &mut N, said: D) {
     if let Ok(line) = format!(in alloc; "{said}\n") {
         let _told = put(notes, line.as_bytes());
     }
 }
 
 /// Tells why a symbol file is refused.
-pub(crate) fn tell_symbols<N: Sink>(alloc: Global, notes: &mut N, name: &str, fault: &SymbolFault) {
+pub fn tell_symbols<N: Sink>(alloc: Global, notes: &mut N, name: &str, fault: &SymbolFault) {
     match fault {
         SymbolFault::TwoValues { second, .. } => {
             tell_note(alloc, notes, format_args!("{name}:{second}: {fault}"));
@@ -31,13 +31,7 @@ pub(crate) fn tell_symbols<N: Sink>(alloc: Global, notes: &mut N, name: &str, fa
 }
 
 /// Tells of lines that were passed over: of the first three each, and of the others how many they are.
-pub(crate) fn tell_lines<N: Sink>(
-    alloc: Global,
-    notes: &mut N,
-    name: &str,
-    lines: &[u32],
-    what: &str,
-) {
+pub fn tell_lines<N: Sink>(alloc: Global, notes: &mut N, name: &str, lines: &[u32], what: &str) {
     for line in lines.iter().take(TOLD) {
         tell_note(alloc, notes, format_args!("{name}:{line}: warning: {what}"));
     }
@@ -53,7 +47,7 @@ pub(crate) fn tell_lines<N: Sink>(
 
 /// Tells of texts in annotations that name no address: of the first three each, and of the others how many they are.
 /// The same text is told once.
-pub(crate) fn tell_unknown_names<N: Sink>(alloc: Global, notes: &mut N, unknown: &[UnknownName]) {
+pub fn tell_unknown_names<N: Sink>(alloc: Global, notes: &mut N, unknown: &[UnknownName]) {
     let mut told = 0usize;
     let mut others = 0usize;
     for (place, name) in unknown.iter().enumerate() {
@@ -94,12 +88,7 @@ fn tell_unknown<N: Sink>(alloc: Global, notes: &mut N, unknown: &UnknownName) {
 }
 
 /// Tells why a note is refused. The result is its line in the listing.
-pub(crate) fn tell_bad_note<N: Sink>(
-    alloc: Global,
-    notes: &mut N,
-    name: &str,
-    fault: &NoteFault,
-) -> u32 {
+pub fn tell_bad_note<N: Sink>(alloc: Global, notes: &mut N, name: &str, fault: &NoteFault) -> u32 {
     match fault {
         NoteFault::Form { line, expected } => {
             tell_note(
@@ -126,12 +115,7 @@ pub(crate) fn tell_bad_note<N: Sink>(
 }
 
 /// Tells why a note does not go together with the annotations. The result is its line in the listing.
-pub(crate) fn tell_conflict<N: Sink>(
-    alloc: Global,
-    notes: &mut N,
-    name: &str,
-    fault: &NamedFault,
-) -> u32 {
+pub fn tell_conflict<N: Sink>(alloc: Global, notes: &mut N, name: &str, fault: &NamedFault) -> u32 {
     match fault {
         NamedFault::Conflict { line, what } => {
             let line = *line;

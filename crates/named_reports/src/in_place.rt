@@ -9,11 +9,7 @@ const ADDRESSES: [&[u8]; 5] = [b"low", b"top", b"at", b"until", b"is"];
 
 /// A text of annotations in which each name for an address is replaced by the address. All else stays where it is, so
 /// each line keeps its number.
-pub(crate) fn numbered(
-    alloc: Global,
-    text: &[u8],
-    symbols: &Symbols,
-) -> Result<Vec<u8>, AllocError> {
+pub fn numbered(alloc: Global, text: &[u8], symbols: &Symbols) -> Result<Vec<u8>, AllocError> {
     let places = Places::of(alloc, text)?;
     let mut made = Vec::new(alloc);
     let mut from = 0usize;

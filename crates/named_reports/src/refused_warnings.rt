@@ -19,7 +19,7 @@ const VISITS: u32 = 200_000;
 
 /// Warns of annotations amid an instruction that is reached, of splits of a register that has one range alone where it
 /// is reached, and of cells that nothing reads. Nothing is told if the analysis takes too many rows.
-pub(crate) fn warn_of_refused<N: Sink>(
+pub fn warn_of_refused<N: Sink>(
     alloc: Global,
     names: &AddressNames,
     rom: &[u8],

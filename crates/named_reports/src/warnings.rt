@@ -9,7 +9,7 @@ use certificate::Certificate;
 use data_reads::data_reads;
 use intervals::{ByteRange, WordRange};
 use runner::cert_checker::Accepted;
-use source_lines::AddressNames;
+use source_lines::{AddressNames, NamedAddress};
 use std::alloc::{AllocError, Global};
 use texts::Sink;
 use z80_decode::{Instr, Register8};
@@ -28,7 +28,7 @@ pub(crate) const BEFORE: u16 = 3;
 const WIDE: u16 = 4096;
 
 /// Warns of annotations beyond the ROM, and of inline calls and contexts where no call stands.
-pub(crate) fn warn_of_places<N: Sink>(
+pub fn warn_of_places<N: Sink>(
     alloc: Global,
     names: &AddressNames,
     rom: &[u8],
@@ -57,7 +57,7 @@ pub(crate) fn warn_of_places<N: Sink>(
 
 /// Warns of annotations without effect in an accepted ROM: where no row stands, splits of a register that has one range
 /// alone, and cells that nothing reads.
-pub(crate) fn warn_of_effects<N: Sink>(
+pub fn warn_of_effects<N: Sink>(
     alloc: Global,
     names: &AddressNames,
     accepted: &Accepted,
@@ -115,7 +115,10 @@ pub(crate) fn warn_of_amid<N: Sink>(
 ) {
     let OfCode { what, at } = of_code;
     let named = names.named(at);
-    let begin = names.named(begin);
+    let begin = NamedAddress {
+        location: None,
+        ..names.named(begin)
+    };
     tell_note(
         alloc,
         notes,
