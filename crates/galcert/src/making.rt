@@ -13,14 +13,24 @@ use command_parts::ExitStatus;
 use commands::check_on;
 use file_devices::{AfterOutput, Output, SharedOutput};
 use inference_commands::{infer_on, suggest_on};
-use named_commands::{NamedCheck, Watched, check_named_on, suggest_named_on};
+use named_commands::{NamedCheck, ProgramNames, Watched, check_named_on, suggest_named_on};
 use std::cell::RefCell;
+use texts::Sink;
 
 /// The most trials of a search where none is said.
 const TRIALS_UNSAID: u32 = 2_000;
 
 /// The inputs of the commands here.
 const INPUTS: [&str; 4] = ["ROM", "ANNOT", SYMBOLS, LISTING];
+
+/// What a command is asked for.
+#[derive(Clone, Copy)]
+struct Asked<'r, 'm> {
+    rt: &'r HostRuntime,
+    matches: &'r ArgMatches<'m>,
+    /// The most trials of a search.
+    trials: u32,
+}
 
 /// `galcert check`, with and without `--infer`. The result is the exit status.
 pub fn check_files<'a>(rt: &'a HostRuntime, matches: &ArgMatches<'a>) -> u8 {
@@ -44,37 +54,14 @@ pub fn check_files<'a>(rt: &'a HostRuntime, matches: &ArgMatches<'a>) -> u8 {
     let kept = RefCell::new(output(rt, matches, CERT_FILE));
     let mut keep = SharedOutput::new(&kept);
     let mut out = Watched::new(AfterOutput::new(&kept, table_output(rt, matches)));
-    let notes = &mut stderr(rt);
-    let progress = &mut Reporter::new(rt, trials);
+    let asked = Asked {
+        rt,
+        matches,
+        trials,
+    };
     let status = match &names {
-        Some(names) => {
-            let how = NamedCheck {
-                names,
-                trials: infers.then_some(trials),
-                warns_unneeded: matches.get_flag(WARN_UNNEEDED),
-            };
-            check_named_on(
-                rt.alloc(),
-                &mut rom,
-                &mut annot,
-                how,
-                &mut keep,
-                &mut out,
-                notes,
-                progress,
-            )
-        }
-        None if infers => infer_on(
-            rt.alloc(),
-            &mut rom,
-            &mut annot,
-            trials,
-            &mut keep,
-            &mut out,
-            notes,
-            progress,
-        ),
-        None => check_on(rt.alloc(), &mut rom, &mut annot, &mut keep, &mut out),
+        Some(names) => check_by_names(asked, names, &mut rom, &mut annot, &mut keep, &mut out),
+        None => check_plain(asked, &mut rom, &mut annot, &mut keep, &mut out),
     };
     tell_refused(rt, names.as_ref(), status, &out);
     if status == ExitStatus::Refused.code() {
@@ -96,6 +83,51 @@ pub fn check_files<'a>(rt: &'a HostRuntime, matches: &ArgMatches<'a>) -> u8 {
         Used::stdout(out.output()),
     ];
     end(rt, status, &used)
+}
+
+/// Checks with names for addresses. The result is the exit status.
+fn check_by_names<K: Sink, W: Sink>(
+    asked: Asked<'_, '_>,
+    names: &ProgramNames<'_>,
+    rom: &mut Input<'_>,
+    annot: &mut Input<'_>,
+    keep: &mut K,
+    out: &mut W,
+) -> u8 {
+    let Asked {
+        rt,
+        matches,
+        trials,
+    } = asked;
+    let how = NamedCheck {
+        names,
+        trials: matches.get_flag(INFER).then_some(trials),
+        warns_unneeded: matches.get_flag(WARN_UNNEEDED),
+    };
+    let notes = &mut stderr(rt);
+    let progress = &mut Reporter::new(rt, trials);
+    check_named_on(rt.alloc(), rom, annot, how, keep, out, notes, progress)
+}
+
+/// Checks without names for addresses. The result is the exit status.
+fn check_plain<K: Sink, W: Sink>(
+    asked: Asked<'_, '_>,
+    rom: &mut Input<'_>,
+    annot: &mut Input<'_>,
+    keep: &mut K,
+    out: &mut W,
+) -> u8 {
+    let Asked {
+        rt,
+        matches,
+        trials,
+    } = asked;
+    if !matches.get_flag(INFER) {
+        return check_on(rt.alloc(), rom, annot, keep, out);
+    }
+    let notes = &mut stderr(rt);
+    let progress = &mut Reporter::new(rt, trials);
+    infer_on(rt.alloc(), rom, annot, trials, keep, out, notes, progress)
 }
 
 /// The annotations; none if they are not named. Their text is remembered for hints.
@@ -148,28 +180,30 @@ pub fn suggest_files<'a>(rt: &'a HostRuntime, matches: &ArgMatches<'a>) -> u8 {
     let mut rom = input(rt, matches, "ROM");
     let mut annot = annotations(rt, matches);
     let mut out = suggested_output(rt, matches);
-    let notes = &mut stderr(rt);
-    let progress = &mut Reporter::new(rt, trials);
-    let suggested = match &names {
-        Some(names) => suggest_named_on(
-            rt.alloc(),
-            &mut rom,
-            &mut annot,
-            names,
-            trials,
-            &mut out,
-            notes,
-            progress,
-        ),
-        None => suggest_on(
-            rt.alloc(),
-            &mut rom,
-            &mut annot,
-            trials,
-            &mut out,
-            notes,
-            progress,
-        ),
+    let suggested = {
+        let notes = &mut stderr(rt);
+        let progress = &mut Reporter::new(rt, trials);
+        match &names {
+            Some(names) => suggest_named_on(
+                rt.alloc(),
+                &mut rom,
+                &mut annot,
+                names,
+                trials,
+                &mut out,
+                notes,
+                progress,
+            ),
+            None => suggest_on(
+                rt.alloc(),
+                &mut rom,
+                &mut annot,
+                trials,
+                &mut out,
+                notes,
+                progress,
+            ),
+        }
     };
     let status = finished(suggested, &mut out);
     if status == ExitStatus::Refused.code() {

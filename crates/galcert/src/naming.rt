@@ -44,10 +44,10 @@ pub fn names<'m>(
 
 /// The input with this name; one without bytes if there is no name.
 pub fn optional<'a>(rt: &'a HostRuntime, name: Option<&'a str>) -> Input<'a> {
-    match name {
-        Some(name) => input_of(rt, name),
-        None => FileSource::empty(rt),
-    }
+    let Some(name) = name else {
+        return FileSource::empty(rt);
+    };
+    input_of(rt, name)
 }
 
 /// Says where the refused address is, if something was refused and names are known.
