@@ -72,34 +72,40 @@ pub fn hint_certificate(rt: &HostRuntime, rom: &Input, cert: &Input) {
 }
 
 /// Says what annotations look like, if they are none, and where they are at fault. With `infers` they were read for
-/// `--infer`. With `names` names may stand for addresses, and notes may say what is required.
-pub fn hint_annotations(
-    rt: &HostRuntime,
-    annot: &Input,
-    names: Option<&ProgramNames>,
-    infers: bool,
-) {
+/// `--infer`.
+pub fn hint_annotations(rt: &HostRuntime, annot: &Input, infers: bool) {
+    if !hint_other(rt, annot) {
+        if let Some(text) = annot.text() {
+            hint_fault(rt, annot, text, infers);
+        }
+    }
+}
+
+/// The same of annotations in which names may stand for addresses. Notes may say what is required.
+pub fn hint_named(rt: &HostRuntime, annot: &Input, names: &ProgramNames, infers: bool) {
+    if hint_other(rt, annot) {
+        return;
+    }
+    let Some(text) = annot.text() else {
+        return;
+    };
+    if let Ok(text) = names.numbered(rt.alloc(), text) {
+        hint_fault(rt, annot, text.as_slice(), infers || names.has_notes());
+    }
+}
+
+/// Says what annotations look like. The result is whether they look like something else.
+fn hint_other(rt: &HostRuntime, annot: &Input) -> bool {
     let name = annot.path().escape_debug();
     match Likeness::of(annot.head()) {
-        None | Some(Likeness::Toml) => {}
+        None | Some(Likeness::Toml) => false,
         Some(likeness) => {
             let words = likeness.words();
             report(
                 rt,
                 format_args!("galcert: {name} looks like {words}; ANNOT is a TOML text"),
             );
-            return;
-        }
-    }
-    let Some(text) = annot.text() else {
-        return;
-    };
-    match names {
-        None => hint_fault(rt, annot, text, infers),
-        Some(names) => {
-            if let Ok(text) = names.numbered(rt.alloc(), text) {
-                hint_fault(rt, annot, text.as_slice(), infers || names.has_notes());
-            }
+            true
         }
     }
 }

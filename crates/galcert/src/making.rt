@@ -2,7 +2,7 @@
 
 use crate::devices::{Input, Out, clash_of, input, output, stderr, stdout};
 use crate::ending::{Used, end, report, report_clash};
-use crate::hints::{hint_annotations, hint_rom};
+use crate::hints::{hint_annotations, hint_named, hint_rom};
 use crate::naming::{has_names, has_reports, names, optional, tell_refused};
 use crate::reporter::Reporter;
 use crate::words::{
@@ -66,7 +66,10 @@ pub fn check_files<'a>(rt: &'a HostRuntime, matches: &ArgMatches<'a>) -> u8 {
     tell_refused(rt, names.as_ref(), status, &out);
     if status == ExitStatus::Refused.code() {
         hint_rom(rt, &rom);
-        hint_annotations(rt, &annot, names.as_ref(), infers);
+        match &names {
+            Some(names) => hint_named(rt, &annot, names, infers),
+            None => hint_annotations(rt, &annot, infers),
+        }
     }
     let kept_failure = match kept.try_borrow_mut() {
         Ok(mut kept) => {
@@ -208,7 +211,10 @@ pub fn suggest_files<'a>(rt: &'a HostRuntime, matches: &ArgMatches<'a>) -> u8 {
     let status = finished(suggested, &mut out);
     if status == ExitStatus::Refused.code() {
         hint_rom(rt, &rom);
-        hint_annotations(rt, &annot, names.as_ref(), true);
+        match &names {
+            Some(names) => hint_named(rt, &annot, names, true),
+            None => hint_annotations(rt, &annot, true),
+        }
     }
     let name = match matches.get_str(OUTPUT) {
         None | Some("-") => "standard output",

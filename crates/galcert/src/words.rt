@@ -80,28 +80,28 @@ pub fn command_line<'a>(alloc: Global) -> Result<Command<'a>, AllocError> {
         .about("Makes a certificate for a ROM, and prints the table or the refusal")
         .arg(rom(alloc))?
         .arg(annot(alloc))?
-        .arg(flag(alloc, INFER, INFER_HELP))?
-        .arg(valued(alloc, TRIALS, "N", TRIALS_HELP))?
+        .arg(infer_option(alloc))?
+        .arg(trials_option(alloc))?
         .arg(cert_option(alloc)?)?
         .arg(symbols_option(alloc))?
-        .arg(valued(alloc, LISTING, "FILE", LISTING_HELP))?
-        .arg(flag(alloc, WARN_UNNEEDED, UNNEEDED_HELP))?
+        .arg(listing_option(alloc))?
+        .arg(unneeded_option(alloc))?
         .arg(quiet_option(alloc))?;
     let suggest = command(alloc, "suggest", SUGGEST)
         .about("Finds annotations for a ROM, and prints them as a file")
         .arg(rom(alloc))?
         .arg(annot(alloc))?
-        .arg(valued(alloc, TRIALS, "N", TRIALS_HELP))?
+        .arg(trials_option(alloc))?
         .arg(output_option(alloc))?
         .arg(symbols_option(alloc))?
-        .arg(valued(alloc, LISTING, "FILE", LISTING_HELP))?
+        .arg(listing_option(alloc))?
         .arg(quiet_option(alloc))?;
     let verify = command(alloc, "verify", VERIFY)
         .about("Checks a certificate for a ROM, and prints the table or the refusal")
         .arg(rom(alloc))?
         .arg(cert(alloc))?
         .arg(symbols_option(alloc))?
-        .arg(valued(alloc, LISTING, "FILE", LISTING_HELP))?
+        .arg(listing_option(alloc))?
         .arg(quiet_option(alloc))?;
     let run = command(alloc, "run", RUN)
         .about("Checks, then plays an input for at most STEPS events")
@@ -118,7 +118,7 @@ pub fn command_line<'a>(alloc: Global) -> Result<Command<'a>, AllocError> {
             "The most events that are played, a decimal of at most 4294967295",
         ))?
         .arg(symbols_option(alloc))?
-        .arg(valued(alloc, LISTING, "FILE", LISTING_HELP))?;
+        .arg(listing_option(alloc))?;
     let migrate = command(alloc, "migrate", MIGRATE)
         .about("Prints a certificate in version 2")
         .arg(cert(alloc))?;
@@ -173,48 +173,43 @@ fn annot<'a>(alloc: Global) -> Arg<'a> {
         .action(ArgAction::Set)
 }
 
-/// An option with a value.
-fn valued<'a>(
-    alloc: Global,
-    name: &'static str,
-    value: &'static str,
-    help: &'static str,
-) -> Arg<'a> {
-    Arg::new(alloc, name)
-        .long(name)
-        .value_name(value)
-        .help(help)
-        .action(ArgAction::Set)
+/// The option by which annotations are found.
+fn infer_option<'a>(alloc: Global) -> Arg<'a> {
+    Arg::new(alloc, INFER)
+        .long("infer")
+        .help("Finds the annotations that ANNOT does not give; ANNOT may be left out")
+        .action(ArgAction::SetTrue)
 }
 
-/// An option without a value.
-fn flag<'a>(alloc: Global, name: &'static str, help: &'static str) -> Arg<'a> {
-    Arg::new(alloc, name)
-        .long(name)
-        .help(help)
-        .action(ArgAction::SetTrue)
+/// The option that bounds the search for annotations.
+fn trials_option<'a>(alloc: Global) -> Arg<'a> {
+    Arg::new(alloc, TRIALS)
+        .long("trials")
+        .value_name("N")
+        .help("Tries at most N plans; 2,000 if not said")
+        .action(ArgAction::Set)
 }
 
 /// The option that names the file for what is printed.
 fn output_option<'a>(alloc: Global) -> Arg<'a> {
-    let help = "Writes to FILE in the place of standard output";
-    valued(alloc, OUTPUT, "FILE", help).short('o')
+    Arg::new(alloc, OUTPUT)
+        .short('o')
+        .long("output")
+        .value_name("FILE")
+        .help("Writes to FILE in the place of standard output")
+        .action(ArgAction::Set)
 }
 
 /// The option that names the file for the certificate.
 fn cert_option<'a>(alloc: Global) -> Result<Arg<'a>, AllocError> {
-    let option = valued(alloc, CERT_FILE, "FILE", CERT_HELP).short('o');
+    let option = Arg::new(alloc, CERT_FILE)
+        .short('o')
+        .long("cert")
+        .value_name("FILE")
+        .help(CERT_HELP)
+        .action(ArgAction::Set);
     option.visible_alias("output")
 }
-
-const INFER_HELP: &str = "Finds the annotations that ANNOT does not give; ANNOT may be left out";
-
-const TRIALS_HELP: &str = "Tries at most N plans; 2,000 if not said";
-
-const LISTING_HELP: &str =
-    "Reads notes and the lines of the source from a listing of the assembler";
-
-const UNNEEDED_HELP: &str = "Warns of annotations without which the ROM is accepted too";
 
 const CERT_HELP: &str =
     "Writes the certificate to FILE, whole or not at all; `-` is standard output, and the table then \
@@ -222,14 +217,38 @@ goes to standard error";
 
 /// The option that names the symbol file.
 fn symbols_option<'a>(alloc: Global) -> Arg<'a> {
-    let help = "Reads names for addresses from a symbol file";
-    valued(alloc, SYMBOLS, "FILE", help).short('s')
+    Arg::new(alloc, SYMBOLS)
+        .short('s')
+        .long("symbols")
+        .value_name("FILE")
+        .help("Reads names for addresses from a symbol file")
+        .action(ArgAction::Set)
+}
+
+/// The option that names the listing.
+fn listing_option<'a>(alloc: Global) -> Arg<'a> {
+    Arg::new(alloc, LISTING)
+        .long("listing")
+        .value_name("FILE")
+        .help("Reads notes and the lines of the source from a listing of the assembler")
+        .action(ArgAction::Set)
+}
+
+/// The option by which annotations are reported that are not needed.
+fn unneeded_option<'a>(alloc: Global) -> Arg<'a> {
+    Arg::new(alloc, WARN_UNNEEDED)
+        .long("warn-unneeded")
+        .help("Warns of annotations without which the ROM is accepted too")
+        .action(ArgAction::SetTrue)
 }
 
 /// The option by which nothing is printed.
 fn quiet_option<'a>(alloc: Global) -> Arg<'a> {
-    let help = "Prints nothing on standard output; the status alone answers";
-    flag(alloc, QUIET, help).short('q')
+    Arg::new(alloc, QUIET)
+        .short('q')
+        .long("quiet")
+        .help("Prints nothing on standard output; the status alone answers")
+        .action(ArgAction::SetTrue)
 }
 
 /// The word of an argument that the command line requires; an empty text if there is none.
