@@ -104,6 +104,18 @@ const REFUSED: &[Case] = &[
         out: "refused 0006 4 Decode Truncated\n",
         notes: "jump.asm:3: 0006 halt+3: refused 4 Decode Truncated\n",
     },
+    // Blank lines of the source count.
+    Case {
+        files: Files {
+            rom: b"\x31\x00\x44\xC3\x04\x00",
+            listing: "# File jump.asm\n0000\t\t\t;@ stack 4380..4400\n0000\t\t\t \n0000\t\t\t\r\n\
+                0000 31 00 44\t\t  ld sp,4400h\n0003\t\t\t\n0003 c3 04 00\t\thalt: jp halt+1\n",
+            ..JUMP
+        },
+        status: 1,
+        out: "refused 0006 4 Decode Truncated\n",
+        notes: "jump.asm:6: 0006 halt+3: refused 4 Decode Truncated\n",
+    },
     // A name that is not there; the key is bad as without names.
     Case {
         files: Files {
