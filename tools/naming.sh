@@ -43,6 +43,18 @@ notes=$(table raid.rom --listing raid.lst)
 judge 0 "$notes" '' check raid.rom raid.toml -s raid.sym
 judge 0 "$notes" '' check raid.rom raid.toml -s raid.sym --listing raid.lst
 
+# One byte more to clear than the note allows: `ld bc,400h` in line 669 of the source.
+cp raid.rom more-bytes.rom
+printf '\x00\x04' | dd of=more-bytes.rom bs=1 seek=$((0x49F)) conv=notrunc 2> /dev/null
+at=$(grep -n -A3 '^start:' raid.asm | grep 'ld (hl),0' | cut -d- -f1)
+judge 1 'refused 04A1 12 NotCovered' "raid.asm:$at: 04A1 start+9: refused 12 NotCovered" check more-bytes.rom --listing raid.lst
+
+# Annotations that have no effect.
+printf 'loop = [{ at = "fillac+1", counter = "B" }, { at = "0x3000", counter = "B" }]\n' > idle.toml
+at=$(grep -n '^fillac:' raid.asm | cut -d: -f1)
+judge 0 "$notes" "3000: warning: the loop is beyond the ROM
+raid.asm:$at: 0287 fillac+1: warning: the loop is amid the instruction at 0286 fillac" check raid.rom idle.toml --listing raid.lst
+
 # A name that is not there, and where it stands.
 sed '/^\[\[loop\]\]/{n;s/"nldir"/"nldri"/}' raid.toml > typo.toml
 at=$(grep -n '"nldri"' typo.toml | cut -d: -f1)
