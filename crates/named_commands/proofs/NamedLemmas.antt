@@ -16,13 +16,16 @@ pub is_acceptable_read : (rom : Option (List ℕ)) (bytes : List ℕ) → FirstB
 is_acceptable_read rom bytes first (certificate, accepted) = is_acceptable rom bytes certificate first accepted
 
 -- the text of an accepted certificate was kept, and its table was written from an unchanged sink
-pub infers_and_tells_read : {X : Type 0} (state : X → DeviceState) (keep_old keep_new new : DeviceState) (bytes : List ℕ) (certificate : CertificateView) (before same : X) →
-    IsAccepted bytes (text_of certificate) certificate → before ≡ same → Takes keep_old (text_of certificate) keep_new → Takes (state before) (accepted_text certificate) new →
+pub infers_and_tells_read : {X : Type 0} (state : X → DeviceState) (keep_old keep_new new : DeviceState) (bytes : List ℕ) (certificate shown : CertificateView) (before same : X) →
+    IsAccepted bytes (text_of certificate) certificate → shown ≡ certificate → before ≡ same → Takes keep_old (text_of shown) keep_new → Takes (state before) (accepted_text shown) new →
     InfersAndTells Takes (Some bytes) keep_old keep_new (state same) new
-infers_and_tells_read {X} state keep_old keep_new new bytes certificate before same accepted kept takes tells = (
+infers_and_tells_read {X} state keep_old keep_new new bytes certificate shown before same accepted is kept takes tells = (
   certificate,
   accepted,
-  (takes, subst (λ (x : X). Takes (state x) (accepted_text certificate) new) kept tells),
+  (
+    subst (λ (c : CertificateView). Takes keep_old (text_of c) keep_new) is takes,
+    subst (λ (x : X). Takes (state x) (accepted_text certificate) new) kept (subst (λ (c : CertificateView). Takes (state before) (accepted_text c) new) is tells),
+  ),
 )
 
 -- what was written for the bytes that were read of a ROM was written for the ROM

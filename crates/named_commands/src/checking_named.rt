@@ -11,6 +11,7 @@ ghost use Rattle.texts.specs.Device.{HasFailed, CountsNoFailure, Takes};
 use crate::bytes_source::BytesSource;
 use crate::program_names::ProgramNames;
 use annotations::Given;
+use certificate::Certificate;
 use command_parts::{ExitStatus, Stop, keep_and_tell, read_all, read_rom};
 use command_verdicts::bad_line;
 use commands::{make, read_annotations};
@@ -162,10 +163,21 @@ fn check_said<K: Sink, W: Sink, N: Sink, P: Progress>(
             return stop.status();
         }
     };
-    keep_named(alloc, rom, said, how, &accepted, keep, out, notes)
+    let certificate = accepted.certificate();
+    keep_named(
+        alloc,
+        rom,
+        said,
+        how,
+        &accepted,
+        certificate,
+        keep,
+        out,
+        notes,
+    )
 }
 
-/// Writes the text of an accepted certificate to `keep`, then the table to `out`, and then warnings to `notes`. The
+/// Writes the text of an accepted certificate to `keep`, then its table to `out`, and then warnings to `notes`. The
 /// result is the exit status: 0, or 3 where a device failed.
 fn keep_named<K: Sink, W: Sink, N: Sink>(
     alloc: Global,
@@ -173,21 +185,22 @@ fn keep_named<K: Sink, W: Sink, N: Sink>(
     said: &[u8],
     how: NamedCheck<'_>,
     accepted: &Accepted,
+    certificate: &Certificate,
     keep: &mut K,
     out: &mut W,
     notes: &mut N,
 ) -> u8
     ensures known { (result ≡ 0) ⊎ (result ≡ 3) }
     ensures done { result ≡ 0
-        → Takes (K.state keep.old) (text_of accepted.now.certificate) (K.state keep.new)
-        × Takes (W.state out.old) (accepted_text accepted.now.certificate) (W.state out.new) }
+        → Takes (K.state keep.old) (text_of certificate.now) (K.state keep.new)
+        × Takes (W.state out.old) (accepted_text certificate.now) (W.state out.new) }
     ensures device { result ≡ 3
         → HasFailed (K.state keep.old) (K.state keep.new)
         ⊎ HasFailed (W.state out.old) (W.state out.new) }
     ensures keep_next { CountsNoFailure (K.state keep.old) (K.state keep.new)
         ⊎ (out.new ≡ out.old) }
 {
-    match keep_and_tell(accepted.certificate(), keep, out) {
+    match keep_and_tell(certificate, keep, out) {
         Ok(()) => {
             warn_of_idle(alloc, how, rom, said, accepted, notes);
             ExitStatus::Done.code()
