@@ -190,13 +190,18 @@ fn keep_named<K: Sink, W: Sink, N: Sink>(
     out: &mut W,
     notes: &mut N,
 ) -> u8
-    ensures known { (result ≡ 0) ⊎ (result ≡ 3) }
+    ensures known { IsStatus result }
     ensures done { result ≡ 0
         → Takes (K.state keep.old) (text_of certificate.now) (K.state keep.new)
         × Takes (W.state out.old) (accepted_text certificate.now) (W.state out.new) }
+    ensures refused { result ≢ 1 }
     ensures device { result ≡ 3
         → HasFailed (K.state keep.old) (K.state keep.new)
         ⊎ HasFailed (W.state out.old) (W.state out.new) }
+    ensures told { result ≢ 3
+        → CountsNoFailure (K.state keep.old) (K.state keep.new)
+        × CountsNoFailure (W.state out.old) (W.state out.new) }
+    ensures memory { result ≢ 4 }
     ensures keep_next { CountsNoFailure (K.state keep.old) (K.state keep.new)
         ⊎ (out.new ≡ out.old) }
 {
