@@ -24,6 +24,7 @@ test:
 	tools/names.py
 	@bash -c "TIMEFORMAT='rt ci took %lR, with %lU and %lS of processor time'; time tools/rt ci"
 	tools/program.sh crates/galcert/out/galcert
+	tools/naming.sh crates/galcert/out/galcert
 
 # The edits that the gate leaves out. The prover must refuse these too. CRATES="a b" tries those of some crates.
 edits:

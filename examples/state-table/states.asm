@@ -5,7 +5,7 @@
 ; A place on the screen is a column, 0 to 31 from the left, and a row, 0 to 31 from the top. The monitor stands on its side, so a step
 ; to the right is 32 bytes down in video RAM. Tiles have their ASCII codes; 20h is blank. What moves has its place in dots, 8 a tile.
 
-stack:      equ 4400h           ; the stack goes down from here to 43A0
+stack:      equ 4400h           ; the stack goes down from here to 43A0 ;@ stack 43A0..4400 ;@ nmi budget 4000
 copy:       equ 4000h           ; what goes to the object RAM: 32 rows of 2 bytes, 8 sprites of 4 bytes, 8 shots of 4 bytes
 state:      equ 4080h           ; 0 attract, 1 coin, 2 start, 3 play, 4 death, 5 game over, 6 a name for the best
 fresh:      equ 4081h           ; 1 in the first frame of a state
@@ -65,7 +65,7 @@ watchdog:   equ 7800h           ; for reading
             ld hl,copy          ; rows, sprites and shots go out to the object RAM
             ld de,objects
             ld bc,0080h
-send:       ldir
+send:       ldir ;@ fact DE+BC = 5880h ;@ loop BC
             call inputs
             call sing
             ld hl,frames
@@ -142,11 +142,11 @@ start:      xor a
             ld de,4001h
             ld bc,039Fh
             ld (hl),0
-clear:      ldir
+clear:      ldir ;@ fact DE+BC = 43A0h
             ld hl,hues          ; and gives each row its colour: the odd bytes of the copy
             ld de,copy + 1
             ld b,32
-paint:      ld a,(hl)
+paint:      ld a,(hl) ;@ fact DE+2*B = 4041h through djnz
             ld (de),a
             inc hl
             inc de
@@ -155,7 +155,7 @@ paint:      ld a,(hl)
             ld hl,founders      ; those who are to beat
             ld de,bests
             ld bc,001Eh
-found_all:  ldir
+found_all:  ldir ;@ fact DE+BC = 419Eh
             ld a,1
             ld (fresh),a
             ld (loudness),a
@@ -173,7 +173,7 @@ turn:       ld a,(dirty)
             ld a,(state)
             cp 7
             jp nc,start         ; there is no such state
-choose:     add a,a
+choose:     add a,a ;@ split A 0..6 until turn
             ld e,a
             ld d,0
             ld hl,states
@@ -206,33 +206,33 @@ at_attract: ld a,(fresh)
             bit 0,(hl)
             jr nz,title
             ld a,20
-            call print
+            call print ;@ inline
             defb 6,8,21
             defm "THE BEST OF ALL TIMES"
             call honours
             jp turn
 title:      ld a,3
-            call print
+            call print ;@ inline
             defb 8,5,15
             defm "STAR  CORRIDORS"
             ld a,4
-            call print
+            call print ;@ inline
             defb 4,10,23
             defm "- SCORE ADVANCE TABLE -"
             ld a,5
-            call print
+            call print ;@ inline
             defb 8,13,16
             defm "[\\  60       120"
             ld a,6
-            call print
+            call print ;@ inline
             defb 8,15,16
             defm "]^  50       100"
             ld a,7
-            call print
+            call print ;@ inline
             defb 8,17,16
             defm "_`  40        80"
             ld a,8
-            call print
+            call print ;@ inline
             defb 8,19,16
             defm "ab  30        60"
 attracts:   ld a,(credit)
@@ -247,12 +247,12 @@ attracts:   ld a,(credit)
             and 20h
             jr z,dark
             ld a,9
-            call print
+            call print ;@ inline
             defb 9,24,13
             defm "INSERT A COIN"
             jp turn
 dark:       ld a,10
-            call print
+            call print ;@ inline
             defb 9,24,13
             defm "             "
             jp turn
@@ -263,11 +263,11 @@ at_coin:    ld a,(fresh)
             jr z,waits
             call page
             ld a,11
-            call print
+            call print ;@ inline
             defb 8,14,15
             defm "ONE COIN EACH !"
             ld a,12
-            call print
+            call print ;@ inline
             defb 4,17,24
             defm "A SHIP MORE FOR 10 WAVES"
 waits:      ld a,(started)
@@ -286,7 +286,7 @@ waits:      ld a,(started)
             ld hl,convoy        ; two players: the other one begins likewise
             ld de,other
             ld bc,0027h
-second:     ldir
+second:     ldir ;@ fact DE+BC = 41E7h
             jr joins
 alone:      bit 0,c
             jr z,beckon
@@ -305,12 +305,12 @@ beckon:     ld a,(frames)
             and 10h
             jr z,faint
             ld a,13
-            call print
+            call print ;@ inline
             defb 8,10,17
             defm "PUSH START BUTTON"
             jp turn
 faint:      ld a,14
-            call print
+            call print ;@ inline
             defb 8,10,17
             defm "                 "
             jp turn
@@ -331,14 +331,14 @@ no_more:    call muster
             call quicken
             call page
             ld a,15
-            call print
+            call print ;@ inline
             defb 12,13,4
             defm "WAVE"
             ld bc,110Dh
             ld a,(wave)
             call pair
             ld a,16
-            call print
+            call print ;@ inline
             defb 12,16,7
             defm "READY !"
             ld a,120
@@ -386,7 +386,7 @@ at_death:   ld a,(fresh)
             ld a,3
             call effect
             ld a,17
-            call print
+            call print ;@ inline
             defb 9,22,14
             defm "A SHIP IS LOST"
             ld a,90
@@ -414,7 +414,7 @@ at_over:    ld a,(fresh)
             xor a
             ld (fresh),a
             ld a,18
-            call print
+            call print ;@ inline
             defb 11,18,9
             defm "GAME OVER"
             ld a,200
@@ -446,11 +446,11 @@ at_name:    ld a,(fresh)
             ld (initial),a
             ld (pressed),a
             ld a,19
-            call print
+            call print ;@ inline
             defb 4,8,23
             defm "YOU ARE ONE OF THE BEST"
             ld a,21
-            call print
+            call print ;@ inline
             defb 3,25,26
             defm "STICK AND BUTTON: A LETTER"
             ld a,250
@@ -483,7 +483,7 @@ enter:      ld (state),a
 
 ; Prints the text behind the call: there stand its column, its row, its length and its letters. Goes on behind them. A is a number that
 ; no other such call has.
-print:      pop hl
+print:      pop hl ;@ split A 0..23 until turn
             ld b,(hl)
             inc hl
             ld c,(hl)
@@ -548,32 +548,32 @@ page:       xor a
             ld de,video + 1
             ld bc,03FFh
             ld (hl),20h
-blank:      ldir
+blank:      ldir ;@ fact DE+BC = 5400h
             ld hl,divers
             ld b,30h
-forget:     ld (hl),a
+forget:     ld (hl),a ;@ fact HL+B = 4170h through djnz
             inc hl
             djnz forget
             ld (shot),a
             ld (hit),a
             ld a,0
-            call print
+            call print ;@ inline
             defb 3,0,3
             defm "1UP"
             ld a,1
-            call print
+            call print ;@ inline
             defb 11,0,10
             defm "HIGH SCORE"
             ld a,2
-            call print
+            call print ;@ inline
             defb 2,31,6
             defm "CREDIT"
             ld a,22
-            call print
+            call print ;@ inline
             defb 25,0,3
             defm "2UP"
             ld a,23
-            call print
+            call print ;@ inline
             defb 12,31,6
             defm "PLAYER"
             ld bc,131Fh
@@ -641,7 +641,7 @@ berth:      call put
 novice:     ld hl,convoy
             ld b,27h
             xor a
-bare:       ld (hl),a
+bare:       ld (hl),a ;@ fact HL+B = 4127h through djnz
             inc hl
             djnz bare
             ld a,3
@@ -655,7 +655,7 @@ change:     ld a,(other + 23h)
             ld hl,convoy
             ld de,other
             ld b,27h
-barter:     ld c,(hl)
+barter:     ld c,(hl) ;@ fact HL+B = 4127h through djnz ;@ fact DE+B = 41E7h through djnz
             ld a,(de)
             ld (hl),a
             ld a,c
@@ -745,9 +745,9 @@ insert:     ld a,(rating)
             ld b,0
             ld c,a
             push bc             ; how many bytes move
-            ld hl,bests + 17h
-            ld de,bests + 1Dh
-down:       lddr
+            ld hl,bests + 17h ;@ fact BC-s0 = 0
+            ld de,bests + 1Dh ;@ fact BC-s0 = 0
+down:       lddr ;@ fact DE-BC+s0 = 419Dh
             pop bc
 lowest:     ld a,(rating)
             ld b,a
@@ -977,7 +977,7 @@ missed:     ld a,l
 
 muster:     ld hl,convoy
             ld b,20h
-enlist:     ld (hl),1
+enlist:     ld (hl),1 ;@ fact HL+B = 4120h through djnz
             inc hl
             djnz enlist
             ld a,20h
@@ -1396,7 +1396,7 @@ effect:     add a,a
             add hl,de
             ld de,noise
             ld bc,0003h
-tone:       ldir
+tone:       ldir ;@ fact DE+BC = 4095h
             ret
 
 ; ---- tables

@@ -1,6 +1,7 @@
 // How a command ends: what standard error says beside the status.
 
 use crate::devices::{Clash, Input, Out};
+use crate::words::{LISTING, SYMBOLS};
 use command_parts::ExitStatus;
 use file_devices::Failure;
 use std::fmt::Display;
@@ -93,6 +94,7 @@ pub fn report_clash(rt: &HostRuntime, clash: &Clash) -> u8 {
         Clash::TwiceStandard => report(rt, "galcert: standard input can stand for one file only"),
         Clash::Overwritten(path, argument, input) => {
             let path = path.escape_debug();
+            let argument = shown(argument);
             let input = input.escape_debug();
             report(
                 rt,
@@ -101,6 +103,15 @@ pub fn report_clash(rt: &HostRuntime, clash: &Clash) -> u8 {
         }
     }
     ExitStatus::Usage.code()
+}
+
+/// An argument as the command line has it.
+fn shown(argument: &'static str) -> &'static str {
+    match argument {
+        SYMBOLS => "--symbols",
+        LISTING => "--listing",
+        _ => argument,
+    }
 }
 
 /// Writes a text on standard output. The result is the status.

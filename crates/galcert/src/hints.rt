@@ -4,6 +4,7 @@ use crate::devices::Input;
 use crate::ending::report;
 use annotation_faults::place_of_fault;
 use file_devices::{Likeness, certified_len};
+use named_commands::ProgramNames;
 use std::fs;
 
 /// The most bytes of a ROM.
@@ -73,21 +74,45 @@ pub fn hint_certificate(rt: &HostRuntime, rom: &Input, cert: &Input) {
 /// Says what annotations look like, if they are none, and where they are at fault. With `infers` they were read for
 /// `--infer`.
 pub fn hint_annotations(rt: &HostRuntime, annot: &Input, infers: bool) {
+    if !hint_other(rt, annot) {
+        if let Some(text) = annot.text() {
+            hint_fault(rt, annot, text, infers);
+        }
+    }
+}
+
+/// The same of annotations in which names may stand for addresses. Notes may say what is required.
+pub fn hint_named(rt: &HostRuntime, annot: &Input, names: &ProgramNames, infers: bool) {
+    if hint_other(rt, annot) {
+        return;
+    }
+    let Some(text) = annot.text() else {
+        return;
+    };
+    if let Ok(text) = names.numbered(rt.alloc(), text) {
+        hint_fault(rt, annot, text.as_slice(), infers || names.has_notes());
+    }
+}
+
+/// Says what annotations look like. The result is whether they look like something else.
+fn hint_other(rt: &HostRuntime, annot: &Input) -> bool {
     let name = annot.path().escape_debug();
     match Likeness::of(annot.head()) {
-        None | Some(Likeness::Toml) => {}
+        None | Some(Likeness::Toml) => false,
         Some(likeness) => {
             let words = likeness.words();
             report(
                 rt,
                 format_args!("galcert: {name} looks like {words}; ANNOT is a TOML text"),
             );
-            return;
+            true
         }
     }
-    let Some(text) = annot.text() else {
-        return;
-    };
+}
+
+/// Says where annotations are at fault.
+fn hint_fault(rt: &HostRuntime, annot: &Input, text: &[u8], infers: bool) {
+    let name = annot.path().escape_debug();
     if let Ok(Some(place)) = place_of_fault(rt.alloc(), text, infers) {
         let why = &place.why;
         match (place.line, place.column) {

@@ -1,27 +1,41 @@
 // The commands that make a certificate, and find annotations for one.
 
-use crate::devices::{Input, Out, clash_of, input, input_of, output, stderr, stdout};
+use crate::devices::{Input, Out, clash_of, input, output, stderr, stdout};
 use crate::ending::{Used, end, report, report_clash};
-use crate::hints::{hint_annotations, hint_rom};
+use crate::hints::{hint_annotations, hint_named, hint_rom};
+use crate::naming::{has_names, has_reports, names, optional, tell_refused};
 use crate::reporter::Reporter;
-use crate::words::{CERT_FILE, INFER, OUTPUT, QUIET, TRIALS, word};
+use crate::words::{
+    CERT_FILE, INFER, LISTING, OUTPUT, QUIET, SYMBOLS, TRIALS, WARN_UNNEEDED, word,
+};
 use clap::ArgMatches;
 use command_parts::ExitStatus;
 use commands::check_on;
-use file_devices::{AfterOutput, FileSource, Output, SharedOutput};
+use file_devices::{AfterOutput, Output, SharedOutput};
 use inference_commands::{infer_on, suggest_on};
+use named_commands::{NamedCheck, ProgramNames, Watched, check_named_on, suggest_named_on};
 use std::cell::RefCell;
+use texts::Sink;
 
 /// The most trials of a search where none is said.
 const TRIALS_UNSAID: u32 = 2_000;
 
 /// The inputs of the commands here.
-const INPUTS: [&str; 2] = ["ROM", "ANNOT"];
+const INPUTS: [&str; 4] = ["ROM", "ANNOT", SYMBOLS, LISTING];
+
+/// What a command is asked for.
+#[derive(Clone, Copy)]
+struct Asked<'r, 'm> {
+    rt: &'r HostRuntime,
+    matches: &'r ArgMatches<'m>,
+    /// The most trials of a search.
+    trials: u32,
+}
 
 /// `galcert check`, with and without `--infer`. The result is the exit status.
 pub fn check_files<'a>(rt: &'a HostRuntime, matches: &ArgMatches<'a>) -> u8 {
     let infers = matches.get_flag(INFER);
-    if !infers && matches.get_str("ANNOT").is_none() {
+    if !infers && matches.get_str("ANNOT").is_none() && matches.get_str(LISTING).is_none() {
         report(rt, "ANNOT is missing; --infer finds annotations without it");
         return ExitStatus::Usage.code();
     }
@@ -31,30 +45,31 @@ pub fn check_files<'a>(rt: &'a HostRuntime, matches: &ArgMatches<'a>) -> u8 {
     if let Some(clash) = clash_of(rt, matches, &INPUTS, Some(CERT_FILE)) {
         return report_clash(rt, &clash);
     }
+    let names = match names(rt, matches, has_reports(matches)) {
+        Ok(names) => names,
+        Err(status) => return status,
+    };
     let mut rom = input(rt, matches, "ROM");
     let mut annot = annotations(rt, matches);
     let kept = RefCell::new(output(rt, matches, CERT_FILE));
     let mut keep = SharedOutput::new(&kept);
-    let mut out = AfterOutput::new(&kept, table_output(rt, matches));
-    let notes = &mut stderr(rt);
-    let progress = &mut Reporter::new(rt, trials);
-    let status = if infers {
-        infer_on(
-            rt.alloc(),
-            &mut rom,
-            &mut annot,
-            trials,
-            &mut keep,
-            &mut out,
-            notes,
-            progress,
-        )
-    } else {
-        check_on(rt.alloc(), &mut rom, &mut annot, &mut keep, &mut out)
+    let mut out = Watched::new(AfterOutput::new(&kept, table_output(rt, matches)));
+    let asked = Asked {
+        rt,
+        matches,
+        trials,
     };
+    let status = match &names {
+        Some(names) => check_by_names(asked, names, &mut rom, &mut annot, &mut keep, &mut out),
+        None => check_plain(asked, &mut rom, &mut annot, &mut keep, &mut out),
+    };
+    tell_refused(rt, names.as_ref(), status, &out);
     if status == ExitStatus::Refused.code() {
         hint_rom(rt, &rom);
-        hint_annotations(rt, &annot, infers);
+        match &names {
+            Some(names) => hint_named(rt, &annot, names, infers),
+            None => hint_annotations(rt, &annot, infers),
+        }
     }
     let kept_failure = match kept.try_borrow_mut() {
         Ok(mut kept) => {
@@ -63,6 +78,7 @@ pub fn check_files<'a>(rt: &'a HostRuntime, matches: &ArgMatches<'a>) -> u8 {
         }
         Err(_) => None,
     };
+    let out = out.into_inner();
     let used = [
         Used::input(&rom),
         Used::input(&annot),
@@ -72,13 +88,54 @@ pub fn check_files<'a>(rt: &'a HostRuntime, matches: &ArgMatches<'a>) -> u8 {
     end(rt, status, &used)
 }
 
+/// Checks with names for addresses. The result is the exit status.
+fn check_by_names<K: Sink, W: Sink>(
+    asked: Asked<'_, '_>,
+    names: &ProgramNames<'_>,
+    rom: &mut Input<'_>,
+    annot: &mut Input<'_>,
+    keep: &mut K,
+    out: &mut W,
+) -> u8 {
+    let Asked {
+        rt,
+        matches,
+        trials,
+    } = asked;
+    let how = NamedCheck {
+        names,
+        trials: matches.get_flag(INFER).then_some(trials),
+        warns_unneeded: matches.get_flag(WARN_UNNEEDED),
+    };
+    let notes = &mut stderr(rt);
+    let progress = &mut Reporter::new(rt, trials);
+    check_named_on(rt.alloc(), rom, annot, how, keep, out, notes, progress)
+}
+
+/// Checks without names for addresses. The result is the exit status.
+fn check_plain<K: Sink, W: Sink>(
+    asked: Asked<'_, '_>,
+    rom: &mut Input<'_>,
+    annot: &mut Input<'_>,
+    keep: &mut K,
+    out: &mut W,
+) -> u8 {
+    let Asked {
+        rt,
+        matches,
+        trials,
+    } = asked;
+    if !matches.get_flag(INFER) {
+        return check_on(rt.alloc(), rom, annot, keep, out);
+    }
+    let notes = &mut stderr(rt);
+    let progress = &mut Reporter::new(rt, trials);
+    infer_on(rt.alloc(), rom, annot, trials, keep, out, notes, progress)
+}
+
 /// The annotations; none if they are not named. Their text is remembered for hints.
 fn annotations<'a>(rt: &'a HostRuntime, matches: &ArgMatches<'a>) -> Input<'a> {
-    match matches.get_str("ANNOT") {
-        Some(path) => input_of(rt, path),
-        None => FileSource::empty(rt),
-    }
-    .remembering(rt.alloc())
+    optional(rt, matches.get_str("ANNOT")).remembering(rt.alloc())
 }
 
 /// Where the table goes: nowhere if it is not wanted, to standard error if the certificate goes to standard output.
@@ -119,24 +176,45 @@ pub fn suggest_files<'a>(rt: &'a HostRuntime, matches: &ArgMatches<'a>) -> u8 {
     if let Some(clash) = clash_of(rt, matches, &INPUTS, Some(OUTPUT)) {
         return report_clash(rt, &clash);
     }
+    let names = match names(rt, matches, has_names(matches)) {
+        Ok(names) => names,
+        Err(status) => return status,
+    };
     let mut rom = input(rt, matches, "ROM");
     let mut annot = annotations(rt, matches);
     let mut out = suggested_output(rt, matches);
-    let notes = &mut stderr(rt);
-    let progress = &mut Reporter::new(rt, trials);
-    let suggested = suggest_on(
-        rt.alloc(),
-        &mut rom,
-        &mut annot,
-        trials,
-        &mut out,
-        notes,
-        progress,
-    );
+    let suggested = {
+        let notes = &mut stderr(rt);
+        let progress = &mut Reporter::new(rt, trials);
+        match &names {
+            Some(names) => suggest_named_on(
+                rt.alloc(),
+                &mut rom,
+                &mut annot,
+                names,
+                trials,
+                &mut out,
+                notes,
+                progress,
+            ),
+            None => suggest_on(
+                rt.alloc(),
+                &mut rom,
+                &mut annot,
+                trials,
+                &mut out,
+                notes,
+                progress,
+            ),
+        }
+    };
     let status = finished(suggested, &mut out);
     if status == ExitStatus::Refused.code() {
         hint_rom(rt, &rom);
-        hint_annotations(rt, &annot, true);
+        match &names {
+            Some(names) => hint_named(rt, &annot, names, true),
+            None => hint_annotations(rt, &annot, true),
+        }
     }
     let name = match matches.get_str(OUTPUT) {
         None | Some("-") => "standard output",

@@ -3,26 +3,34 @@
 use crate::devices::{Out, clash_of, input, stdout};
 use crate::ending::{Used, end, report, report_clash};
 use crate::hints::{hint_certificate, hint_rom};
-use crate::words::{QUIET, word};
+use crate::naming::{has_names, names, tell_refused};
+use crate::words::{LISTING, QUIET, SYMBOLS, word};
 use clap::ArgMatches;
 use command_parts::ExitStatus;
 use commands::{migrate_on, run_on, steps_of, verify_on};
 use file_devices::{Output, WriterSink};
+use named_commands::Watched;
 use std::io;
 
 /// `galcert verify`. The result is the exit status.
 pub fn verify_files<'a>(rt: &'a HostRuntime, matches: &ArgMatches<'a>) -> u8 {
-    if let Some(clash) = clash_of(rt, matches, &["ROM", "CERT"], None) {
+    if let Some(clash) = clash_of(rt, matches, &["ROM", "CERT", SYMBOLS, LISTING], None) {
         return report_clash(rt, &clash);
     }
+    let names = match names(rt, matches, has_names(matches)) {
+        Ok(names) => names,
+        Err(status) => return status,
+    };
     let mut rom = input(rt, matches, "ROM");
     let mut cert = input(rt, matches, "CERT");
-    let mut out = verdict_output(rt, matches);
+    let mut out = Watched::new(verdict_output(rt, matches));
     let status = verify_on(rt.alloc(), &mut rom, &mut cert, &mut out);
+    tell_refused(rt, names.as_ref(), status, &out);
     if status == ExitStatus::Refused.code() {
         hint_rom(rt, &rom);
         hint_certificate(rt, &rom, &cert);
     }
+    let out = out.into_inner();
     end(
         rt,
         status,
@@ -49,13 +57,22 @@ pub fn run_files<'a>(rt: &'a HostRuntime, matches: &ArgMatches<'a>) -> u8 {
         );
         return ExitStatus::Usage.code();
     };
-    if let Some(clash) = clash_of(rt, matches, &["ROM", "CERT", "INPUT"], None) {
+    if let Some(clash) = clash_of(
+        rt,
+        matches,
+        &["ROM", "CERT", "INPUT", SYMBOLS, LISTING],
+        None,
+    ) {
         return report_clash(rt, &clash);
     }
+    let names = match names(rt, matches, has_names(matches)) {
+        Ok(names) => names,
+        Err(status) => return status,
+    };
     let mut rom = input(rt, matches, "ROM");
     let mut cert = input(rt, matches, "CERT");
     let mut played = input(rt, matches, "INPUT");
-    let mut out = WriterSink::new(io::writer(rt));
+    let mut out = Watched::new(WriterSink::new(io::writer(rt)));
     let status = run_on(
         rt.alloc(),
         &mut rom,
@@ -64,10 +81,12 @@ pub fn run_files<'a>(rt: &'a HostRuntime, matches: &ArgMatches<'a>) -> u8 {
         steps,
         &mut out,
     );
+    tell_refused(rt, names.as_ref(), status, &out);
     if status == ExitStatus::Refused.code() {
         hint_rom(rt, &rom);
         hint_certificate(rt, &rom, &cert);
     }
+    let out = out.into_inner();
     let used = [
         Used::input(&rom),
         Used::input(&cert),

@@ -13,11 +13,17 @@ pub const COMMAND: &str = "COMMAND";
 
 pub const INFER: &str = "infer";
 
+pub const LISTING: &str = "listing";
+
 pub const OUTPUT: &str = "output";
 
 pub const QUIET: &str = "quiet";
 
+pub const SYMBOLS: &str = "symbols";
+
 pub const TRIALS: &str = "trials";
+
+pub const WARN_UNNEEDED: &str = "warn-unneeded";
 
 /// What `--help` says after the options of each command.
 const STATUSES: &str = "Statuses:
@@ -77,6 +83,9 @@ pub fn command_line<'a>(alloc: Global) -> Result<Command<'a>, AllocError> {
         .arg(infer_option(alloc))?
         .arg(trials_option(alloc))?
         .arg(cert_option(alloc)?)?
+        .arg(symbols_option(alloc))?
+        .arg(listing_option(alloc))?
+        .arg(unneeded_option(alloc))?
         .arg(quiet_option(alloc))?;
     let suggest = command(alloc, "suggest", SUGGEST)
         .about("Finds annotations for a ROM, and prints them as a file")
@@ -84,11 +93,15 @@ pub fn command_line<'a>(alloc: Global) -> Result<Command<'a>, AllocError> {
         .arg(annot(alloc))?
         .arg(trials_option(alloc))?
         .arg(output_option(alloc))?
+        .arg(symbols_option(alloc))?
+        .arg(listing_option(alloc))?
         .arg(quiet_option(alloc))?;
     let verify = command(alloc, "verify", VERIFY)
         .about("Checks a certificate for a ROM, and prints the table or the refusal")
         .arg(rom(alloc))?
         .arg(cert(alloc))?
+        .arg(symbols_option(alloc))?
+        .arg(listing_option(alloc))?
         .arg(quiet_option(alloc))?;
     let run = command(alloc, "run", RUN)
         .about("Checks, then plays an input for at most STEPS events")
@@ -103,7 +116,9 @@ pub fn command_line<'a>(alloc: Global) -> Result<Command<'a>, AllocError> {
             alloc,
             "STEPS",
             "The most events that are played, a decimal of at most 4294967295",
-        ))?;
+        ))?
+        .arg(symbols_option(alloc))?
+        .arg(listing_option(alloc))?;
     let migrate = command(alloc, "migrate", MIGRATE)
         .about("Prints a certificate in version 2")
         .arg(cert(alloc))?;
@@ -199,6 +214,33 @@ fn cert_option<'a>(alloc: Global) -> Result<Arg<'a>, AllocError> {
 const CERT_HELP: &str =
     "Writes the certificate to FILE, whole or not at all; `-` is standard output, and the table then \
 goes to standard error";
+
+/// The option that names the symbol file.
+fn symbols_option<'a>(alloc: Global) -> Arg<'a> {
+    Arg::new(alloc, SYMBOLS)
+        .short('s')
+        .long("symbols")
+        .value_name("FILE")
+        .help("Reads names for addresses from a symbol file")
+        .action(ArgAction::Set)
+}
+
+/// The option that names the listing.
+fn listing_option<'a>(alloc: Global) -> Arg<'a> {
+    Arg::new(alloc, LISTING)
+        .long("listing")
+        .value_name("FILE")
+        .help("Reads notes and the lines of the source from a listing of the assembler")
+        .action(ArgAction::Set)
+}
+
+/// The option by which annotations are reported that are not needed.
+fn unneeded_option<'a>(alloc: Global) -> Arg<'a> {
+    Arg::new(alloc, WARN_UNNEEDED)
+        .long("warn-unneeded")
+        .help("Warns of annotations without which the ROM is accepted too")
+        .action(ArgAction::SetTrue)
+}
 
 /// The option by which nothing is printed.
 fn quiet_option<'a>(alloc: Global) -> Arg<'a> {

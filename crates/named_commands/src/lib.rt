@@ -1,0 +1,14 @@
+// The commands with names for addresses, over devices: symbol files and listings, annotations with names and notes, and
+// what is told of addresses (docs/PROGRAM.md, "Names for addresses").
+#![tactic(auto)]
+
+mod bytes_source;
+mod checking_named;
+mod program_names;
+mod suggesting_named;
+mod watched;
+
+pub use checking_named::{NamedCheck, check_named_on};
+pub use program_names::{NameFiles, ProgramNames, read_names};
+pub use suggesting_named::suggest_named_on;
+pub use watched::Watched;

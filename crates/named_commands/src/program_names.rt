@@ -1,0 +1,194 @@
+// Reads what names the addresses of a program: a symbol file and a listing.
+
+use command_parts::{ExitStatus, Stop};
+use named_reports::{numbered, tell_lines, tell_note, tell_symbols};
+use source_lines::{AddressNames, ListingFault, Locations, SourceLines};
+use source_notes::{NoteFault, SourceNotes};
+use std::alloc::{AllocError, Global};
+use symbols::{SymbolFault, Symbols};
+use texts::{Sink, Source};
+
+/// One byte more than a symbol file or a listing may have; of a longer file no more is read.
+const READ_LEN: usize = 4_194_305;
+
+/// How many bytes one read asks for.
+const CHUNK_LEN: usize = 4096;
+
+/// The names of a symbol file and of a listing; None where there is no such file.
+#[derive(Clone, Copy)]
+pub struct NameFiles<'a> {
+    pub symbols: Option<&'a str>,
+    pub listing: Option<&'a str>,
+}
+
+/// What names the addresses of a program, and the notes in its source.
+#[derive(Drop)]
+pub struct ProgramNames<'a> {
+    pub(crate) files: NameFiles<'a>,
+    pub(crate) names: AddressNames,
+    /// The notes of the listing, or why they cannot be read; None without a listing.
+    pub(crate) notes: Option<Result<SourceNotes, NoteFault>>,
+}
+
+impl ProgramNames<'_> {
+    /// The labels and the lines of addresses.
+    pub fn names(&self) -> &AddressNames {
+        &self.names
+    }
+
+    /// Whether notes of a listing are added to annotations.
+    pub fn has_notes(&self) -> bool {
+        self.notes.is_some()
+    }
+
+    /// A text of annotations in which each name for an address is replaced by the address. All else stays where it is,
+    /// so each line keeps its number. The error is refused memory.
+    pub fn numbered(&self, alloc: Global, text: &[u8]) -> Result<Vec<u8>, AllocError> {
+        numbered(alloc, text, &self.names.symbols)
+    }
+}
+
+/// Reads a symbol file and a listing (docs/SYMBOLS.md, docs/NOTES.md). Without a symbol file the labels of the listing
+/// are the symbols. What is not named in `files` is not read. Lines that were passed over are told on `notes`.
+///
+/// # Errors
+///
+/// The exit status: 2 for a file that is no symbol file or no listing, or has more than 4 MB, and `notes` says why; 3
+/// where a device failed; 4 where memory was refused.
+pub fn read_names<'a, S: Source, L: Source, N: Sink>(
+    alloc: Global,
+    files: NameFiles<'a>,
+    symbols: &mut S,
+    listing: &mut L,
+    notes: &mut N,
+) -> Result<ProgramNames<'a>, u8> {
+    let found = match files.symbols {
+        Some(name) => Some(read_symbols(alloc, name, symbols, notes)?),
+        None => None,
+    };
+    match files.listing {
+        Some(name) => {
+            let text = match read_most(alloc, listing) {
+                Ok(text) => text,
+                Err(stop) => return Err(stop.status()),
+            };
+            match with_listing(alloc, files, found, name, text.as_slice()) {
+                Ok(names) => Ok(names),
+                Err(ListingFault::NoMemory) => Err(ExitStatus::OutOfMemory.code()),
+                Err(fault) => {
+                    tell_note(alloc, notes, format_args!("{name}: {fault}"));
+                    Err(ExitStatus::Usage.code())
+                }
+            }
+        }
+        None => Ok(ProgramNames {
+            files,
+            names: AddressNames {
+                symbols: found.unwrap_or(Symbols::new(alloc)),
+                locations: Locations::new(alloc),
+            },
+            notes: None,
+        }),
+    }
+}
+
+/// Reads a symbol file, and tells of its lines that were passed over.
+fn read_symbols<S: Source, N: Sink>(
+    alloc: Global,
+    name: &str,
+    source: &mut S,
+    notes: &mut N,
+) -> Result<Symbols, u8> {
+    let text = match read_most(alloc, source) {
+        Ok(text) => text,
+        Err(stop) => return Err(stop.status()),
+    };
+    match Symbols::read(alloc, text.as_slice()) {
+        Ok(symbols) => {
+            tell_lines(alloc, notes, name, symbols.other_lines(), "no symbol");
+            Ok(symbols)
+        }
+        Err(SymbolFault::NoMemory) => Err(ExitStatus::OutOfMemory.code()),
+        Err(fault) => {
+            tell_symbols(alloc, notes, name, &fault);
+            Err(ExitStatus::Usage.code())
+        }
+    }
+}
+
+/// The names of a listing's text, and those of a symbol file where there is one.
+fn with_listing<'a>(
+    alloc: Global,
+    files: NameFiles<'a>,
+    found: Option<Symbols>,
+    name: &str,
+    text: &[u8],
+) -> Result<ProgramNames<'a>, ListingFault> {
+    let Ok(text) = with_blank_lines(alloc, text) else {
+        return Err(ListingFault::NoMemory);
+    };
+    let lines = SourceLines::read(alloc, text.as_slice())?;
+    let symbols = match found {
+        Some(symbols) => symbols,
+        None => lines.labels(alloc)?,
+    };
+    let notes = SourceNotes::of(alloc, &lines, &symbols);
+    if let Err(NoteFault::NoMemory) = &notes {
+        return Err(ListingFault::NoMemory);
+    }
+    let locations = Locations::of(alloc, &lines, name)?;
+    Ok(ProgramNames {
+        files,
+        names: AddressNames { symbols, locations },
+        notes: Some(notes),
+    })
+}
+
+/// A listing of z80asm in which each blank line of the source is a comment. Such a line shows an address and tabs alone,
+/// and would not be counted as a line of the source.
+fn with_blank_lines(alloc: Global, text: &[u8]) -> Result<Vec<u8>, AllocError> {
+    let mut made = Vec::new(alloc);
+    for (number, line) in text.split(|byte| *byte == b'\n').enumerate() {
+        if number > 0 {
+            made.push(b'\n')?;
+        }
+        match line.split_last() {
+            Some((_, rest)) if is_blank(line) => {
+                made.extend_from_slice(rest)?;
+                made.push(b';')?;
+            }
+            _ => made.extend_from_slice(line)?,
+        }
+    }
+    Ok(made)
+}
+
+/// Whether a line is four hexadecimal digits, and then two tabs and more blanks.
+fn is_blank(line: &[u8]) -> bool {
+    let digits = line.get(..4).unwrap_or(b"");
+    let rest = line.get(4..).unwrap_or(b"");
+    digits.iter().all(|digit| digit.is_ascii_hexdigit())
+        && rest.starts_with(b"\t\t")
+        && rest.trim_ascii().is_empty()
+}
+
+/// Reads a file up to its 4,194,305th byte.
+fn read_most<S: Source>(alloc: Global, source: &mut S) -> Result<Vec<u8>, Stop> {
+    let mut bytes = Vec::new(alloc);
+    let mut chunk = [0; CHUNK_LEN];
+    // Each read but the last gives a byte at least.
+    for _ in 0..READ_LEN {
+        let asked = CHUNK_LEN.min(READ_LEN.saturating_sub(bytes.len()));
+        if asked == 0 {
+            break;
+        }
+        let Ok(count) = source.read(&mut chunk[..asked]) else {
+            return Err(Stop::Device);
+        };
+        if count == 0 {
+            break;
+        }
+        bytes.extend_from_slice(&chunk[..count])?;
+    }
+    Ok(bytes)
+}
