@@ -1,8 +1,8 @@
 -- From what was read to what the files hold.
-use Rattle.std.proofs.Common.{◌≡◌, ℕ, List, Option, Some, subst, arith}
+use Rattle.std.proofs.Common.{◌≡◌, ◌⊎◌, ℕ, List, Option, Some, subst, arith}
 use Rattle.cert_form.specs.Contents.{CertificateView}
 use Rattle.cert_form.specs.Text.{text_of}
-use Rattle.texts.specs.Device.{DeviceState, Takes}
+use Rattle.texts.specs.Device.{DeviceState, HasFailed, Takes}
 use Rattle.command_parts.proofs.FileLemmas.{of_whole}
 use Rattle.command_parts.specs.Judging.{IsAccepted}
 use Rattle.command_parts.specs.Reading.{FirstBytes, ROM_READ_LEN}
@@ -34,3 +34,7 @@ pub infers_and_tells_of : (rom : Option (List ℕ)) (keep_old keep_new old new :
 infers_and_tells_of rom keep_old keep_new old new bytes first (certificate, accepted, told) =
     of_whole rom bytes (λ b. (c : CertificateView) × IsAccepted b (text_of c) c × (Takes keep_old (text_of c) keep_new × Takes old (accepted_text c) new)) first (omega (arith, accepted.accepts.fits_rom.fits))
     (certificate, accepted, told)
+
+-- one of two devices failed, the second from an unchanged state
+pub failed_from : {X : Type 0} (state : X → DeviceState) (new : DeviceState) (before same : X) (First : Type 0) → before ≡ same → First ⊎ HasFailed (state before) new → First ⊎ HasFailed (state same) new
+failed_from {X} state new before same First kept failed = subst (λ (x : X). First ⊎ HasFailed (state x) new) kept failed

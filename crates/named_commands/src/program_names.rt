@@ -144,8 +144,8 @@ fn with_listing<'a>(
     })
 }
 
-/// A listing of z80asm in which each blank line of the source is a comment. Such a line shows an address and tabs alone,
-/// and would not be counted as a line of the source.
+/// A listing of z80asm in which each blank line of the source is a comment. Such a line shows an address and tabs
+/// alone, and would not be counted as a line of the source.
 fn with_blank_lines(alloc: Global, text: &[u8]) -> Result<Vec<u8>, AllocError> {
     let mut made = Vec::new(alloc);
     for (number, line) in text.split(|byte| *byte == b'\n').enumerate() {

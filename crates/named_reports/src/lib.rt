@@ -1,5 +1,5 @@
-// What standard error says by names for addresses: of names, notes and refusals, and of annotations that have no effect or
-// whose address is wrong (docs/PROGRAM.md, "Names for addresses" and "Warnings").
+// What standard error says by names for addresses: of names, notes and refusals, and of annotations that have no effect
+// or whose address is wrong (docs/PROGRAM.md, "Names for addresses" and "Warnings").
 #![tactic(auto)]
 
 mod in_place;
