@@ -8,4 +8,4 @@ returns-clause-accepted g c = λ done.
 
 pub returns-clause-device : goal.returns-clause-device
 returns-clause-device g c = λ failed.
-    failed_from g.W.Sink.state _ _ _ _ c.in-Ok.ensures.kept (c.keep_named.ensures.device failed)
+    failed_from g.W.Sink.state (g.W.Sink.state c.keep_named.new.out) _ _ _ c.in-Ok.ensures.kept (c.keep_named.ensures.device failed)

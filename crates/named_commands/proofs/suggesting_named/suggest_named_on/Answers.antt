@@ -4,4 +4,4 @@ use Rattle.named_commands.proofs.suggesting_named.suggest_named_on.Goals as goal
 
 pub returns-clause-accepted : goal.returns-clause-accepted
 returns-clause-accepted g c = λ done.
-    is_acceptable_read _ _ (lent_first _ _ _ c.as_slice.ensures.value c.in-Ok.ensures.first) (c.suggest.ensures.accepted done)
+    is_acceptable_read _ _ (lent_first _ _ _ c.as_slice-read.ensures.value c.in-Ok.ensures.first) (c.suggest.ensures.accepted done)
