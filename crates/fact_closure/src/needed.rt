@@ -330,7 +330,11 @@ impl<'s> FactSearch<'s> {
         let mut table = guide.copied(alloc)?;
         for (number, row) in plain.rows().iter() {
             let place = self.related_number(*number);
-            let is_cut = self.setting.task.split_at(ContextPoint::of(place).address).is_some();
+            let is_cut = self
+                .setting
+                .task
+                .split_at(ContextPoint::of(place).address)
+                .is_some();
             if incoming.to(place).len() < 2 && !is_cut {
                 continue;
             }

@@ -15,8 +15,8 @@ use board_fetch::fetch;
 use cert_fields::Facts;
 use cert_form::{PROC_LIMIT, ROW_LIMIT};
 use inferred_rows::{
-    CLASSES, ContextPoint, Guide, InferredRow, JoinOutcome, Manner, Thresholds, Tightening, join_of,
-    pointer_of,
+    CLASSES, ContextPoint, Guide, InferredRow, JoinOutcome, Manner, Thresholds, Tightening,
+    join_of, pointer_of,
 };
 use intervals::ByteRange;
 use loop_bounds::{Effect, Variable};
