@@ -76,7 +76,24 @@ Example: galcert check game.rom --infer";
 
 /// The command line (docs/PROGRAM.md). The error is refused memory.
 pub fn command_line<'a>(alloc: Global) -> Result<Command<'a>, AllocError> {
-    let check = command(alloc, "check", CHECK)
+    Command::new(alloc, "galcert")
+        .about("Verifies Z80 program ROMs of the Galaxian arcade board")
+        .long_about(GALCERT)
+        .after_long_help(STATUSES)
+        .version("1.0.0")
+        .propagate_version(true)
+        .subcommand_required(true)
+        .disable_help_subcommand(true)
+        .subcommand(check_command(alloc)?)?
+        .subcommand(suggest_command(alloc)?)?
+        .subcommand(verify_command(alloc)?)?
+        .subcommand(run_command(alloc)?)?
+        .subcommand(migrate_command(alloc)?)?
+        .subcommand(help_command(alloc)?)
+}
+
+fn check_command<'a>(alloc: Global) -> Result<Command<'a>, AllocError> {
+    command(alloc, "check", CHECK)
         .about("Makes a certificate for a ROM, and prints the table or the refusal")
         .arg(rom(alloc))?
         .arg(annot(alloc))?
@@ -86,8 +103,11 @@ pub fn command_line<'a>(alloc: Global) -> Result<Command<'a>, AllocError> {
         .arg(symbols_option(alloc))?
         .arg(listing_option(alloc))?
         .arg(unneeded_option(alloc))?
-        .arg(quiet_option(alloc))?;
-    let suggest = command(alloc, "suggest", SUGGEST)
+        .arg(quiet_option(alloc))
+}
+
+fn suggest_command<'a>(alloc: Global) -> Result<Command<'a>, AllocError> {
+    command(alloc, "suggest", SUGGEST)
         .about("Finds annotations for a ROM, and prints them as a file")
         .arg(rom(alloc))?
         .arg(annot(alloc))?
@@ -95,15 +115,21 @@ pub fn command_line<'a>(alloc: Global) -> Result<Command<'a>, AllocError> {
         .arg(output_option(alloc))?
         .arg(symbols_option(alloc))?
         .arg(listing_option(alloc))?
-        .arg(quiet_option(alloc))?;
-    let verify = command(alloc, "verify", VERIFY)
+        .arg(quiet_option(alloc))
+}
+
+fn verify_command<'a>(alloc: Global) -> Result<Command<'a>, AllocError> {
+    command(alloc, "verify", VERIFY)
         .about("Checks a certificate for a ROM, and prints the table or the refusal")
         .arg(rom(alloc))?
         .arg(cert(alloc))?
         .arg(symbols_option(alloc))?
         .arg(listing_option(alloc))?
-        .arg(quiet_option(alloc))?;
-    let run = command(alloc, "run", RUN)
+        .arg(quiet_option(alloc))
+}
+
+fn run_command<'a>(alloc: Global) -> Result<Command<'a>, AllocError> {
+    command(alloc, "run", RUN)
         .about("Checks, then plays an input for at most STEPS events")
         .arg(rom(alloc))?
         .arg(cert(alloc))?
@@ -118,31 +144,23 @@ pub fn command_line<'a>(alloc: Global) -> Result<Command<'a>, AllocError> {
             "The most events that are played, a decimal of at most 4294967295",
         ))?
         .arg(symbols_option(alloc))?
-        .arg(listing_option(alloc))?;
-    let migrate = command(alloc, "migrate", MIGRATE)
+        .arg(listing_option(alloc))
+}
+
+fn migrate_command<'a>(alloc: Global) -> Result<Command<'a>, AllocError> {
+    command(alloc, "migrate", MIGRATE)
         .about("Prints a certificate in version 2")
-        .arg(cert(alloc))?;
-    let help = Command::new(alloc, "help")
+        .arg(cert(alloc))
+}
+
+fn help_command<'a>(alloc: Global) -> Result<Command<'a>, AllocError> {
+    Command::new(alloc, "help")
         .about("Prints the help of a command on standard output")
         .arg(
             Arg::new(alloc, COMMAND)
                 .help("The command; if none is said, the help of galcert is printed")
                 .action(ArgAction::Set),
-        )?;
-    Command::new(alloc, "galcert")
-        .about("Verifies Z80 program ROMs of the Galaxian arcade board")
-        .long_about(GALCERT)
-        .after_long_help(STATUSES)
-        .version("1.0.0")
-        .propagate_version(true)
-        .subcommand_required(true)
-        .disable_help_subcommand(true)
-        .subcommand(check)?
-        .subcommand(suggest)?
-        .subcommand(verify)?
-        .subcommand(run)?
-        .subcommand(migrate)?
-        .subcommand(help)
+        )
 }
 
 /// A command with its long description.
