@@ -8,7 +8,7 @@ use abs_step::Reason;
 use affine::Space;
 use analysis::{FlowFault, joined, names_slots_below, widest};
 use annotations::{FactNote, RangeNote};
-use loop_bounds::{Linear, Variable};
+use loop_bounds::{Linear, Ranges, Term, Variable};
 use std::alloc::Global;
 
 /// After how many changes of a row its relations no longer tighten it.
@@ -226,9 +226,34 @@ pub fn speaks_of(note: &FactNote, part: u16) -> bool {
 
 /// A state tightened by a linear that is 0, or as it was if nothing would be left.
 fn tightened_by(state: AbsState, fact: &Linear) -> AbsState {
-    if !names_slots_below(fact, state.shape.len()) {
+    if !names_slots_below(fact, state.shape.len()) || !may_narrow(&state, fact) {
         return state;
     }
     let mut left = state.copied();
     if left.tighten(fact) { left } else { state }
+}
+
+/// Whether a linear that is 0 narrows the range of a variable. A state is copied only then.
+fn may_narrow(state: &AbsState, fact: &Linear) -> bool {
+    let constant = i64::from(fact.constant());
+    let (mut least, mut most) = (constant, constant);
+    for term in fact.terms() {
+        let (low, high) = span_of(state, term);
+        least = least.saturating_add(low);
+        most = most.saturating_add(high);
+    }
+    fact.terms().iter().any(|term| {
+        let (low, high) = span_of(state, term);
+        let (others_least, others_most) = (least.saturating_sub(low), most.saturating_sub(high));
+        high.saturating_add(others_least) > 0 || low.saturating_add(others_most) < 0
+    })
+}
+
+/// The least and the greatest value of a term.
+fn span_of(state: &AbsState, term: &Term) -> (i64, i64) {
+    let range = state.range(term.variable);
+    let coefficient = i64::from(term.coefficient);
+    let one = coefficient.saturating_mul(i64::from(range.low()));
+    let other = coefficient.saturating_mul(i64::from(range.high()));
+    (one.min(other), one.max(other))
 }
