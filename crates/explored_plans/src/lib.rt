@@ -18,5 +18,5 @@ pub use plan::{Family, Finding, Plan, copy_of_split, split_of};
 pub use progress::{Progress, Unwatched};
 pub use reads::read_by;
 pub use search_context::SearchContext;
-pub use trials::{Attempt, Search, entry_of};
+pub use trials::{Attempt, Search, SetAside, entry_of};
 pub use values::{ByteSet, PARTS, REGISTERS, code_of, cut, register_of, values_in, variable_of};

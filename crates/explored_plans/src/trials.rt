@@ -9,6 +9,7 @@ use board_fetch::fetch;
 use row_graph::{FlowGraph, NaturalLoop, loops_of};
 use std::alloc::Global;
 use std::collections::BTreeSet;
+use std::mem::replace;
 use z80_decode::Instr;
 
 /// What a move was tried on, so that it is not tried again: a number for the kind of move, two addresses, and a number
@@ -26,6 +27,13 @@ pub struct Search<'s, P: Progress> {
     pub left: u32,
     tried: BTreeSet<Attempt>,
     progress: &'s mut P,
+}
+
+/// What a search goes back to: its explored plan and the graph of its rows.
+#[derive(Drop)]
+pub struct SetAside {
+    explored: ExploredPlan,
+    graph: FlowGraph,
 }
 
 impl<'s, P: Progress> Search<'s, P> {
@@ -56,6 +64,22 @@ impl<'s, P: Progress> Search<'s, P> {
         self.graph = FlowGraph::of(self.alloc, &edges)?;
         self.explored = explored;
         Ok(())
+    }
+
+    /// Goes on with another explored plan for a while. The result is what `restore` takes.
+    pub fn exchange(&mut self, explored: ExploredPlan) -> Result<SetAside, FlowFault> {
+        let edges = explored.edges(self.alloc, self.context)?;
+        let graph = FlowGraph::of(self.alloc, &edges)?;
+        Ok(SetAside {
+            explored: replace(&mut self.explored, explored),
+            graph: replace(&mut self.graph, graph),
+        })
+    }
+
+    /// Goes back to the explored plan that was set aside.
+    pub fn restore(&mut self, before: SetAside) {
+        self.explored = before.explored;
+        self.graph = before.graph;
     }
 
     /// Whether a move is new; from now on it is not.

@@ -2,9 +2,7 @@
 // analysis.
 #![tactic(auto)]
 
-mod cells;
 mod inference;
-mod inlines;
 mod judged;
 mod plain;
 mod search;
@@ -12,3 +10,4 @@ mod search;
 pub use inference::{Inference, inferred};
 pub use judged::Judged;
 pub use plain::{plain_annotations, without_fact};
+pub use search::helping_at;

@@ -2,12 +2,12 @@
 
 ghost use Rattle.std.specs.Prelude.{◌≡◌, IfOk, IfSome};
 
-use crate::cells::try_cells;
-use crate::inlines::{try_context, try_inline, try_inline_split};
 use crate::judged::{Judged, judge};
 use analysis::FlowFault;
 use cert_writer::WriterFault;
 use explored_plans::{ExploredPlan, Plan, Progress, Search};
+use plan_cells::try_cells;
+use plan_inlines::{try_context, try_inline, try_inline_split};
 use plan_loops::{try_first_turn, try_unroll, with_counters, with_other_bounds};
 use plan_splits::{try_join, try_lookup, try_parts};
 
@@ -66,6 +66,22 @@ fn in_order<P: Progress>(search: &Search<P>) -> Result<Vec<u16>, FlowFault> {
         }
     }
     Ok(order)
+}
+
+/// The first move that takes the refusals of one address away; None if no move does. The search stays as it was.
+///
+/// # Errors
+///
+/// `NoMemory` where memory was refused.
+pub fn helping_at<P: Progress>(
+    search: &mut Search<P>,
+    refused: u16,
+) -> Result<Option<ExploredPlan>, FlowFault> {
+    let found = cheap(search, refused)?;
+    if found.is_some() || !search.has_trials() {
+        return Ok(found);
+    }
+    dear(search, refused)
 }
 
 fn cheap<P: Progress>(

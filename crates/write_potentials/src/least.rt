@@ -30,19 +30,12 @@ fn least_constant(
         .max(-i128::from(GREATEST_CONSTANT));
     let constant = i32::try_from(needed).ok()?;
     let from = with_constant(terms, constant)?;
-    if decreases(&from, to, cost, effect, source, target) {
-        Some(constant)
-    } else {
-        None
-    }
+    decreases(&from, to, cost, effect, source, target).then_some(constant)
 }
 
 /// The greater of two constants, or the only one.
 fn greater(one: Option<i32>, other: i32) -> Option<i32> {
-    match one {
-        Some(one) => Some(one.max(other)),
-        None => Some(other),
-    }
+    Some(one.map_or(other, |one| one.max(other)))
 }
 
 /// The least constant that pays for all requests of a row, 0 if there are none; None if a potential that it needs has
@@ -120,10 +113,8 @@ impl<'a> Payer<'a> {
         let mut least = None;
         for row in request.start..request.end {
             if let Some(to) = known_at(known, row) {
-                match self.constant_to(terms, request, row, &to) {
-                    Some(constant) => least = greater(least, constant),
-                    None => return Err(Unpaid),
-                }
+                let constant = self.constant_to(terms, request, row, &to).ok_or(Unpaid)?;
+                least = greater(least, constant);
             }
         }
         Ok(least)

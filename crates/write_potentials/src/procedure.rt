@@ -135,8 +135,7 @@ fn solve(
         let mut group = group_of(alloc, turns, rows, counters, apart)?;
         return solving.solve(&mut group);
     }
-    match solving.make(first.row, Choice::Any) {
-        Ok(()) => Ok(()),
-        Err(_) => Err(PotentialFault::Limit),
-    }
+    solving
+        .make(first.row, Choice::Any)
+        .map_err(|_| PotentialFault::Limit)
 }

@@ -175,10 +175,7 @@ impl<'a> Solving<'a> {
     /// rounds come to rest.
     fn comes_to_rest(&mut self, group: &Group) -> bool {
         self.begin(&group.heads);
-        match self.settle(group, Choice::WithTerms) {
-            Ok(is_settled) => is_settled,
-            Err(_) => false,
-        }
+        self.settle(group, Choice::WithTerms).unwrap_or(false)
     }
 
     /// Makes the potentials of a group with loops within loops. Where the constant of an outer loop's row grows from
@@ -260,9 +257,12 @@ impl<'a> Solving<'a> {
         }
     }
 
-    /// Makes the potentials of a group in rounds. The result is whether those of the loops' rows came to rest.
+    /// Makes the potentials of a group in rounds. The result is whether those of the loops' rows came to rest. Without
+    /// loops within loops a round for each loop suffices. Otherwise each level takes rounds for the terms on the way in,
+    /// and for the constants on the way out.
     fn settle(&mut self, group: &Group, choice: Choice) -> Result<bool, Unpaid> {
-        for _ in 0..group.heads.len().saturating_add(2) {
+        let levels = if self.carries { 3 } else { 1 };
+        for _ in 0..group.heads.len().saturating_mul(levels).saturating_add(2) {
             self.make_each(&group.others, choice)?;
             if !self.raise(&group.heads)? {
                 return Ok(true);
@@ -332,11 +332,11 @@ impl<'a> Solving<'a> {
             head.row,
             with_constant(&head.turn, HIGH).unwrap_or(head.turn),
         );
-        match self.make_each(&group.others, Choice::WithTerms) {
-            Ok(()) => match self.least_of(&head) {
-                Ok(least) => least.constant() > HIGH,
-                Err(_) => true,
-            },
+        if self.make_each(&group.others, Choice::WithTerms).is_err() {
+            return true;
+        }
+        match self.least_of(&head) {
+            Ok(least) => least.constant() > HIGH,
             Err(_) => true,
         }
     }
@@ -373,11 +373,6 @@ fn exchange_turns(heads: &mut [Head]) {
 
 /// A constant as a linear, if a certificate has room for it.
 fn constant(least: i64) -> Result<Linear, Unpaid> {
-    let Ok(least) = i32::try_from(least) else {
-        return Err(Unpaid);
-    };
-    match Linear::of_constant(least) {
-        Some(linear) => Ok(linear),
-        None => Err(Unpaid),
-    }
+    let least = i32::try_from(least).map_err(|_| Unpaid)?;
+    Linear::of_constant(least).ok_or(Unpaid)
 }

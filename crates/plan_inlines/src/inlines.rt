@@ -7,8 +7,6 @@ use inferred_rows::ContextPoint;
 use intervals::ByteRange;
 use plan_loops::try_unroll;
 use plan_splits::{Splitting, try_lookup, with_split};
-use row_graph::FlowGraph;
-use std::mem::replace;
 use z80_decode::{Instr, Register8, RestartAddress, StackPair};
 
 /// The address that an instruction calls, if it is a call.
@@ -63,7 +61,7 @@ fn is_inline<P: Progress>(search: &Search<P>, address: u16) -> bool {
 }
 
 /// A plan in which the callers of a procedure that takes its return address are inline.
-pub(crate) fn try_inline<P: Progress>(
+pub fn try_inline<P: Progress>(
     search: &mut Search<P>,
     refused: u16,
 ) -> Result<Option<ExploredPlan>, FlowFault> {
@@ -112,7 +110,7 @@ fn some_inline_calls<P: Progress>(search: &Search<P>, entry: u16) -> bool {
 
 /// A plan with a split by which the inline calls of an entry are distinguished: by a register that differs between
 /// them, or by the low byte of the return address that it pops.
-pub(crate) fn try_inline_split<P: Progress>(
+pub fn try_inline_split<P: Progress>(
     search: &mut Search<P>,
     refused: u16,
 ) -> Result<Option<ExploredPlan>, FlowFault> {
@@ -253,7 +251,7 @@ fn split_by_return<P: Progress>(
 
 /// A plan in which calls near before a refused row, or those of its procedure, are inline: each is then a context of
 /// its own.
-pub(crate) fn try_context<P: Progress>(
+pub fn try_context<P: Progress>(
     search: &mut Search<P>,
     refused: u16,
 ) -> Result<Option<ExploredPlan>, FlowFault> {
@@ -294,13 +292,9 @@ fn within<P: Progress>(
     explored: ExploredPlan,
     refused: u16,
 ) -> Result<Option<ExploredPlan>, FlowFault> {
-    let edges = explored.edges(search.alloc, search.context)?;
-    let graph = FlowGraph::of(search.alloc, &edges)?;
-    let here = replace(&mut search.explored, explored);
-    let graph_here = replace(&mut search.graph, graph);
+    let before = search.exchange(explored)?;
     let found = next_move(search, refused);
-    search.explored = here;
-    search.graph = graph_here;
+    search.restore(before);
     match found? {
         Some(explored) if !search.explored.is_worse(&explored) => Ok(Some(explored)),
         _ => Ok(None),

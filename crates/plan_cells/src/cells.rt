@@ -8,10 +8,8 @@ use explored_plans::{ExploredPlan, Family, Plan, Progress, Search, read_by};
 use inferred_rows::ContextPoint;
 use intervals::ByteRange;
 use plan_splits::try_lookup;
-use row_graph::FlowGraph;
 use std::alloc::Global;
 use std::collections::{BTreeMap, BTreeSet};
-use std::mem::replace;
 
 /// How many times the ranges are made larger.
 const ROUNDS: u32 = 24;
@@ -98,7 +96,7 @@ impl Attempted {
 
 /// A plan with cells for the bytes of work RAM that are read at one address: each begins with what the last store
 /// before NMIs leaves, and grows by the stores that are seen until none is outside.
-pub(crate) fn try_cells<P: Progress>(
+pub fn try_cells<P: Progress>(
     search: &mut Search<P>,
 ) -> Result<Option<ExploredPlan>, FlowFault> {
     let rest = search.explored.refused.len() as u64;
@@ -151,13 +149,9 @@ fn with_lookup<P: Progress>(
     explored: ExploredPlan,
 ) -> Result<Option<ExploredPlan>, FlowFault> {
     let refused = explored.refused_addresses(search.alloc)?;
-    let edges = explored.edges(search.alloc, search.context)?;
-    let graph = FlowGraph::of(search.alloc, &edges)?;
-    let here = replace(&mut search.explored, explored);
-    let graph_here = replace(&mut search.graph, graph);
+    let before = search.exchange(explored)?;
     let found = first_lookup(search, &refused);
-    search.explored = here;
-    search.graph = graph_here;
+    search.restore(before);
     match found? {
         Some(explored) if !is_worse_without_drops(search, &explored) => Ok(Some(explored)),
         _ => Ok(None),
