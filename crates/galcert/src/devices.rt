@@ -1,7 +1,7 @@
 // The devices that the words of a command line name.
 
-use crate::words::word;
 use clap::ArgMatches;
+use command_words::word;
 use file_devices::{FileSource, Output, is_same_file};
 
 /// A file or standard input.

@@ -1,8 +1,8 @@
 // How a command ends: what standard error says beside the status.
 
 use crate::devices::{Clash, Input, Out};
-use crate::words::{LISTING, SYMBOLS};
 use command_parts::ExitStatus;
+use command_words::{LISTING, SYMBOLS};
 use file_devices::Failure;
 use std::fmt::Display;
 

@@ -5,11 +5,11 @@ use crate::ending::{Used, end, report, report_clash};
 use crate::hints::{hint_annotations, hint_named, hint_rom};
 use crate::naming::{has_names, has_reports, names, optional, tell_refused};
 use crate::reporter::Reporter;
-use crate::words::{
-    CERT_FILE, INFER, LISTING, OUTPUT, QUIET, SYMBOLS, TRIALS, WARN_UNNEEDED, word,
-};
 use clap::ArgMatches;
 use command_parts::ExitStatus;
+use command_words::{
+    CERT_FILE, INFER, LISTING, OUTPUT, QUIET, SYMBOLS, TRIALS, WARN_UNNEEDED, word,
+};
 use commands::check_on;
 use file_devices::{AfterOutput, Output, SharedOutput};
 use inference_commands::{infer_on, suggest_on};

@@ -2,9 +2,9 @@
 
 use crate::devices::{Input, input_of};
 use crate::ending::{Used, end};
-use crate::words::{LISTING, SYMBOLS, WARN_UNNEEDED};
 use clap::ArgMatches;
 use command_parts::ExitStatus;
+use command_words::{LISTING, SYMBOLS, WARN_UNNEEDED};
 use file_devices::{FileSource, WriterSink};
 use named_commands::{NameFiles, ProgramNames, Watched, read_names};
 use named_reports::tell_refusal;

@@ -1,0 +1,106 @@
+// The commands.
+
+use crate::help_texts::{CHECK, GALCERT, MIGRATE, RUN, STATUSES, SUGGEST, VERIFY};
+use crate::names::COMMAND;
+use crate::options::{
+    annot, cert, cert_option, file, infer_option, listing_option, output_option, quiet_option, rom,
+    symbols_option, trials_option, unneeded_option,
+};
+use clap::{Arg, ArgAction, Command};
+use std::alloc::{AllocError, Global};
+
+/// The command line (docs/PROGRAM.md). The error is refused memory.
+pub fn command_line<'a>(alloc: Global) -> Result<Command<'a>, AllocError> {
+    Command::new(alloc, "galcert")
+        .about("Verifies Z80 program ROMs of the Galaxian arcade board")
+        .long_about(GALCERT)
+        .after_long_help(STATUSES)
+        .version("1.0.0")
+        .propagate_version(true)
+        .subcommand_required(true)
+        .disable_help_subcommand(true)
+        .subcommand(check_command(alloc)?)?
+        .subcommand(suggest_command(alloc)?)?
+        .subcommand(verify_command(alloc)?)?
+        .subcommand(run_command(alloc)?)?
+        .subcommand(migrate_command(alloc)?)?
+        .subcommand(help_command(alloc)?)
+}
+
+fn check_command<'a>(alloc: Global) -> Result<Command<'a>, AllocError> {
+    command(alloc, "check", CHECK)
+        .about("Makes a certificate for a ROM, and prints the table or the refusal")
+        .arg(rom(alloc))?
+        .arg(annot(alloc))?
+        .arg(infer_option(alloc))?
+        .arg(trials_option(alloc))?
+        .arg(cert_option(alloc)?)?
+        .arg(symbols_option(alloc))?
+        .arg(listing_option(alloc))?
+        .arg(unneeded_option(alloc))?
+        .arg(quiet_option(alloc))
+}
+
+fn suggest_command<'a>(alloc: Global) -> Result<Command<'a>, AllocError> {
+    command(alloc, "suggest", SUGGEST)
+        .about("Finds annotations for a ROM, and prints them as a file")
+        .arg(rom(alloc))?
+        .arg(annot(alloc))?
+        .arg(trials_option(alloc))?
+        .arg(output_option(alloc))?
+        .arg(symbols_option(alloc))?
+        .arg(listing_option(alloc))?
+        .arg(quiet_option(alloc))
+}
+
+fn verify_command<'a>(alloc: Global) -> Result<Command<'a>, AllocError> {
+    command(alloc, "verify", VERIFY)
+        .about("Checks a certificate for a ROM, and prints the table or the refusal")
+        .arg(rom(alloc))?
+        .arg(cert(alloc))?
+        .arg(symbols_option(alloc))?
+        .arg(listing_option(alloc))?
+        .arg(quiet_option(alloc))
+}
+
+fn run_command<'a>(alloc: Global) -> Result<Command<'a>, AllocError> {
+    command(alloc, "run", RUN)
+        .about("Checks, then plays an input for at most STEPS events")
+        .arg(rom(alloc))?
+        .arg(cert(alloc))?
+        .arg(file(
+            alloc,
+            "INPUT",
+            "The input: a reset and the environments of events",
+        ))?
+        .arg(file(
+            alloc,
+            "STEPS",
+            "The most events that are played, a decimal of at most 4294967295",
+        ))?
+        .arg(symbols_option(alloc))?
+        .arg(listing_option(alloc))
+}
+
+fn migrate_command<'a>(alloc: Global) -> Result<Command<'a>, AllocError> {
+    command(alloc, "migrate", MIGRATE)
+        .about("Prints a certificate in version 2")
+        .arg(cert(alloc))
+}
+
+fn help_command<'a>(alloc: Global) -> Result<Command<'a>, AllocError> {
+    Command::new(alloc, "help")
+        .about("Prints the help of a command on standard output")
+        .arg(
+            Arg::new(alloc, COMMAND)
+                .help("The command; if none is said, the help of galcert is printed")
+                .action(ArgAction::Set),
+        )
+}
+
+/// A command with its long description.
+fn command<'a>(alloc: Global, name: &'static str, about: &'static str) -> Command<'a> {
+    Command::new(alloc, name)
+        .long_about(about)
+        .after_long_help(STATUSES)
+}

@@ -1,0 +1,30 @@
+// The names of arguments and options, and the word that was said for one.
+
+use clap::ArgMatches;
+
+/// What `--version` prints: the program's version, and the toolchain with which it was proved.
+pub const VERSION: &str = "galcert 1.0.0\nproved with rattle-kit-13b logic dac8208d650f15bf\n";
+
+/// The names by which what was said is found.
+pub const CERT_FILE: &str = "cert";
+
+pub const COMMAND: &str = "COMMAND";
+
+pub const INFER: &str = "infer";
+
+pub const LISTING: &str = "listing";
+
+pub const OUTPUT: &str = "output";
+
+pub const QUIET: &str = "quiet";
+
+pub const SYMBOLS: &str = "symbols";
+
+pub const TRIALS: &str = "trials";
+
+pub const WARN_UNNEEDED: &str = "warn-unneeded";
+
+/// The word of an argument that the command line requires; an empty text if there is none.
+pub fn word<'a>(matches: &ArgMatches<'a>, name: &str) -> &'a str {
+    matches.get_str(name).unwrap_or("")
+}
