@@ -26,7 +26,7 @@ const INPUTS: [&str; 4] = ["ROM", "ANNOT", SYMBOLS, LISTING];
 /// What a command is asked for.
 #[derive(Clone, Copy)]
 struct Asked<'r, 'm> {
-    rt: &'r HostRuntime,
+    rt: &'m HostRuntime,
     matches: &'r ArgMatches<'m>,
     /// The most trials of a search.
     trials: u32,
@@ -45,32 +45,20 @@ pub fn check_files<'a>(rt: &'a HostRuntime, matches: &ArgMatches<'a>) -> u8 {
     if let Some(clash) = clash_of(rt, matches, &INPUTS, Some(CERT_FILE)) {
         return report_clash(rt, &clash);
     }
-    let names = match names(rt, matches, has_reports(matches)) {
-        Ok(names) => names,
-        Err(status) => return status,
-    };
     let mut rom = input(rt, matches, "ROM");
     let mut annot = annotations(rt, matches);
     let kept = RefCell::new(output(rt, matches, CERT_FILE));
     let mut keep = SharedOutput::new(&kept);
-    let mut out = Watched::new(AfterOutput::new(&kept, table_output(rt, matches)));
+    let out = AfterOutput::new(&kept, table_output(rt, matches));
     let asked = Asked {
         rt,
         matches,
         trials,
     };
-    let status = match &names {
-        Some(names) => check_by_names(asked, names, &mut rom, &mut annot, &mut keep, &mut out),
-        None => check_plain(asked, &mut rom, &mut annot, &mut keep, &mut out),
+    let (status, out) = match judge_files(asked, &mut rom, &mut annot, &mut keep, out) {
+        Ok(judged) => judged,
+        Err(status) => return status,
     };
-    tell_refused(rt, names.as_ref(), status, &out);
-    if status == ExitStatus::Refused.code() {
-        hint_rom(rt, &rom);
-        match &names {
-            Some(names) => hint_named(rt, &annot, names, infers),
-            None => hint_annotations(rt, &annot, infers),
-        }
-    }
     let kept_failure = match kept.try_borrow_mut() {
         Ok(mut kept) => {
             kept.discard();
@@ -78,7 +66,6 @@ pub fn check_files<'a>(rt: &'a HostRuntime, matches: &ArgMatches<'a>) -> u8 {
         }
         Err(_) => None,
     };
-    let out = out.into_inner();
     let used = [
         Used::input(&rom),
         Used::input(&annot),
@@ -86,6 +73,38 @@ pub fn check_files<'a>(rt: &'a HostRuntime, matches: &ArgMatches<'a>) -> u8 {
         Used::stdout(out.output()),
     ];
     end(rt, status, &used)
+}
+
+/// Reads what names addresses, and checks. Standard error says more of a refusal. The result is the status, and the
+/// sink for the table.
+///
+/// # Errors
+///
+/// The status where a symbol file or a listing cannot be read; standard error says why.
+fn judge_files<K: Sink, W: Sink + Drop>(
+    asked: Asked<'_, '_>,
+    rom: &mut Input<'_>,
+    annot: &mut Input<'_>,
+    keep: &mut K,
+    out: W,
+) -> Result<(u8, W), u8> {
+    let Asked { rt, matches, .. } = asked;
+    let infers = matches.get_flag(INFER);
+    let names = names(rt, matches, has_reports(matches))?;
+    let mut out = Watched::new(out);
+    let status = match &names {
+        Some(names) => check_by_names(asked, names, rom, annot, keep, &mut out),
+        None => check_plain(asked, rom, annot, keep, &mut out),
+    };
+    tell_refused(rt, names.as_ref(), status, &out);
+    if status == ExitStatus::Refused.code() {
+        hint_rom(rt, rom);
+        match &names {
+            Some(names) => hint_named(rt, annot, names, infers),
+            None => hint_annotations(rt, annot, infers),
+        }
+    }
+    Ok((status, out.into_inner()))
 }
 
 /// Checks with names for addresses. The result is the exit status.
