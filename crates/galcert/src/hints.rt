@@ -4,7 +4,8 @@ use crate::devices::Input;
 use crate::ending::report;
 use annotation_faults::place_of_fault;
 use file_devices::{Likeness, certified_len};
-use named_commands::ProgramNames;
+use named_reports::numbered;
+use program_names::ProgramNames;
 use std::fs;
 
 /// The most bytes of a ROM.
@@ -89,7 +90,7 @@ pub fn hint_named(rt: &HostRuntime, annot: &Input, names: &ProgramNames, infers:
     let Some(text) = annot.text() else {
         return;
     };
-    if let Ok(text) = names.numbered(rt.alloc(), text) {
+    if let Ok(text) = numbered(rt.alloc(), text, &names.names.symbols) {
         hint_fault(rt, annot, text.as_slice(), infers || names.has_notes());
     }
 }

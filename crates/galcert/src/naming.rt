@@ -6,8 +6,9 @@ use clap::ArgMatches;
 use command_parts::ExitStatus;
 use command_words::{LISTING, SYMBOLS, WARN_UNNEEDED};
 use file_devices::{FileSource, WriterSink};
-use named_commands::{NameFiles, ProgramNames, Watched, read_names};
+use named_commands::Watched;
 use named_reports::tell_refusal;
+use program_names::{NameFiles, ProgramNames, read_names};
 use texts::Sink;
 
 /// Whether the command line names a symbol file or a listing.
@@ -60,7 +61,7 @@ pub fn tell_refused<W: Sink>(
     if status == ExitStatus::Refused.code() {
         if let Some(names) = names {
             let notes = &mut WriterSink::new(rt.stderr());
-            tell_refusal(rt.alloc(), names.names(), out.line(), notes);
+            tell_refusal(rt.alloc(), &names.names, out.line(), notes);
         }
     }
 }

@@ -9,7 +9,6 @@ ghost use Rattle.inference_commands.specs.Inferring.{InfersAndTells};
 ghost use Rattle.texts.specs.Device.{HasFailed, CountsNoFailure, Takes};
 
 use crate::bytes_source::BytesSource;
-use crate::program_names::ProgramNames;
 use annotations::Given;
 use certificate::Certificate;
 use command_parts::{ExitStatus, Stop, keep_and_tell, read_all, read_rom};
@@ -18,9 +17,10 @@ use commands::{make, read_annotations};
 use inference_commands::{Progress, infer};
 use named_annotations::{NamedFault, named_text};
 use named_reports::{
-    tell_bad_note, tell_conflict, tell_lines, tell_unknown_names, warn_of_effects, warn_of_places,
+    tell_bad_note, tell_conflict, tell_unknown_names, warn_of_effects, warn_of_places,
     warn_of_refused, warn_of_unneeded,
 };
+use program_names::{ProgramNames, tell_lines};
 use runner::cert_checker::Accepted;
 use source_lines::AddressNames;
 use source_notes::SourceNotes;
@@ -155,7 +155,7 @@ fn check_said<K: Sink, W: Sink, N: Sink, P: Progress>(
     ensures keep_next { CountsNoFailure (K.state keep.old) (K.state keep.new)
         ⊎ (out.new ≡ out.old) }
 {
-    warn_of_misplaced(alloc, how.names.names(), rom, said, notes);
+    warn_of_misplaced(alloc, &how.names.names, rom, said, notes);
     let accepted = match certified(alloc, rom, said, how.trials, out, notes, progress) {
         Ok(accepted) => accepted,
         Err(stop) => {
@@ -244,7 +244,7 @@ fn warn_of_stop<N: Sink>(
         return;
     }
     if let Ok(given) = Given::read(alloc, said) {
-        let _warned = warn_of_refused(alloc, how.names.names(), rom, &given, notes);
+        let _warned = warn_of_refused(alloc, &how.names.names, rom, &given, notes);
     }
 }
 
@@ -258,7 +258,7 @@ fn warn_of_idle<N: Sink>(
     accepted: &Accepted,
     notes: &mut N,
 ) {
-    let names = how.names.names();
+    let names = &how.names.names;
     if let Ok(given) = Given::read(alloc, said) {
         let _warned = warn_of_effects(alloc, names, accepted, &given, notes);
     }

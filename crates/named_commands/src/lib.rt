@@ -4,11 +4,9 @@
 
 mod bytes_source;
 mod checking_named;
-mod program_names;
 mod suggesting_named;
 mod watched;
 
 pub use checking_named::{NamedCheck, check_named_on};
-pub use program_names::{NameFiles, ProgramNames, read_names};
 pub use suggesting_named::suggest_named_on;
 pub use watched::Watched;

@@ -6,9 +6,9 @@ ghost use Rattle.inference_commands.specs.Inferring.{IsAcceptable};
 ghost use Rattle.texts.specs.Device.{HasFailed, CountsNoFailure};
 
 use crate::checking_named::said_by;
-use crate::program_names::ProgramNames;
 use command_parts::{read_all, read_rom};
 use inference_commands::{Progress, suggest};
+use program_names::ProgramNames;
 use std::alloc::Global;
 use texts::{Sink, Source};
 
@@ -62,7 +62,7 @@ pub fn suggest_named_on<A: Source, B: Source, W: Sink, N: Sink, P: Progress>(
         said.as_slice(),
         text.as_slice(),
         trials,
-        &names.names().symbols,
+        &names.names.symbols,
         out,
         notes,
         progress,

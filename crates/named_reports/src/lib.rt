@@ -10,9 +10,6 @@ mod warnings;
 
 pub use in_place::numbered;
 pub use refused_warnings::warn_of_refused;
-pub use reports::{
-    tell_bad_note, tell_conflict, tell_lines, tell_note, tell_refusal, tell_symbols,
-    tell_unknown_names,
-};
+pub use reports::{tell_bad_note, tell_conflict, tell_refusal, tell_unknown_names};
 pub use unneeded::warn_of_unneeded;
 pub use warnings::{warn_of_effects, warn_of_places};

@@ -1,7 +1,8 @@
 // Names replaced by addresses, each where it stands.
 
 use memory_devices::{Bytes, Taken};
-use named_commands::{NameFiles, read_names};
+use named_reports::numbered;
+use program_names::{NameFiles, read_names};
 use std::test::Fail;
 
 const SYMBOLS: &[u8] = b"send equ $007A\nlow equ $43A0\nbig equ $12345\n";
@@ -50,7 +51,7 @@ fn in_place(rt: HostRuntime) -> Result<(), Fail> {
     };
     assert!(rt; !names.has_notes());
     for (text, expected) in TEXTS {
-        let made = names.numbered(rt.alloc(), text.as_bytes())?;
+        let made = numbered(rt.alloc(), text.as_bytes(), &names.names.symbols)?;
         let found = str::from_utf8(made.as_slice()).unwrap_or("?");
         assert!(rt; found == *expected, "{text} {found}");
     }

@@ -2,9 +2,7 @@
 
 use inference_commands::Unwatched;
 use memory_devices::{Bytes, Taken};
-use named_commands::{
-    NameFiles, NamedCheck, Watched, check_named_on, read_names, suggest_named_on,
-};
+use named_commands::{NamedCheck, Watched, check_named_on, suggest_named_on};
 use named_reports::tell_refusal;
 use std::alloc::Global;
 
@@ -82,7 +80,7 @@ pub(crate) fn check_failing(alloc: Global, files: Files<'_>, failing: Failing) -
                 &mut Unwatched,
             );
             if status == 1 {
-                tell_refusal(alloc, names.names(), out.line(), &mut notes);
+                tell_refusal(alloc, &names.names, out.line(), &mut notes);
             }
             taken = out.into_inner();
             status
@@ -133,7 +131,7 @@ fn names_of<'f>(
     files: Files<'f>,
     failing: Failing,
     notes: &mut Taken,
-) -> Result<named_commands::ProgramNames<'static>, u8> {
+) -> Result<program_names::ProgramNames<'static>, u8> {
     let named = NameFiles {
         symbols: (!files.symbols.is_empty()).then_some("game.sym"),
         listing: (!files.listing.is_empty()).then_some("game.lst"),

@@ -1,7 +1,7 @@
 // Reads what names the addresses of a program: a symbol file and a listing.
 
+use crate::telling::{tell_lines, tell_note, tell_symbols};
 use command_parts::{ExitStatus, Stop};
-use named_reports::{numbered, tell_lines, tell_note, tell_symbols};
 use source_lines::{AddressNames, ListingFault, Locations, SourceLines};
 use source_notes::{NoteFault, SourceNotes};
 use std::alloc::{AllocError, Global};
@@ -24,27 +24,17 @@ pub struct NameFiles<'a> {
 /// What names the addresses of a program, and the notes in its source.
 #[derive(Drop)]
 pub struct ProgramNames<'a> {
-    pub(crate) files: NameFiles<'a>,
-    pub(crate) names: AddressNames,
+    pub files: NameFiles<'a>,
+    /// The labels and the lines of addresses.
+    pub names: AddressNames,
     /// The notes of the listing, or why they cannot be read; None without a listing.
-    pub(crate) notes: Option<Result<SourceNotes, NoteFault>>,
+    pub notes: Option<Result<SourceNotes, NoteFault>>,
 }
 
 impl ProgramNames<'_> {
-    /// The labels and the lines of addresses.
-    pub fn names(&self) -> &AddressNames {
-        &self.names
-    }
-
     /// Whether notes of a listing are added to annotations.
     pub fn has_notes(&self) -> bool {
         self.notes.is_some()
-    }
-
-    /// A text of annotations in which each name for an address is replaced by the address. All else stays where it is,
-    /// so each line keeps its number. The error is refused memory.
-    pub fn numbered(&self, alloc: Global, text: &[u8]) -> Result<Vec<u8>, AllocError> {
-        numbered(alloc, text, &self.names.symbols)
     }
 }
 
