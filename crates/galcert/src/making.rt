@@ -13,10 +13,11 @@ use command_words::{
 use commands::check_on;
 use file_devices::{AfterOutput, Output, SharedOutput};
 use inference_commands::{infer_on, suggest_on};
-use named_commands::{NamedCheck, Watched, check_named_on, suggest_named_on};
+use named_commands::{NamedCheck, check_named_on, suggest_named_on};
 use program_names::ProgramNames;
 use std::cell::RefCell;
 use texts::Sink;
+use watched_sinks::Watched;
 
 /// The most trials of a search where none is said.
 const TRIALS_UNSAID: u32 = 2_000;

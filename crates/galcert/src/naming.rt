@@ -6,10 +6,10 @@ use clap::ArgMatches;
 use command_parts::ExitStatus;
 use command_words::{LISTING, SYMBOLS, WARN_UNNEEDED};
 use file_devices::{FileSource, WriterSink};
-use named_commands::Watched;
 use named_reports::tell_refusal;
 use program_names::{NameFiles, ProgramNames, read_names};
 use texts::Sink;
+use watched_sinks::Watched;
 
 /// Whether the command line names a symbol file or a listing.
 pub fn has_names(matches: &ArgMatches) -> bool {

@@ -9,8 +9,8 @@ use command_parts::ExitStatus;
 use command_words::{LISTING, QUIET, SYMBOLS, word};
 use commands::{migrate_on, run_on, steps_of, verify_on};
 use file_devices::{Output, WriterSink};
-use named_commands::Watched;
 use std::io;
+use watched_sinks::Watched;
 
 /// `galcert verify`. The result is the exit status.
 pub fn verify_files<'a>(rt: &'a HostRuntime, matches: &ArgMatches<'a>) -> u8 {

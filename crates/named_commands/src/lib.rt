@@ -5,8 +5,6 @@
 mod bytes_source;
 mod checking_named;
 mod suggesting_named;
-mod watched;
 
 pub use checking_named::{NamedCheck, check_named_on};
 pub use suggesting_named::suggest_named_on;
-pub use watched::Watched;

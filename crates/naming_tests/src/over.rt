@@ -2,9 +2,10 @@
 
 use inference_commands::Unwatched;
 use memory_devices::{Bytes, Taken};
-use named_commands::{NamedCheck, Watched, check_named_on, suggest_named_on};
+use named_commands::{NamedCheck, check_named_on, suggest_named_on};
 use named_reports::tell_refusal;
 use std::alloc::Global;
+use watched_sinks::Watched;
 
 /// The files of a command. A symbol file and a listing without bytes are not named.
 #[derive(Clone, Copy)]
