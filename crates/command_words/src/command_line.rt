@@ -1,4 +1,4 @@
-// The commands.
+// The commands and their words.
 
 use crate::help_texts::{CHECK, GALCERT, MIGRATE, RUN, STATUSES, SUGGEST, VERIFY};
 use crate::names::COMMAND;
