@@ -1,12 +1,12 @@
 // The words of the command line of `galcert`, and their help (docs/PROGRAM.md).
 #![tactic(auto)]
 
-mod command_line;
+mod all_commands;
 mod help_texts;
 mod names;
 mod options;
 
-pub use command_line::command_line;
+pub use all_commands::command_line;
 pub use names::{
     CERT_FILE, COMMAND, INFER, LISTING, OUTPUT, QUIET, SYMBOLS, TRIALS, VERSION, WARN_UNNEEDED,
     word,
