@@ -4,6 +4,7 @@ use inference_commands::Unwatched;
 use memory_devices::{Bytes, Taken};
 use named_commands::{NamedCheck, check_named_on, suggest_named_on};
 use named_reports::tell_refusal;
+use program_names::{NameFiles, ProgramNames, read_names};
 use std::alloc::Global;
 use watched_sinks::Watched;
 
@@ -132,7 +133,7 @@ fn names_of<'f>(
     files: Files<'f>,
     failing: Failing,
     notes: &mut Taken,
-) -> Result<program_names::ProgramNames<'static>, u8> {
+) -> Result<ProgramNames<'static>, u8> {
     let named = NameFiles {
         symbols: (!files.symbols.is_empty()).then_some("game.sym"),
         listing: (!files.listing.is_empty()).then_some("game.lst"),

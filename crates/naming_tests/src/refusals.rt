@@ -1,12 +1,12 @@
 // The lines of refusals, with names.
 
 use memory_devices::Taken;
-use named_commands::Watched;
 use named_reports::tell_refusal;
 use source_lines::{AddressNames, Locations, SourceLines};
 use std::test::Fail;
 use symbols::Symbols;
 use texts::{Sink, put};
+use watched_sinks::Watched;
 
 const LINES: &[(&str, &str)] = &[
     (
