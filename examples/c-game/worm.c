@@ -223,6 +223,7 @@ void carry(void) {
 }
 
 void award(byte tens) {
+    if (state != PLAY) return;
     index = 4;
     score[4] += tens;
     carry();
@@ -392,7 +393,7 @@ void hatch(void) {
 
 /* Lays some stones, but none in the row where the worm begins. */
 void scatter(void) {
-    index = 12;
+    index = 40;
     do {
         choose();
         if (tile == BLANK && (spot & 31) != 27) VIDEO[spot & 0x3ff] = STONE;
@@ -508,7 +509,7 @@ void ready(void) {
     if (fresh) {
         fresh = 0;
         rest();
-        beetles = level;
+        beetles = level + 1;
         if (beetles > 4) beetles = 4;
         pace = 8;
         if (level > 2) pace = 6;
