@@ -8,7 +8,7 @@
         .org    0x0000
         xor     a
         ld      (0x7001),a      ; no NMI before the stack is there
-        ld      sp,#0x4400      ;@ stack 4380..4400 ;@ nmi budget 8000
+        ld      sp,#0x4400      ;@ stack 4380..4400 ;@ nmi budget 4000
         jp      start
 
         .org    0x0066

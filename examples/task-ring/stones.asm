@@ -58,14 +58,14 @@ begin:      ld sp,stack
             jp start
 
             defs 0020h - $
-            ld e,a              ; RST 20h: the byte number A of the table at HL, in A
+lookup:     ld e,a              ; RST 20h: the byte number A of the table at HL, in A
             ld d,0
             add hl,de
             ld a,(hl)
             ret
 
             defs 0028h - $
-            pop hl              ; RST 28h goes on at the address number A of the table behind it ;@ split A 0..9 until tables
+dispatch:   pop hl              ; RST 28h goes on at the address number A of the table behind it ;@ split A 0..9 until tables
             add a,a
             ld e,a
             ld d,0
