@@ -58,6 +58,11 @@ for words in 'stones stones.lst stones.sym' 'worm crt0.rst worm.noi'; do
         { echo "$game has another table by --infer: $found"; wrong=$((wrong + 1)); }
 done
 
+# Without the mask of `VIDEO[at & 0x3ff]` in `put`.
+cp worm.rom unmasked.rom
+printf '\0\0' | dd of=unmasked.rom bs=1 seek=$((0x1C8)) conv=notrunc 2> /dev/null
+judge 1 'refused 01CD 6 WriteRom' '01CD _put+13: refused 6 WriteRom' check unmasked.rom --listing crt0.rst -s worm.noi
+
 # One byte more to clear than the note allows: `ld bc,400h` in line 669 of the source.
 cp raid.rom more-bytes.rom
 printf '\x00\x04' | dd of=more-bytes.rom bs=1 seek=$((0x49F)) conv=notrunc 2> /dev/null
