@@ -1,8 +1,8 @@
 #!/usr/bin/env bash
 # Runs the built program with names for addresses (docs/PROGRAM.md, "Names for addresses"): tools/naming.sh GALCERT.
-# Two games, of 700 and of 1,200 instructions, are accepted by labels and by the notes in their source alone: as they are
-# and, where there is a z80asm, after 40 bytes were put in at the front of the NMI routine. Then come refusals and files
-# that are none. Prints each case that is not so, and how many were.
+# Four games, of 700 to 1,300 instructions, are accepted by labels and by the notes in their source alone: as they are and,
+# where there is a z80asm, three of them after 40 bytes were put in at the front of the NMI routine. One of them is compiled
+# from C. Then come refusals and files that are none. Prints each case that is not so, and how many were.
 set -uo pipefail
 galcert=$(realpath "$1")
 here=$(cd "$(dirname "$0")/.." && pwd)
@@ -42,6 +42,26 @@ judge 0 "$plain" '' check states.rom names.toml --listing states.lst -s states.s
 notes=$(table raid.rom --listing raid.lst)
 judge 0 "$notes" '' check raid.rom raid.toml -s raid.sym
 judge 0 "$notes" '' check raid.rom raid.toml -s raid.sym --listing raid.lst
+
+# A game with a ring of tasks and one that is compiled from C: by notes, and by their certificates, which say the same. From
+# the ROM alone they are accepted too, with the same times.
+cp "$here"/examples/task-ring/stones.* "$here"/examples/c-game/worm.* "$here/examples/c-game/crt0.rst" .
+for words in 'stones stones.lst stones.sym' 'worm crt0.rst worm.noi'; do
+    read -r game listing symbols <<< "$words"
+    noted=$(table $game.rom --listing $listing)
+    case $noted in accepted*) ;; *) echo "$game is refused by notes: $noted"; wrong=$((wrong + 1)) ;; esac
+    judge 0 "$noted" '' check $game.rom --listing $listing -s $symbols
+    judge 0 "$noted" '' verify $game.rom $game.cert -s $symbols
+    cases=$((cases + 1))
+    found=$(table $game.rom --infer)
+    [ "$(grep -v '^stack\|^nmi .* of' <<< "$found")" = "$(grep -v '^stack\|^nmi .* of' <<< "$noted")" ] ||
+        { echo "$game has another table by --infer: $found"; wrong=$((wrong + 1)); }
+done
+
+# Without the mask of `VIDEO[at & 0x3ff]` in `put`.
+cp worm.rom unmasked.rom
+printf '\0\0' | dd of=unmasked.rom bs=1 seek=$((0x1C8)) conv=notrunc 2> /dev/null
+judge 1 'refused 01CD 6 WriteRom' '01CD _put+13: refused 6 WriteRom' check unmasked.rom --listing crt0.rst -s worm.noi
 
 # One byte more to clear than the note allows: `ld bc,400h` in line 669 of the source.
 cp raid.rom more-bytes.rom
@@ -135,7 +155,7 @@ judge 2 '' 'FILE raid.sym and --symbols raid.sym are the same file' check raid.r
 
 # The same after the code moved.
 if command -v z80asm > /dev/null; then
-    for game in raid states; do
+    for game in raid states stones; do
         sed '/push af/{s/$/\n            defs 40/;:a;n;ba}' "$game.asm" > "$game-moved.asm"
         z80asm -o moved.rom --label=moved.sym --list=moved.lst "$game-moved.asm"
         cases=$((cases + 1))
@@ -143,7 +163,7 @@ if command -v z80asm > /dev/null; then
         annotations=names.toml
         [ "$game" = raid ] && annotations=raid.toml
         moved=$(table moved.rom --listing moved.lst)
-        judge 0 "$moved" '' check moved.rom "$annotations" -s moved.sym
+        [ "$game" = stones ] || judge 0 "$moved" '' check moved.rom "$annotations" -s moved.sym
         case $moved in accepted*) ;; *) echo "$game is refused by notes: $moved"; wrong=$((wrong + 1)) ;; esac
     done
 else
