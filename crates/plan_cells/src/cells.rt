@@ -96,9 +96,7 @@ impl Attempted {
 
 /// A plan with cells for the bytes of work RAM that are read at one address: each begins with what the last store
 /// before NMIs leaves, and grows by the stores that are seen until none is outside.
-pub fn try_cells<P: Progress>(
-    search: &mut Search<P>,
-) -> Result<Option<ExploredPlan>, FlowFault> {
+pub fn try_cells<P: Progress>(search: &mut Search<P>) -> Result<Option<ExploredPlan>, FlowFault> {
     let rest = search.explored.refused.len() as u64;
     let rows = search.explored.list.rows().len().min(0xFFFF) as u16;
     if !search.is_new((6, rows, 0, rest))? {
