@@ -41,7 +41,7 @@ pub struct NamedCheck<'n> {
 /// its annotations, in which names stand for addresses, and by the notes in its source; writes its text to `keep` and
 /// then the table to `out`; or writes the refusal to `out` (docs/PROGRAM.md, "Names for addresses"). `keep` is used
 /// only for an accepted certificate, and the table is written only after `keep` took the whole text. What `notes` does
-/// changes nothing. `progress` is told of each trial.
+/// changes nothing. `progress` hears of each trial.
 ///
 /// The result is the exit status: 0 accepted, 1 refused, bad annotations or a bad note, 3 a device failed, 4 memory was
 /// refused. What was written before a device failed stays.

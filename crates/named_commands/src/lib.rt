@@ -1,5 +1,5 @@
-// The commands with names for addresses, over devices: symbol files and listings, annotations with names and notes, and
-// what is told of addresses (docs/PROGRAM.md, "Names for addresses").
+// `check` and `suggest` over devices, with names for addresses. They take names in annotations, and notes of the source
+// (docs/PROGRAM.md, "Names for addresses").
 #![tactic(auto)]
 
 mod bytes_source;

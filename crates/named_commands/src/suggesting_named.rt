@@ -15,7 +15,7 @@ use texts::{Sink, Source};
 /// `galcert suggest ROM [ANNOT] --symbols FILE --listing FILE`: finds annotations beside those in ANNOT, in which names
 /// stand for addresses, and beside the notes in the source; writes a whole annotation file to `out`, with names for
 /// addresses (docs/PROGRAM.md, "Names for addresses"). The search takes at most `trials` trials. What `notes` does
-/// changes nothing. `progress` is told of each trial.
+/// changes nothing. `progress` hears of each trial.
 ///
 /// The result is the exit status: 0 where the ROM is accepted, 1 where it is refused (the file then says what was
 /// found), or the annotations or a note are bad, 3 where a device failed, 4 where memory was refused. What was written

@@ -137,7 +137,7 @@ pub fn tell_refusal<N: Sink>(alloc: Global, names: &AddressNames, line: &[u8], n
     }
 }
 
-/// Tells what is said of an address, after its names.
+/// Writes an address with its line and label, and then a text about it.
 fn tell_address<N: Sink, D: fmt::Display + Drop>(
     alloc: Global,
     names: &AddressNames,

@@ -10,4 +10,3 @@ mod search;
 pub use inference::{Inference, inferred};
 pub use judged::Judged;
 pub use plain::{plain_annotations, without_fact};
-pub use search::helping_at;

@@ -68,22 +68,6 @@ fn in_order<P: Progress>(search: &Search<P>) -> Result<Vec<u16>, FlowFault> {
     Ok(order)
 }
 
-/// The first move that takes the refusals of one address away; None if no move does. The search stays as it was.
-///
-/// # Errors
-///
-/// `NoMemory` where memory was refused.
-pub fn helping_at<P: Progress>(
-    search: &mut Search<P>,
-    refused: u16,
-) -> Result<Option<ExploredPlan>, FlowFault> {
-    let found = cheap(search, refused)?;
-    if found.is_some() || !search.has_trials() {
-        return Ok(found);
-    }
-    dear(search, refused)
-}
-
 fn cheap<P: Progress>(
     search: &mut Search<P>,
     refused: u16,

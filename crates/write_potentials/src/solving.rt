@@ -257,12 +257,9 @@ impl<'a> Solving<'a> {
         }
     }
 
-    /// Makes the potentials of a group in rounds. The result is whether those of the loops' rows came to rest. Without
-    /// loops within loops a round for each loop suffices. Otherwise each level takes rounds for the terms on the way in,
-    /// and for the constants on the way out.
+    /// Makes the potentials of a group in rounds. The result is whether those of the loops' rows came to rest.
     fn settle(&mut self, group: &Group, choice: Choice) -> Result<bool, Unpaid> {
-        let levels = if self.carries { 3 } else { 1 };
-        for _ in 0..group.heads.len().saturating_mul(levels).saturating_add(2) {
+        for _ in 0..group.heads.len().saturating_add(2) {
             self.make_each(&group.others, choice)?;
             if !self.raise(&group.heads)? {
                 return Ok(true);
