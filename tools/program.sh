@@ -35,6 +35,14 @@ run_of_none=$'done 0 0 0000 0000\nregs 0000 0000 0000 0000 0000 0000\nsum 0 0 0\
 
 ask verify "$six.rom" "$six.cert"
 judge "the six bytes, verified" 0 "$table" ''
+ask explain "$six.rom" "$six.cert"
+judge "the six bytes, explained by the certificate" 0 $'accepted\n' ''
+ask explain "$six.rom" "$six.toml"
+judge "the six bytes, explained by the annotations" 0 $'accepted\n' ''
+ask explain "$six.rom"
+judge "explained by nothing" 2 '' +
+ask explain 23
+judge "a reason that there is not" 2 '' +
 ask run "$six.rom" "$six.cert" "$six.input" 3
 judge "the six bytes, run" 0 "$run_of_three" ''
 ask run "$six.rom" "$six.cert" "$six.input" 0
@@ -86,7 +94,7 @@ ask run "$six.rom" "$six.cert" "$six.input"
 judge "a run without steps" 2 '' +
 ask --help
 judge "--help" 2 '' +
-for words in '' check suggest verify run migrate; do
+for words in '' check suggest explain verify run migrate list longest report diff; do
     # shellcheck disable=SC2086
     "$galcert" $words --help 2> asked.help
     # shellcheck disable=SC2086
@@ -351,10 +359,18 @@ judge "65,535 rows in 20 MB" 4 '' $'out of memory\ngalcert: memory ran out while
 # Memory that is refused once, at each growth in turn: the answer is `out of memory`, and nothing is written; or it is the whole
 # answer, where the program can do without.
 cc -O2 -shared -fPIC -o refuse.so "$here/tools/refuse.c" -ldl
+# Whether the output may be so where memory ran out: nothing, or the begin of what is shown line by line.
+as_begun() {
+    case $1 in
+    list | longest | report) head -c "$(stat -c %s out)" whole | cmp -s - out ;;
+    *) [ ! -s out ] ;;
+    esac
+}
 growths() {
     local name=$1 step=$2 growth=1 bad=0
     shift 2
     "$galcert" "$@" > whole 2> /dev/null < /dev/null
+    local answer=$?
     rm -f kept.cert
     while :; do
         rm -f refused kept.cert
@@ -362,9 +378,9 @@ growths() {
         local status=$?
         [ -e refused ] || break
         if [ $status = 4 ]; then
-            [ ! -s out ] && [ "$(echo kept.cert*)" = 'kept.cert*' ] && grep -qx "out of memory" err || bad=$((bad + 1))
+            as_begun "$1" && [ "$(echo kept.cert*)" = 'kept.cert*' ] && grep -qx "out of memory" err || bad=$((bad + 1))
         else
-            [ $status = 0 ] && cmp -s out whole || bad=$((bad + 1))
+            [ $status = $answer ] && cmp -s out whole || bad=$((bad + 1))
         fi
         growth=$((growth + step))
     done
@@ -381,6 +397,13 @@ growths "check of the states without memory" 40 check "$states.rom" "$states.tom
 growths "verify of the states without memory" 10 verify "$states.rom" "$states.cert"
 growths "check --infer without memory" 1 check "$six.rom" --infer --cert kept.cert
 growths "suggest without memory" 1 suggest "$six.rom"
+growths "list without memory" 1 list "$six.rom" "$six.cert"
+growths "longest without memory" 10 longest "$states.rom" "$states.cert"
+growths "report without memory" 1 report "$six.rom" "$six.cert"
+growths "report of the states without memory" 100 report "$states.rom" "$states.cert"
+growths "explain by annotations without memory" 1 explain "$six.rom" "$six.toml"
+growths "explain by a certificate without memory" 1 explain "$six.rom" "$six.cert"
+growths "explain of a refusal without memory" 2 explain loop.rom unbounded.toml
 
 # Certificates carried to version 2.
 ask migrate "$six.cert"
@@ -403,6 +426,123 @@ for words in "check $six.rom six.toml" "migrate $six.cert"; do
     judge "a full device: ${words%% *}" 3 '' $'device error\ngalcert: cannot write standard output: No space left on device (os error 28)\n'
 done
 
+# What an accepted certificate says: the listing, where the time goes, and the page.
+listed='addr  bytes        instruction                  T   left stack  known
+
+; main 0000 main: depth 0
+0000  31 00 44     LD SP,4400h                 10      -     0  SP unset
+0003  C3 03 00     JP 0003h                    10      -     0
+'
+ask list "$six.rom" "$six.cert"
+judge "the six bytes, listed" 0 "$listed" ''
+ask longest "$six.rom" "$six.cert"
+judge "no NMI routine" 0 $'nmi none\n' ''
+for entry in main 0000; do
+    ask longest "$six.rom" "$six.cert" $entry
+    judge "a procedure without a time: $entry" 0 $'untimed 0000\n' ''
+done
+for entry in 0003 nmi 00000 ''; do
+    ask longest "$six.rom" "$six.cert" "$entry"
+    judge "no procedure '$entry'" 2 '' "no procedure $entry"$'\n'
+done
+ask report "$six.rom" "$six.cert"
+judge "a page without time" 0 "$(cat out)"$'\n' ''
+grep -q 'There is no NMI routine' out && ! grep -q 'id="time"' out || { echo "not as it should be: a page without time"; wrong=$((wrong + 1)); }
+printf '%s\n' "it's equ \$0000" 'loop equ $0003' 'cell equ $4100' '<nonsense' > six.sym
+unread=$'six.sym:4: warning: no symbol\n'
+ask list "$six.rom" "$six.cert" --symbols six.sym
+judge "a listing with names" 0 "$(printf '%s' "$listed" | sed "s/0000 main:/0000 it's:/; s/^0000  /it's:\n&/; s/^0003  /loop:\n&/; s/JP 0003h/JP loop /")"$'\n' "$unread"
+cp out named.list
+ask longest "$six.rom" "$six.cert" -s six.sym "it's"
+judge "an entry by its name" 0 $'untimed 0000\n' "$unread"
+cp "$six.rom" "<b>&'\"x.rom"
+ask report "<b>&'\"x.rom" "$six.cert" -s six.sym
+judge "a page with names" 0 "$(cat out)"$'\n' "$unread"
+grep -q '&lt;b&gt;&amp;&#39;&quot;x' out && grep -q 'it&#39;s' out && ! grep -q "<b>&'" out || { echo "not as it should be: a page with names"; wrong=$((wrong + 1)); }
+printf 'a equ 1\na equ 2\n' > twice.sym
+for words in list longest report; do
+    ask $words "$six.rom" "$six.cert" -s twice.sym
+    judge "$words with a name of two values" 2 '' $'twice.sym:2: a has one value in line 1 and another in line 2\n'
+    ask $words "$six.rom" "$six.cert" -s missing
+    judge "$words without the symbol file" 3 '' $'device error\ngalcert: cannot open missing: No such file or directory (os error 2)\n'
+    ask $words port.rom port.cert
+    judge "$words of a refused certificate" 1 $'refused 0000 5 IoSpace\n' ''
+    ask $words port.rom port.cert -s missing
+    judge "$words of a refused certificate, without the symbol file" 3 '' $'device error\ngalcert: cannot open missing: No such file or directory (os error 2)\n'
+    ask $words missing "$six.cert"
+    judge "$words without a ROM" 3 '' $'device error\ngalcert: cannot open missing: No such file or directory (os error 2)\n'
+    ask $words "$six.rom" missing
+    judge "$words without a certificate" 3 '' $'device error\ngalcert: cannot open missing: No such file or directory (os error 2)\n'
+    ask $words "$six.cert" "$six.rom"
+    judge "$words of files exchanged" 1 $'bad certificate line 1\n' "galcert: $six.cert looks like a certificate; ROM is a file of the bytes themselves"$'\n'
+    ask $words - - -s six.sym
+    judge "$words of standard input twice" 2 '' $'galcert: standard input can stand for one file only\n'
+    "$galcert" $words "$six.rom" "$six.cert" > /dev/full 2> err < /dev/null
+    echo $? > status
+    : > out
+    judge "$words to a full device" 3 '' $'device error\ngalcert: cannot write standard output: No space left on device (os error 28)\n'
+    # A pipe that nobody reads: standard error says nothing.
+    { sleep 0.2; "$galcert" $words "$six.rom" "$six.cert" 2> err < /dev/null; echo $? > status; } | true
+    : > out
+    judge "$words to a closed pipe" 3 '' ''
+done
+# Many rows at an address are summed up.
+rows 300 > rows.cert
+ask list "$six.rom" rows.cert
+judge "300 rows at an address, listed" 0 "$(printf '%s' "$listed" | sed 's/SP unset/299 rows, &/')"$'\n' ''
+ask report "$six.rom" rows.cert
+judge "300 rows at an address, a page" 0 "$(cat out)"$'\n' ''
+grep -q '299 rows</span>' out || { echo "not as it should be: 300 rows at an address, a page"; wrong=$((wrong + 1)); }
+rows 65535 > rows.cert
+ask list "$six.rom" rows.cert
+judge "65,535 rows, listed" 0 "$(printf '%s' "$listed" | sed 's/SP unset/65534 rows, &/')"$'\n' ''
+ask report "$six.rom" rows.cert
+judge "65,535 rows, a page" 0 "$(cat out)"$'\n' ''
+
+# Two certificates side by side. The lines of the second are those of its table, printed here by awk.
+pages=$here/examples/page-cell/pages
+"$galcert" verify "$pages.rom" "$pages.cert" > pages.table
+others() { awk -v new="$1" '$3 == "depth" && $1 != "main" {
+    printf "%-4s %s depth", $1, $2
+    if (new) printf "      -%7s time      -%7s new\n", $4, $6; else printf "%7s      - time%7s      - gone\n", $4, $6 }' pages.table; }
+ask diff "$six.cert" "$six.cert"
+judge "a certificate beside itself" 0 $'main 0000 depth      0      0 time      -      -\nstack 0 0 of 128\nnmi none\n' ''
+ask diff "$six.cert" "$pages.cert"
+judge "a certificate beside a greater one" 0 $'main 0000 depth      0      8 time      -      - grew\n'"$(others 1)"$'\nstack 0 20 of 64 grew\nnmi - 1959 of 2500\n' ''
+ask diff "$pages.cert" "$six.cert"
+judge "a certificate beside a smaller one" 0 $'main 0000 depth      8      0 time      -      -\n'"$(others '')"$'\nstack 20 0 of 128\nnmi none\n' ''
+printf 'first equ $00BA\nsecond equ $00C8\n' > old.sym
+printf 'first equ $00C8\nsecond equ $00BA\n' > new.sym
+ask diff "$pages.cert" "$pages.cert" --old-symbols old.sym --symbols new.sym
+judge "procedures by their names" 0 "$(awk '$3 == "depth" { end = ""; name = ""; entry = $2; depth = $4; time = $6
+    if (entry == "00BA") { entry = "00C8"; depth = 2; time = 56; name = " first" }
+    else if (entry == "00C8") { entry = "00BA"; depth = 2; time = 147; name = " second"; end = " grew" }
+    printf "%-4s %s depth%7s%7s time%7s%7s%s%s\n", $1, entry, $4, depth, $6, time, name, end }' pages.table)"$'\nstack 20 20 of 64\nnmi 1959 1959 of 2500\n' ''
+ask diff "$six.cert" "$six.rom"
+judge "a ROM in the place of a certificate" 1 $'bad certificate line 1\n' ''
+ask diff "$six.cert" missing
+judge "a certificate that is not there" 3 '' $'device error\ngalcert: cannot open missing: No such file or directory (os error 2)\n'
+ask diff - -
+judge "two certificates from standard input" 2 '' $'galcert: standard input can stand for one file only\n'
+
+# Limits below those of the certificate.
+table_of_pages=$(cat pages.table)$'\n'
+ask verify "$pages.rom" "$pages.cert" --max-stack 20 --max-nmi 1959
+judge "a table at its limits" 0 "$table_of_pages" ''
+ask verify "$pages.rom" "$pages.cert" --max-stack 19
+judge "a stack above its limit" 1 "$table_of_pages" $'galcert: the stack takes 20 bytes, more than 19\n'
+ask verify "$pages.rom" "$pages.cert" --max-nmi 1958 -q
+judge "an NMI routine above its limit" 1 '' $'galcert: the NMI routine takes 1959 T-states, more than 1958\n'
+ask check "$six.rom" "$six.toml" --max-stack 0 --max-nmi 0
+judge "a program without NMI routine below any limit" 0 "$table" ''
+ask check "$pages.rom" "$pages.toml" --max-stack 8 --max-nmi 8 --cert limits.cert
+judge "both limits" 1 "$table_of_pages" $'galcert: the stack takes 20 bytes, more than 8\ngalcert: the NMI routine takes 1959 T-states, more than 8\n'
+cmp -s limits.cert "$pages.cert" || { echo "not as it should be: the certificate of a table above its limits"; wrong=$((wrong + 1)); }
+ask verify "$pages.rom" "$pages.cert" --max-stack -1
+judge "a limit out of form" 2 '' +
+ask verify "$pages.rom" "$pages.cert" --max-nmi 2k
+judge "a limit that is no decimal" 2 '' $'bad max-nmi\ngalcert: N is "2k", and not a decimal of at most 4294967295\n'
+
 # Files that give a byte at a time.
 bytes() { python3 -c 'import os, sys
 for byte in open(sys.argv[1], "rb").read(): os.write(1, bytes([byte]))' "$1"; }
@@ -413,6 +553,9 @@ judge "a byte at a time, checked" 0 "$table" ''
 rows 200 > rows.cert
 ask verify <(bytes "$six.rom") <(bytes rows.cert)
 judge "a byte at a time, 200 rows" 0 "$table" ''
+head -n 3 six.sym > three.sym
+ask list <(bytes "$six.rom") <(bytes "$six.cert") -s <(bytes three.sym)
+judge "a byte at a time, listed" 0 "$(cat named.list)"$'\n' ''
 printf 'reset 50687 A5\n1 1A 2B 3C 4D 5E 6F 1\n1 00 00 00 00 00 00 0\n' > two.input
 ask run <(bytes "$six.rom") <(bytes "$six.cert") <(bytes two.input) 9
 judge "a byte at a time, two lines" 0 $'done 2 20 0003 4400\nregs A5A5 A5A5 A5A5 A5A5 A5A5 A5A5\nsum 168960 168960 42240\n' ''

@@ -2,12 +2,15 @@
 #![tactic(auto)]
 
 mod all_commands;
+mod arguments;
 mod help_texts;
 mod names;
 mod options;
 
 pub use all_commands::command_line;
+pub use arguments::{WordFault, words};
 pub use names::{
-    CERT_FILE, COMMAND, INFER, LISTING, OUTPUT, QUIET, SYMBOLS, TRIALS, VERSION, WARN_UNNEEDED,
-    word,
+    CERT_FILE, COLOR, COMMAND, DUMP, ENTRY, INFER, JSON, LISTING, MAX, MAX_NMI, MAX_STACK,
+    OLD_SYMBOLS, OUTPUT, QUIET, ROWS, SECOND, SYMBOLS, TRACE, TRIALS, UNTIL_NMI, VERSION,
+    WARN_UNNEEDED, word,
 };

@@ -8,19 +8,43 @@ pub const VERSION: &str = "galcert 1.0.0\nproved with rattle-kit-13b logic dac82
 /// The names by which what was said is found.
 pub const CERT_FILE: &str = "cert";
 
+pub const COLOR: &str = "color";
+
 pub const COMMAND: &str = "COMMAND";
+
+pub const DUMP: &str = "dump";
+
+pub const ENTRY: &str = "ENTRY";
 
 pub const INFER: &str = "infer";
 
+pub const JSON: &str = "json";
+
 pub const LISTING: &str = "listing";
+
+pub const MAX: &str = "max";
+
+pub const MAX_NMI: &str = "max-nmi";
+
+pub const MAX_STACK: &str = "max-stack";
+
+pub const OLD_SYMBOLS: &str = "old-symbols";
 
 pub const OUTPUT: &str = "output";
 
 pub const QUIET: &str = "quiet";
 
+pub const ROWS: &str = "rows";
+
+pub const SECOND: &str = "ANNOT_OR_CERT";
+
 pub const SYMBOLS: &str = "symbols";
 
+pub const TRACE: &str = "trace";
+
 pub const TRIALS: &str = "trials";
+
+pub const UNTIL_NMI: &str = "until-nmi";
 
 pub const WARN_UNNEEDED: &str = "warn-unneeded";
 

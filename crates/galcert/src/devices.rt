@@ -1,8 +1,9 @@
 // The devices that the words of a command line name.
 
 use clap::ArgMatches;
+use command_reports::Reporter;
 use command_words::word;
-use file_devices::{FileSource, Output, is_same_file};
+use file_devices::{FileSource, Output};
 
 /// A file or standard input.
 pub type Input<'a> = FileSource<'a, HostRuntime>;
@@ -11,7 +12,7 @@ pub type Input<'a> = FileSource<'a, HostRuntime>;
 pub type Out<'a> = Output<'a, HostRuntime>;
 
 /// The word for a standard stream in the place of a file.
-pub const STANDARD: &str = "-";
+const STANDARD: &str = "-";
 
 /// The input that an argument names; `-` is standard input.
 pub fn input<'a>(rt: &'a HostRuntime, matches: &ArgMatches<'a>, argument: &str) -> Input<'a> {
@@ -23,6 +24,14 @@ pub fn input_of<'a>(rt: &'a HostRuntime, name: &'a str) -> Input<'a> {
     FileSource::of_word(rt, rt.stdin(), name)
 }
 
+/// The input with this name; one without bytes if there is no name.
+pub fn optional<'a>(rt: &'a HostRuntime, name: Option<&'a str>) -> Input<'a> {
+    let Some(name) = name else {
+        return FileSource::empty(rt);
+    };
+    input_of(rt, name)
+}
+
 /// The output that an option names: `-` is standard output; nothing where the option is not said.
 pub fn output<'a>(rt: &'a HostRuntime, matches: &ArgMatches<'a>, option: &str) -> Out<'a> {
     let Some(path) = matches.get_str(option) else {
@@ -32,7 +41,7 @@ pub fn output<'a>(rt: &'a HostRuntime, matches: &ArgMatches<'a>, option: &str) -
 }
 
 /// The output with this name.
-fn output_to<'a>(rt: &'a HostRuntime, path: &'a str) -> Out<'a> {
+pub fn output_to<'a>(rt: &'a HostRuntime, path: &'a str) -> Out<'a> {
     if path == STANDARD {
         return stdout(rt);
     }
@@ -47,36 +56,7 @@ pub fn stderr<'a>(rt: &'a HostRuntime) -> Out<'a> {
     Output::stderr(rt.stderr())
 }
 
-/// Why the inputs and the output that arguments name do not go together.
-#[derive(Drop)]
-pub enum Clash<'a> {
-    /// More than one of them is standard input.
-    TwiceStandard,
-    /// The output is this input: the option's word, the input's argument and its word.
-    Overwritten(&'a str, &'static str, &'a str),
-}
-
-/// The first clash between these inputs and the output of an option.
-pub fn clash_of<'a>(
-    rt: &HostRuntime,
-    matches: &ArgMatches<'a>,
-    inputs: &[&'static str],
-    option: Option<&str>,
-) -> Option<Clash<'a>> {
-    let is_standard = |argument: &&&str| matches.get_str(argument) == Some(STANDARD);
-    if inputs.iter().filter(is_standard).count() > 1 {
-        return Some(Clash::TwiceStandard);
-    }
-    let path = matches.get_str(option?)?;
-    if path == STANDARD {
-        return None;
-    }
-    for input in inputs {
-        if let Some(other) = matches.get_str(input) {
-            if is_same_file(rt, path, other) {
-                return Some(Clash::Overwritten(path, input, other));
-            }
-        }
-    }
-    None
+/// Reports on a search.
+pub fn searching<'a>(rt: &'a HostRuntime) -> Reporter<'a, HostRuntime> {
+    Reporter::searching(rt, rt.stderr())
 }

@@ -1,18 +1,22 @@
 // The commands that make a certificate, and find annotations for one.
 
-use crate::devices::{Input, Out, clash_of, input, output, stderr, stdout};
-use crate::ending::{Used, end, report, report_clash};
-use crate::hints::{hint_annotations, hint_named, hint_rom};
-use crate::naming::{has_names, has_reports, names, optional, tell_refused};
-use crate::reporter::Reporter;
+use crate::devices::{Input, Out, input, optional, output, searching, stderr, stdout};
+use crate::naming::{has_names, has_reports, names, symbols_of, tell_refused};
+use crate::streams::{Answer, Notes, answer};
 use clap::ArgMatches;
 use command_parts::ExitStatus;
+use command_reports::{
+    Limits, UsedDevice, clash_of, end, finish_all, number_of, report, report_clash,
+};
+use command_streams::Printed;
 use command_words::{
     CERT_FILE, INFER, LISTING, OUTPUT, QUIET, SYMBOLS, TRIALS, WARN_UNNEEDED, word,
 };
 use commands::check_on;
 use file_devices::{AfterOutput, Output, SharedOutput};
+use file_hints::{hint_annotations, hint_named, hint_rom};
 use inference_commands::{infer_on, suggest_on};
+use json_documents::{Command, conclude};
 use named_commands::{NamedCheck, check_named_on, suggest_named_on};
 use program_names::ProgramNames;
 use std::cell::RefCell;
@@ -32,32 +36,39 @@ struct Asked<'r, 'm> {
     matches: &'r ArgMatches<'m>,
     /// The most trials of a search.
     trials: u32,
+    limits: Limits,
 }
 
 /// `galcert check`, with and without `--infer`. The result is the exit status.
-pub fn check_files<'a>(rt: &'a HostRuntime, matches: &ArgMatches<'a>) -> u8 {
+pub fn check_files<'a>(rt: &'a HostRuntime, matches: &ArgMatches<'a>, notes: &mut Notes) -> u8 {
     let infers = matches.get_flag(INFER);
     if !infers && matches.get_str("ANNOT").is_none() && matches.get_str(LISTING).is_none() {
-        report(rt, "ANNOT is missing; --infer finds annotations without it");
+        report(
+            notes,
+            "ANNOT is missing; --infer finds annotations without it",
+        );
         return ExitStatus::Usage.code();
     }
-    let Some(trials) = trials_of(rt, matches) else {
+    let (Some(trials), Some(limits)) = (trials_of(matches, notes), Limits::of(matches, notes))
+    else {
         return ExitStatus::Usage.code();
     };
-    if let Some(clash) = clash_of(rt, matches, &INPUTS, Some(CERT_FILE)) {
-        return report_clash(rt, &clash);
+    if let Some(clash) = clash_of(rt, matches, &INPUTS, matches.get_str(CERT_FILE)) {
+        return report_clash(notes, &clash);
     }
     let mut rom = input(rt, matches, "ROM");
     let mut annot = annotations(rt, matches);
     let kept = RefCell::new(output(rt, matches, CERT_FILE));
     let mut keep = SharedOutput::new(&kept);
-    let out = AfterOutput::new(&kept, table_output(rt, matches));
+    let table = AfterOutput::new(&kept, table_output(rt, matches));
+    let out = answer(rt, matches, table);
     let asked = Asked {
         rt,
         matches,
         trials,
+        limits,
     };
-    let (status, out) = match judge_files(asked, &mut rom, &mut annot, &mut keep, out) {
+    let (status, out) = match judge_files(asked, &mut rom, &mut annot, &mut keep, out, notes) {
         Ok(judged) => judged,
         Err(status) => return status,
     };
@@ -69,16 +80,16 @@ pub fn check_files<'a>(rt: &'a HostRuntime, matches: &ArgMatches<'a>) -> u8 {
         Err(_) => None,
     };
     let used = [
-        Used::input(&rom),
-        Used::input(&annot),
-        Used::failed(word(matches, CERT_FILE), kept_failure),
-        Used::stdout(out.output()),
+        UsedDevice::input(&rom),
+        UsedDevice::input(&annot),
+        UsedDevice::failed(word(matches, CERT_FILE), kept_failure),
+        UsedDevice::stdout(out.device().output()),
     ];
-    end(rt, status, &used)
+    end(notes, status, &used)
 }
 
 /// Reads what names addresses, and checks. Standard error says more of a refusal. The result is the status, and the
-/// sink for the table.
+/// sink for the table, or for the document.
 ///
 /// # Errors
 ///
@@ -88,25 +99,35 @@ fn judge_files<K: Sink, W: Sink + Drop>(
     rom: &mut Input<'_>,
     annot: &mut Input<'_>,
     keep: &mut K,
-    out: W,
-) -> Result<(u8, W), u8> {
-    let Asked { rt, matches, .. } = asked;
+    out: Printed<W>,
+    notes: &mut Notes,
+) -> Result<(u8, Printed<W>), u8> {
+    let Asked {
+        rt,
+        matches,
+        limits,
+        ..
+    } = asked;
     let infers = matches.get_flag(INFER);
-    let names = names(rt, matches, has_reports(matches))?;
+    let names = names(rt, matches, notes, has_reports(matches))?;
     let mut out = Watched::new(out);
     let status = match &names {
-        Some(names) => check_by_names(asked, names, rom, annot, keep, &mut out),
-        None => check_plain(asked, rom, annot, keep, &mut out),
+        Some(names) => check_by_names(asked, names, rom, annot, keep, &mut out, notes),
+        None => check_plain(asked, rom, annot, keep, &mut out, notes),
     };
-    tell_refused(rt, names.as_ref(), status, &out);
+    tell_refused(rt, names.as_ref(), status, &out, notes);
     if status == ExitStatus::Refused.code() {
-        hint_rom(rt, rom);
+        hint_rom(rt, rt.alloc(), rom, notes);
         match &names {
-            Some(names) => hint_named(rt, annot, names, infers),
-            None => hint_annotations(rt, annot, infers),
+            Some(names) => hint_named(rt.alloc(), annot, names, infers, notes),
+            None => hint_annotations(rt.alloc(), annot, infers, notes),
         }
     }
-    Ok((status, out.into_inner()))
+    let status = limits.judge(notes, status, &out);
+    let mut out = out.into_inner();
+    let symbols = symbols_of(names.as_ref());
+    let status = conclude(rt.alloc(), Command::Check, status, &mut out, notes, symbols);
+    Ok((status, out))
 }
 
 /// Checks with names for addresses. The result is the exit status.
@@ -117,19 +138,20 @@ fn check_by_names<K: Sink, W: Sink>(
     annot: &mut Input<'_>,
     keep: &mut K,
     out: &mut W,
+    notes: &mut Notes,
 ) -> u8 {
     let Asked {
         rt,
         matches,
         trials,
+        ..
     } = asked;
     let how = NamedCheck {
         names,
         trials: matches.get_flag(INFER).then_some(trials),
         warns_unneeded: matches.get_flag(WARN_UNNEEDED),
     };
-    let notes = &mut stderr(rt);
-    let progress = &mut Reporter::new(rt, trials);
+    let progress = &mut searching(rt);
     check_named_on(rt.alloc(), rom, annot, how, keep, out, notes, progress)
 }
 
@@ -140,17 +162,18 @@ fn check_plain<K: Sink, W: Sink>(
     annot: &mut Input<'_>,
     keep: &mut K,
     out: &mut W,
+    notes: &mut Notes,
 ) -> u8 {
     let Asked {
         rt,
         matches,
         trials,
+        ..
     } = asked;
     if !matches.get_flag(INFER) {
         return check_on(rt.alloc(), rom, annot, keep, out);
     }
-    let notes = &mut stderr(rt);
-    let progress = &mut Reporter::new(rt, trials);
+    let progress = &mut searching(rt);
     infer_on(rt.alloc(), rom, annot, trials, keep, out, notes, progress)
 }
 
@@ -171,82 +194,81 @@ fn table_output<'a>(rt: &'a HostRuntime, matches: &ArgMatches) -> Out<'a> {
 }
 
 /// The number of trials that a command may take. If the word is out of form, it is reported.
-fn trials_of(rt: &HostRuntime, matches: &ArgMatches) -> Option<u32> {
-    let Some(text) = matches.get_str(TRIALS) else {
-        return Some(TRIALS_UNSAID);
-    };
-    match text.parse() {
-        Ok(trials) => Some(trials),
-        Err(_) => {
-            report(rt, "bad trials");
-            let text = text.escape_debug();
-            report(
-                rt,
-                format_args!("galcert: N is \"{text}\", and not a decimal of at most 4294967295"),
-            );
-            None
-        }
-    }
+pub fn trials_of(matches: &ArgMatches, notes: &mut Notes) -> Option<u32> {
+    number_of(notes, matches.get_str(TRIALS), TRIALS, TRIALS_UNSAID)
 }
 
 /// `galcert suggest`. The result is the exit status.
-pub fn suggest_files<'a>(rt: &'a HostRuntime, matches: &ArgMatches<'a>) -> u8 {
-    let Some(trials) = trials_of(rt, matches) else {
+pub fn suggest_files<'a>(rt: &'a HostRuntime, matches: &ArgMatches<'a>, notes: &mut Notes) -> u8 {
+    let Some(trials) = trials_of(matches, notes) else {
         return ExitStatus::Usage.code();
     };
-    if let Some(clash) = clash_of(rt, matches, &INPUTS, Some(OUTPUT)) {
-        return report_clash(rt, &clash);
+    if let Some(clash) = clash_of(rt, matches, &INPUTS, matches.get_str(OUTPUT)) {
+        return report_clash(notes, &clash);
     }
-    let names = match names(rt, matches, has_names(matches)) {
+    let names = match names(rt, matches, notes, has_names(matches)) {
         Ok(names) => names,
         Err(status) => return status,
     };
     let mut rom = input(rt, matches, "ROM");
     let mut annot = annotations(rt, matches);
-    let mut out = suggested_output(rt, matches);
-    let suggested = {
-        let notes = &mut stderr(rt);
-        let progress = &mut Reporter::new(rt, trials);
+    let mut out = answer(rt, matches, suggested_output(rt, matches));
+    let suggested = suggest(
+        rt,
+        trials,
+        names.as_ref(),
+        &mut rom,
+        &mut annot,
+        &mut out,
+        notes,
+    );
+    if suggested == ExitStatus::Refused.code() {
+        hint_rom(rt, rt.alloc(), &rom, notes);
         match &names {
-            Some(names) => suggest_named_on(
-                rt.alloc(),
-                &mut rom,
-                &mut annot,
-                names,
-                trials,
-                &mut out,
-                notes,
-                progress,
-            ),
-            None => suggest_on(
-                rt.alloc(),
-                &mut rom,
-                &mut annot,
-                trials,
-                &mut out,
-                notes,
-                progress,
-            ),
-        }
-    };
-    let status = finished(suggested, &mut out);
-    if status == ExitStatus::Refused.code() {
-        hint_rom(rt, &rom);
-        match &names {
-            Some(names) => hint_named(rt, &annot, names, true),
-            None => hint_annotations(rt, &annot, true),
+            Some(names) => hint_named(rt.alloc(), &annot, names, true, notes),
+            None => hint_annotations(rt.alloc(), &annot, true, notes),
         }
     }
+    let symbols = symbols_of(names.as_ref());
+    let told = conclude(
+        rt.alloc(),
+        Command::Suggest,
+        suggested,
+        &mut out,
+        notes,
+        symbols,
+    );
+    let mut outputs = [out.into_device()];
+    let status = finish_all(told, &mut outputs);
     let name = match matches.get_str(OUTPUT) {
         None | Some("-") => "standard output",
         Some(path) => path,
     };
     let used = [
-        Used::input(&rom),
-        Used::input(&annot),
-        Used::output(name, &out),
+        UsedDevice::input(&rom),
+        UsedDevice::input(&annot),
+        UsedDevice::output(name, &outputs[0]),
     ];
-    end(rt, status, &used)
+    end(notes, status, &used)
+}
+
+/// Finds annotations, with names for addresses if there are any. The result is the exit status.
+fn suggest(
+    rt: &HostRuntime,
+    trials: u32,
+    names: Option<&ProgramNames>,
+    rom: &mut Input,
+    annot: &mut Input,
+    out: &mut Answer,
+    notes: &mut Notes,
+) -> u8 {
+    let progress = &mut searching(rt);
+    match names {
+        Some(names) => {
+            suggest_named_on(rt.alloc(), rom, annot, names, trials, out, notes, progress)
+        }
+        None => suggest_on(rt.alloc(), rom, annot, trials, out, notes, progress),
+    }
 }
 
 /// Where the file of `suggest` goes: to FILE if there is one, else nowhere if it is not wanted, else to standard output.
@@ -258,17 +280,4 @@ fn suggested_output<'a>(rt: &'a HostRuntime, matches: &ArgMatches<'a>) -> Out<'a
         return Output::nowhere();
     }
     stdout(rt)
-}
-
-/// The status of a command whose whole output is a file: the file takes its name, unless the command failed.
-fn finished(status: u8, out: &mut Out) -> u8 {
-    let is_whole = status == ExitStatus::Done.code() || status == ExitStatus::Refused.code();
-    if !is_whole {
-        out.discard();
-        return status;
-    }
-    match out.finish() {
-        Ok(()) => status,
-        Err(_) => ExitStatus::Device.code(),
-    }
 }

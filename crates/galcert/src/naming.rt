@@ -1,13 +1,14 @@
 // Names for addresses: the options --symbols and --listing, and what standard error says by them.
 
-use crate::devices::{Input, input_of};
-use crate::ending::{Used, end};
+use crate::devices::optional;
+use crate::streams::Notes;
 use clap::ArgMatches;
 use command_parts::ExitStatus;
+use command_reports::{UsedDevice, end};
 use command_words::{LISTING, SYMBOLS, WARN_UNNEEDED};
-use file_devices::{FileSource, WriterSink};
 use named_reports::tell_refusal;
 use program_names::{NameFiles, ProgramNames, read_names};
+use symbols::Symbols;
 use texts::Sink;
 use watched_sinks::Watched;
 
@@ -25,30 +26,48 @@ pub fn has_reports(matches: &ArgMatches) -> bool {
 pub fn names<'m>(
     rt: &'m HostRuntime,
     matches: &ArgMatches<'m>,
+    notes: &mut Notes,
     is_wanted: bool,
 ) -> Result<Option<ProgramNames<'m>>, u8> {
     if !is_wanted {
         return Ok(None);
     }
+    Ok(Some(read(rt, matches, notes)?))
+}
+
+/// The names for addresses; none where no file is named. The error is the exit status.
+pub fn read<'m>(
+    rt: &'m HostRuntime,
+    matches: &ArgMatches<'m>,
+    notes: &mut Notes,
+) -> Result<ProgramNames<'m>, u8> {
     let files = NameFiles {
         symbols: matches.get_str(SYMBOLS),
         listing: matches.get_str(LISTING),
     };
+    read_files(rt, files, notes)
+}
+
+/// The names of these files. The error is the exit status.
+pub fn read_files<'m>(
+    rt: &'m HostRuntime,
+    files: NameFiles<'m>,
+    notes: &mut Notes,
+) -> Result<ProgramNames<'m>, u8> {
     let mut symbols = optional(rt, files.symbols);
     let mut listing = optional(rt, files.listing);
-    let mut notes = WriterSink::new(rt.stderr());
-    match read_names(rt.alloc(), files, &mut symbols, &mut listing, &mut notes) {
-        Ok(names) => Ok(Some(names)),
-        Err(status) => { Err(end(rt, status, &[Used::input(&symbols), Used::input(&listing)])) }
+    match read_names(rt.alloc(), files, &mut symbols, &mut listing, notes) {
+        Ok(names) => Ok(names),
+        Err(status) => {
+            let used = [UsedDevice::input(&symbols), UsedDevice::input(&listing)];
+            Err(end(notes, status, &used))
+        }
     }
 }
 
-/// The input with this name; one without bytes if there is no name.
-pub fn optional<'a>(rt: &'a HostRuntime, name: Option<&'a str>) -> Input<'a> {
-    let Some(name) = name else {
-        return FileSource::empty(rt);
-    };
-    input_of(rt, name)
+/// The symbols, if there are names.
+pub fn symbols_of<'n>(names: Option<&'n ProgramNames>) -> Option<&'n Symbols> {
+    Some(&names?.names.symbols)
 }
 
 /// Says where the refused address is, if something was refused and names are known.
@@ -57,10 +76,10 @@ pub fn tell_refused<W: Sink>(
     names: Option<&ProgramNames>,
     status: u8,
     out: &Watched<W>,
+    notes: &mut Notes,
 ) {
     if status == ExitStatus::Refused.code() {
         if let Some(names) = names {
-            let notes = &mut WriterSink::new(rt.stderr());
             tell_refusal(rt.alloc(), &names.names, out.line(), notes);
         }
     }

@@ -1,0 +1,20 @@
+// What standard error says beside a command's answer: why it ended, words out of form, limits (docs/PROGRAM.md).
+#![tactic(auto)]
+
+mod clashes;
+mod colors;
+mod ending;
+mod limits;
+mod numbers;
+mod reported;
+mod reporter;
+mod words;
+
+pub use clashes::{Clash, clash_of, report_clash, twice_written};
+pub use colors::is_colored;
+pub use ending::{UsedDevice, end, finish_all, is_closed_pipe};
+pub use limits::Limits;
+pub use numbers::number_of;
+pub use reported::{print, report};
+pub use reporter::Reporter;
+pub use words::report_words;

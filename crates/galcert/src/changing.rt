@@ -1,0 +1,53 @@
+// `galcert diff`.
+
+use crate::devices::{input, stdout};
+use crate::naming::read_files;
+use crate::streams::Notes;
+use certificate_changes::{EntryNames, diff_on};
+use clap::ArgMatches;
+use command_reports::{UsedDevice, clash_of, end, report_clash};
+use command_words::{OLD_SYMBOLS, SYMBOLS};
+use program_names::{NameFiles, ProgramNames};
+
+/// `galcert diff`. The result is the exit status.
+pub fn diff_files<'a>(rt: &'a HostRuntime, matches: &ArgMatches<'a>, notes: &mut Notes) -> u8 {
+    if let Some(clash) = clash_of(rt, matches, &["OLD", "NEW", OLD_SYMBOLS, SYMBOLS], None) {
+        return report_clash(notes, &clash);
+    }
+    let old = match names_of(rt, matches, OLD_SYMBOLS, notes) {
+        Ok(names) => names,
+        Err(status) => return status,
+    };
+    let new = match names_of(rt, matches, SYMBOLS, notes) {
+        Ok(names) => names,
+        Err(status) => return status,
+    };
+    let names = EntryNames {
+        old: &old.names.symbols,
+        new: &new.names.symbols,
+    };
+    let mut earlier = input(rt, matches, "OLD");
+    let mut later = input(rt, matches, "NEW");
+    let mut out = stdout(rt);
+    let status = diff_on(rt.alloc(), &mut earlier, &mut later, names, &mut out);
+    let used = [
+        UsedDevice::input(&earlier),
+        UsedDevice::input(&later),
+        UsedDevice::stdout(&out),
+    ];
+    end(notes, status, &used)
+}
+
+/// The names of the symbol file of an option. The error is the exit status.
+fn names_of<'m>(
+    rt: &'m HostRuntime,
+    matches: &ArgMatches<'m>,
+    option: &str,
+    notes: &mut Notes,
+) -> Result<ProgramNames<'m>, u8> {
+    let files = NameFiles {
+        symbols: matches.get_str(option),
+        listing: None,
+    };
+    read_files(rt, files, notes)
+}

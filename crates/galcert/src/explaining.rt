@@ -1,0 +1,143 @@
+// `galcert explain`.
+
+use crate::devices::{Input, input, optional, searching, stdout};
+use crate::making::trials_of;
+use crate::naming::read;
+use crate::streams::{Answer, Notes, answer};
+use clap::ArgMatches;
+use command_parts::ExitStatus;
+use command_reports::{UsedDevice, clash_of, end, number_of, report, report_clash};
+use command_words::{INFER, LISTING, MAX, SECOND, SYMBOLS, word};
+use explain_commands::{Asked, explain_on, page_number, page_on};
+use file_devices::Likeness;
+use file_hints::{hint_certificate, hint_named, hint_rom};
+use json_documents::{Command, conclude};
+use named_reports::tell_bad_note;
+use program_names::ProgramNames;
+
+/// How many refusals are explained where no number is said.
+const MOST_UNSAID: u32 = 20;
+
+/// The inputs.
+const INPUTS: [&str; 4] = ["ROM", SECOND, SYMBOLS, LISTING];
+
+/// `galcert explain`. The result is the exit status.
+pub fn explain_files<'a>(rt: &'a HostRuntime, matches: &ArgMatches<'a>, notes: &mut Notes) -> u8 {
+    let second = matches.get_str(SECOND);
+    if second.is_none() {
+        if let Some(number) = page_number(word(matches, "ROM")) {
+            return show_page(rt, number, notes);
+        }
+    }
+    if second.is_none() && !matches.get_flag(INFER) && matches.get_str(LISTING).is_none() {
+        report(
+            notes,
+            "ANNOT or CERT is missing; --infer finds annotations without it",
+        );
+        return ExitStatus::Usage.code();
+    }
+    let Some(trials) = trials_of(matches, notes) else {
+        return ExitStatus::Usage.code();
+    };
+    let Some(most) = number_of(notes, matches.get_str(MAX), MAX, MOST_UNSAID) else {
+        return ExitStatus::Usage.code();
+    };
+    if let Some(clash) = clash_of(rt, matches, &INPUTS, None) {
+        return report_clash(notes, &clash);
+    }
+    explain_rom(rt, matches, trials, most as usize, notes)
+}
+
+/// The same for command lines in form.
+fn explain_rom<'a>(
+    rt: &'a HostRuntime,
+    matches: &ArgMatches<'a>,
+    trials: u32,
+    most: usize,
+    notes: &mut Notes,
+) -> u8 {
+    let names = match read(rt, matches, notes) {
+        Ok(names) => names,
+        Err(status) => return status,
+    };
+    let mut out = answer(rt, matches, stdout(rt));
+    let sourced = match &names.notes {
+        None => None,
+        Some(Ok(sourced)) => Some(sourced),
+        Some(Err(_)) => return bad_note(rt, &names, &mut out, notes),
+    };
+    let mut rom = input(rt, matches, "ROM");
+    let mut second = optional(rt, matches.get_str(SECOND)).remembering(rt.alloc());
+    let infers = matches.get_flag(INFER);
+    let asked = Asked {
+        names: &names.names,
+        notes: sourced,
+        infers,
+        trials,
+        most,
+    };
+    let progress = &mut searching(rt);
+    let status = explain_on(rt.alloc(), &mut rom, &mut second, asked, &mut out, progress);
+    if status == ExitStatus::Refused.code() {
+        hint_explained(rt, &rom, &second, &names, infers, notes);
+    }
+    let symbols = Some(&names.names.symbols);
+    let status = conclude(
+        rt.alloc(),
+        Command::Explain,
+        status,
+        &mut out,
+        notes,
+        symbols,
+    );
+    let used = [
+        UsedDevice::input(&rom),
+        UsedDevice::input(&second),
+        UsedDevice::stdout(out.device()),
+    ];
+    end(notes, status, &used)
+}
+
+/// Says what the files look like that are explained.
+fn hint_explained(
+    rt: &HostRuntime,
+    rom: &Input,
+    second: &Input,
+    names: &ProgramNames,
+    infers: bool,
+    notes: &mut Notes,
+) {
+    hint_rom(rt, rt.alloc(), rom, notes);
+    match Likeness::of(second.head()) {
+        Some(Likeness::Certificate) => hint_certificate(rt.alloc(), rom, second, notes),
+        _ => hint_named(rt.alloc(), second, names, infers, notes),
+    }
+}
+
+/// Reports a note in the source that is bad. The result is the exit status.
+fn bad_note(rt: &HostRuntime, names: &ProgramNames, out: &mut Answer, notes: &mut Notes) -> u8 {
+    let Some(Err(fault)) = &names.notes else {
+        return ExitStatus::Refused.code();
+    };
+    let listing = names.files.listing.unwrap_or("");
+    let line = tell_bad_note(rt.alloc(), notes, listing, fault);
+    report(out, format_args!("bad note line {line}"));
+    let status = if out.device().failure().is_some() {
+        ExitStatus::Device.code()
+    } else {
+        ExitStatus::Refused.code()
+    };
+    let symbols = Some(&names.names.symbols);
+    let status = conclude(rt.alloc(), Command::Explain, status, out, notes, symbols);
+    end(notes, status, &[UsedDevice::stdout(out.device())])
+}
+
+/// `galcert explain NUMBER`. The result is the exit status.
+fn show_page(rt: &HostRuntime, number: u8, notes: &mut Notes) -> u8 {
+    let mut out = stdout(rt);
+    let status = page_on(number, &mut out);
+    if status == ExitStatus::Usage.code() {
+        report(notes, "no reason has this number; reasons have 1 to 22");
+    }
+    end(notes, status, &[UsedDevice::stdout(&out)])
+}
