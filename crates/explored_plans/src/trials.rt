@@ -8,7 +8,7 @@ use analysis::FlowFault;
 use board_fetch::fetch;
 use row_graph::{FlowGraph, NaturalLoop, loops_of};
 use std::alloc::Global;
-use std::collections::BTreeSet;
+use std::collections::BTreeMap;
 use std::mem::replace;
 use z80_decode::Instr;
 
@@ -25,7 +25,10 @@ pub struct Search<'s, P: Progress> {
     pub graph: FlowGraph,
     /// How many trials are left.
     pub left: u32,
-    tried: BTreeSet<Attempt>,
+    /// Whether moves that were tried with fewer findings are tried again.
+    pub repeats: bool,
+    /// What was tried, each with the number of findings that the plan had then.
+    tried: BTreeMap<Attempt, usize>,
     progress: &'s mut P,
 }
 
@@ -53,7 +56,8 @@ impl<'s, P: Progress> Search<'s, P> {
             explored,
             graph,
             left: trials,
-            tried: BTreeSet::new(alloc),
+            repeats: false,
+            tried: BTreeMap::new(alloc),
             progress,
         })
     }
@@ -82,9 +86,17 @@ impl<'s, P: Progress> Search<'s, P> {
         self.graph = before.graph;
     }
 
-    /// Whether a move is new; from now on it is not.
+    /// Whether a move is new; from now on it is not. Where the search repeats moves, one that was tried on a plan with
+    /// another number of findings is new too.
     pub fn is_new(&mut self, attempt: Attempt) -> Result<bool, FlowFault> {
-        Ok(self.tried.insert(attempt)?)
+        let findings = self.explored.plan.findings.len();
+        match self.tried.get(&attempt).copied() {
+            Some(before) if !self.repeats || before == findings => Ok(false),
+            _ => {
+                self.tried.insert(attempt, findings)?;
+                Ok(true)
+            }
+        }
     }
 
     pub fn has_trials(&self) -> bool {

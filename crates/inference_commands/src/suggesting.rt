@@ -100,7 +100,7 @@ pub fn suggest<W: Sink, N: Sink, P: Progress>(
         Ok(given) => given,
         Err(stop) => return stop.status(),
     };
-    let found = match find(alloc, rom, &given, trials, out, notes, progress) {
+    let found = match find(alloc, rom, &given, trials, symbols, out, notes, progress) {
         Ok(found) => found,
         Err(stop) => return stop.status(),
     };

@@ -10,3 +10,4 @@ mod search;
 pub use inference::{Inference, inferred};
 pub use judged::Judged;
 pub use plain::{plain_annotations, without_fact};
+pub use search::helping_at;

@@ -34,6 +34,17 @@ pub(crate) fn clear<P: Progress>(search: &mut Search<P>) -> Result<(), FlowFault
 /// The first move that helps: what is cheap first, then cells, then what costs trials. Rows that lead nowhere come
 /// before others, since more code is reached from them.
 fn helping<P: Progress>(search: &mut Search<P>) -> Result<Option<ExploredPlan>, FlowFault> {
+    search.repeats = false;
+    let found = first_helping(search)?;
+    if found.is_some() || !search.has_trials() {
+        return Ok(found);
+    }
+    search.repeats = true;
+    first_helping(search)
+}
+
+/// The first new move that helps; None if none does.
+fn first_helping<P: Progress>(search: &mut Search<P>) -> Result<Option<ExploredPlan>, FlowFault> {
     let refused = in_order(search)?;
     for address in refused.as_slice() {
         let found = cheap(search, *address)?;
@@ -66,6 +77,22 @@ fn in_order<P: Progress>(search: &Search<P>) -> Result<Vec<u16>, FlowFault> {
         }
     }
     Ok(order)
+}
+
+/// The first move that takes the refusals of one address away; None if no move does. The search stays as it was.
+///
+/// # Errors
+///
+/// `NoMemory` where memory was refused.
+pub fn helping_at<P: Progress>(
+    search: &mut Search<P>,
+    refused: u16,
+) -> Result<Option<ExploredPlan>, FlowFault> {
+    let found = cheap(search, refused)?;
+    if found.is_some() || !search.has_trials() {
+        return Ok(found);
+    }
+    dear(search, refused)
 }
 
 fn cheap<P: Progress>(
@@ -182,6 +209,9 @@ fn lessen<'r, P: Progress>(
         let Some(explored) = ExploredPlan::of(search.alloc, search.context, plan)? else {
             continue;
         };
+        if search.explored.is_worse(&explored) {
+            continue;
+        }
         let other = judge(search.alloc, search.context, bytes, &explored)?;
         if other.answer().is_ok() {
             search.keep(explored)?;
