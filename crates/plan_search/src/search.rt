@@ -139,23 +139,34 @@ fn bound<'r, P: Progress>(search: &mut Search<P>, bytes: &'r [u8]) -> Result<Jud
 {
     let mut judged = judge(search.alloc, search.context, bytes, &search.explored)?;
     for _ in 0..BOUNDS {
-        let plans = match judged.answer() {
-            Err(WriterFault::LoopUnbounded(_)) => with_counters(search)?,
-            Err(WriterFault::Refused(refused))
-                if matches!(refused.reason.number(), 6 | 7 | 12 | 17) => {
-                with_other_bounds(search, refused.address)?
-            }
-            _ => return Ok(judged),
+        let Some(better) = bettered(search, bytes, &judged)? else {
+            return Ok(judged);
         };
-        match first_better(search, bytes, &judged, plans)? {
-            Some((explored, better)) => {
-                search.keep(explored)?;
-                judged = better;
-            }
-            None => return Ok(judged),
-        }
+        judged = better;
     }
     Ok(judged)
+}
+
+/// A better answer by other bounds, which the search then keeps; None if no plan has one.
+fn bettered<'r, P: Progress>(
+    search: &mut Search<P>,
+    bytes: &'r [u8],
+    judged: &Judged<'r>,
+) -> Result<Option<Judged<'r>>, FlowFault>
+    ensures { IfOk result (λ found. IfSome found (λ better. better ≡ bytes.now)) }
+{
+    let plans = match judged.answer() {
+        Err(WriterFault::LoopUnbounded(_)) => with_counters(search)?,
+        Err(WriterFault::Refused(refused)) if matches!(refused.reason.number(), 6 | 7 | 12 | 17) => {
+            with_other_bounds(search, refused.address)?
+        }
+        _ => return Ok(None),
+    };
+    let Some((explored, better)) = first_better(search, bytes, judged, plans)? else {
+        return Ok(None);
+    };
+    search.keep(explored)?;
+    Ok(Some(better))
 }
 
 /// The same; an accepted plan loses the families that it does not need.
@@ -205,18 +216,46 @@ fn lessen<'r, P: Progress>(
 {
     let mut judged = judged;
     for place in (0..search.explored.plan.findings.len()).rev() {
-        let plan = search.explored.plan.without(search.alloc, place)?;
-        let Some(explored) = ExploredPlan::of(search.alloc, search.context, plan)? else {
-            continue;
-        };
-        if search.explored.is_worse(&explored) {
-            continue;
-        }
-        let other = judge(search.alloc, search.context, bytes, &explored)?;
-        if other.answer().is_ok() {
-            search.keep(explored)?;
+        if let Some(other) = left_out(search, bytes, place)? {
             judged = other;
         }
     }
     Ok(judged)
+}
+
+/// The answer without the family at a place, where the plan is accepted without it; the search then keeps that plan.
+fn left_out<'r, P: Progress>(
+    search: &mut Search<P>,
+    bytes: &'r [u8],
+    place: usize,
+) -> Result<Option<Judged<'r>>, FlowFault>
+    ensures { IfOk result (λ found. IfSome found (λ judged. judged ≡ bytes.now)) }
+{
+    let Some((explored, judged)) = accepted_without(search, bytes, place)? else {
+        return Ok(None);
+    };
+    search.keep(explored)?;
+    Ok(Some(judged))
+}
+
+/// The plan without the family at a place, and its answer, where that accepts.
+fn accepted_without<'r, P: Progress>(
+    search: &Search<P>,
+    bytes: &'r [u8],
+    place: usize,
+) -> Result<Option<(ExploredPlan, Judged<'r>)>, FlowFault>
+    ensures { IfOk result (λ found. IfSome found (λ both. both.1 ≡ bytes.now)) }
+{
+    let plan = search.explored.plan.without(search.alloc, place)?;
+    let Some(explored) = ExploredPlan::of(search.alloc, search.context, plan)? else {
+        return Ok(None);
+    };
+    if search.explored.is_worse(&explored) {
+        return Ok(None);
+    }
+    let judged = judge(search.alloc, search.context, bytes, &explored)?;
+    if judged.answer().is_err() {
+        return Ok(None);
+    }
+    Ok(Some((explored, judged)))
 }
