@@ -62,6 +62,7 @@ pub(crate) fn explained<'r>(
 }
 
 /// What `check` answered, beside the annotations, and what is asked of its explanation.
+#[derive(Drop)]
 struct Asked<'a> {
     given: &'a Given,
     question: Question<'a>,
