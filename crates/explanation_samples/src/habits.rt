@@ -133,7 +133,7 @@ pub const PROGRAMS: &[Program] = &[
         first: "accepted",
     },
     Program {
-        name: "Habit 5: `SUB n` bounds A, but L was copied before it.",
+        name: "Habit 5: A was copied to L before `SUB n`.",
         rom: b"\x31\x00\x44\xCD\x08\x00\x18\xFB\x3A\x00\x40\x6F\xD6\x40\xD0\x26\x43\x36\x01\xC9",
         said: "low = 0x4380\ntop = 0x4400\n",
         first: "refused 0011 8 StackOverwrite",
