@@ -1,4 +1,4 @@
-"""Loads the toolchain's `rt` as a module that remembers what it asks for again and again.
+"""Loads the toolchain's `rt` as a module that remembers what it asks for again and again, and sets less memory aside.
 
 Plain `rt` sums up the files of a crate, and lists what the crate stands on, once for each path that leads down to it: near
 the top these are tens of thousands. Here each crate is summed once a call, and listed once. The sums and lists are the same,
@@ -12,9 +12,13 @@ import sys
 import threading
 
 # What the functions are called that are used here, and what they take.
-TAKEN = {"main": ["words"], "rtlib.Crate.below": ["self"]}
+TAKEN = {"main": ["words"], "need": ["crate"], "rtlib.Crate.below": ["self"]}
 # Some kits remember the sums by themselves, by a function of this name. The others sum by this one.
 REMEMBERS, SUMS = "stamp_once", {"rtlib.Crate.stamp": ["self"]}
+# The share of the memory that `rt` sets aside for a check, which the check takes. By that memory `rt ci` decides how many
+# checks run side by side. `rt` sets 3.4 GB aside for `cert_lines`, which took 1.8, and 6.1 for `plan_search`, which took
+# 4.7 (2026-11-28): so two or three checks ran where four could.
+SHARE = 0.75
 
 
 class Unexpected(Exception):
@@ -49,6 +53,7 @@ def load(taken=None):
     if not has_sums:
         remember_sums(rt.rtlib.Crate)
     remember_lists(rt.rtlib.Crate)
+    set_less_aside(rt)
     return rt
 
 
@@ -79,6 +84,12 @@ def remember_sums(crate_type):
                 here.sums = None
 
     crate_type.stamp = stamp
+
+
+def set_less_aside(rt):
+    """A check gets this share of the memory that `rt` would set aside for it."""
+    made = rt.need
+    rt.need = lambda crate: SHARE * made(crate)
 
 
 def remember_lists(crate_type):

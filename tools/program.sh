@@ -35,6 +35,14 @@ run_of_none=$'done 0 0 0000 0000\nregs 0000 0000 0000 0000 0000 0000\nsum 0 0 0\
 
 ask verify "$six.rom" "$six.cert"
 judge "the six bytes, verified" 0 "$table" ''
+ask explain "$six.rom" "$six.cert"
+judge "the six bytes, explained by the certificate" 0 $'accepted\n' ''
+ask explain "$six.rom" "$six.toml"
+judge "the six bytes, explained by the annotations" 0 $'accepted\n' ''
+ask explain "$six.rom"
+judge "explained by nothing" 2 '' +
+ask explain 23
+judge "a reason that there is not" 2 '' +
 ask run "$six.rom" "$six.cert" "$six.input" 3
 judge "the six bytes, run" 0 "$run_of_three" ''
 ask run "$six.rom" "$six.cert" "$six.input" 0
@@ -86,7 +94,7 @@ ask run "$six.rom" "$six.cert" "$six.input"
 judge "a run without steps" 2 '' +
 ask --help
 judge "--help" 2 '' +
-for words in '' check suggest verify run migrate; do
+for words in '' check suggest explain verify run migrate list longest report diff; do
     # shellcheck disable=SC2086
     "$galcert" $words --help 2> asked.help
     # shellcheck disable=SC2086
@@ -351,10 +359,18 @@ judge "65,535 rows in 20 MB" 4 '' $'out of memory\ngalcert: memory ran out while
 # Memory that is refused once, at each growth in turn: the answer is `out of memory`, and nothing is written; or it is the whole
 # answer, where the program can do without.
 cc -O2 -shared -fPIC -o refuse.so "$here/tools/refuse.c" -ldl
+# Whether the output may be so where memory ran out: nothing, or the begin of what is shown line by line.
+as_begun() {
+    case $1 in
+    list | longest | report) head -c "$(stat -c %s out)" whole | cmp -s - out ;;
+    *) [ ! -s out ] ;;
+    esac
+}
 growths() {
     local name=$1 step=$2 growth=1 bad=0
     shift 2
     "$galcert" "$@" > whole 2> /dev/null < /dev/null
+    local answer=$?
     rm -f kept.cert
     while :; do
         rm -f refused kept.cert
@@ -362,9 +378,9 @@ growths() {
         local status=$?
         [ -e refused ] || break
         if [ $status = 4 ]; then
-            [ ! -s out ] && [ "$(echo kept.cert*)" = 'kept.cert*' ] && grep -qx "out of memory" err || bad=$((bad + 1))
+            as_begun "$1" && [ "$(echo kept.cert*)" = 'kept.cert*' ] && grep -qx "out of memory" err || bad=$((bad + 1))
         else
-            [ $status = 0 ] && cmp -s out whole || bad=$((bad + 1))
+            [ $status = $answer ] && cmp -s out whole || bad=$((bad + 1))
         fi
         growth=$((growth + step))
     done
@@ -381,6 +397,13 @@ growths "check of the states without memory" 40 check "$states.rom" "$states.tom
 growths "verify of the states without memory" 10 verify "$states.rom" "$states.cert"
 growths "check --infer without memory" 1 check "$six.rom" --infer --cert kept.cert
 growths "suggest without memory" 1 suggest "$six.rom"
+growths "list without memory" 1 list "$six.rom" "$six.cert"
+growths "longest without memory" 10 longest "$states.rom" "$states.cert"
+growths "report without memory" 1 report "$six.rom" "$six.cert"
+growths "report of the states without memory" 100 report "$states.rom" "$states.cert"
+growths "explain by annotations without memory" 1 explain "$six.rom" "$six.toml"
+growths "explain by a certificate without memory" 1 explain "$six.rom" "$six.cert"
+growths "explain of a refusal without memory" 2 explain loop.rom unbounded.toml
 
 # Certificates carried to version 2.
 ask migrate "$six.cert"
@@ -403,6 +426,318 @@ for words in "check $six.rom six.toml" "migrate $six.cert"; do
     judge "a full device: ${words%% *}" 3 '' $'device error\ngalcert: cannot write standard output: No space left on device (os error 28)\n'
 done
 
+# What an accepted certificate says: the listing, where the time goes, and the page.
+listed='addr  bytes        instruction                  T   left stack  known
+
+; main 0000 main: depth 0
+0000  31 00 44     LD SP,4400h                 10      -     0  SP unset
+0003  C3 03 00     JP 0003h                    10      -     0
+'
+ask list "$six.rom" "$six.cert"
+judge "the six bytes, listed" 0 "$listed" ''
+ask longest "$six.rom" "$six.cert"
+judge "no NMI routine" 0 $'nmi none\n' ''
+for entry in main 0000; do
+    ask longest "$six.rom" "$six.cert" $entry
+    judge "a procedure without a time: $entry" 0 $'untimed 0000\n' ''
+done
+for entry in 0003 nmi 00000 ''; do
+    ask longest "$six.rom" "$six.cert" "$entry"
+    judge "no procedure '$entry'" 2 '' "no procedure $entry"$'\n'
+done
+ask report "$six.rom" "$six.cert"
+judge "a page without time" 0 "$(cat out)"$'\n' ''
+grep -q 'There is no NMI routine' out && ! grep -q 'id="time"' out || { echo "not as it should be: a page without time"; wrong=$((wrong + 1)); }
+printf '%s\n' "it's equ \$0000" 'loop equ $0003' 'cell equ $4100' '<nonsense' > six.sym
+unread=$'six.sym:4: warning: no symbol\n'
+ask list "$six.rom" "$six.cert" --symbols six.sym
+judge "a listing with names" 0 "$(printf '%s' "$listed" | sed "s/0000 main:/0000 it's:/; s/^0000  /it's:\n&/; s/^0003  /loop:\n&/; s/JP 0003h/JP loop /")"$'\n' "$unread"
+cp out named.list
+ask longest "$six.rom" "$six.cert" -s six.sym "it's"
+judge "an entry by its name" 0 $'untimed 0000\n' "$unread"
+cp "$six.rom" "<b>&'\"x.rom"
+ask report "<b>&'\"x.rom" "$six.cert" -s six.sym
+judge "a page with names" 0 "$(cat out)"$'\n' "$unread"
+grep -q '&lt;b&gt;&amp;&#39;&quot;x' out && grep -q 'it&#39;s' out && ! grep -q "<b>&'" out || { echo "not as it should be: a page with names"; wrong=$((wrong + 1)); }
+printf 'a equ 1\na equ 2\n' > twice.sym
+for words in list longest report; do
+    ask $words "$six.rom" "$six.cert" -s twice.sym
+    judge "$words with a name of two values" 2 '' $'twice.sym:2: a has one value in line 1 and another in line 2\n'
+    ask $words "$six.rom" "$six.cert" -s missing
+    judge "$words without the symbol file" 3 '' $'device error\ngalcert: cannot open missing: No such file or directory (os error 2)\n'
+    ask $words port.rom port.cert
+    judge "$words of a refused certificate" 1 $'refused 0000 5 IoSpace\n' ''
+    ask $words port.rom port.cert -s missing
+    judge "$words of a refused certificate, without the symbol file" 3 '' $'device error\ngalcert: cannot open missing: No such file or directory (os error 2)\n'
+    ask $words missing "$six.cert"
+    judge "$words without a ROM" 3 '' $'device error\ngalcert: cannot open missing: No such file or directory (os error 2)\n'
+    ask $words "$six.rom" missing
+    judge "$words without a certificate" 3 '' $'device error\ngalcert: cannot open missing: No such file or directory (os error 2)\n'
+    ask $words "$six.cert" "$six.rom"
+    judge "$words of files exchanged" 1 $'bad certificate line 1\n' "galcert: $six.cert looks like a certificate; ROM is a file of the bytes themselves"$'\n'
+    ask $words - - -s six.sym
+    judge "$words of standard input twice" 2 '' $'galcert: standard input can stand for one file only\n'
+    "$galcert" $words "$six.rom" "$six.cert" > /dev/full 2> err < /dev/null
+    echo $? > status
+    : > out
+    judge "$words to a full device" 3 '' $'device error\ngalcert: cannot write standard output: No space left on device (os error 28)\n'
+    # A pipe that nobody reads: standard error says nothing.
+    { sleep 0.2; "$galcert" $words "$six.rom" "$six.cert" 2> err < /dev/null; echo $? > status; } | true
+    : > out
+    judge "$words to a closed pipe" 3 '' ''
+done
+# Many rows at an address are summed up.
+rows 300 > rows.cert
+ask list "$six.rom" rows.cert
+judge "300 rows at an address, listed" 0 "$(printf '%s' "$listed" | sed 's/SP unset/299 rows, &/')"$'\n' ''
+ask report "$six.rom" rows.cert
+judge "300 rows at an address, a page" 0 "$(cat out)"$'\n' ''
+grep -q '299 rows</span>' out || { echo "not as it should be: 300 rows at an address, a page"; wrong=$((wrong + 1)); }
+rows 65535 > rows.cert
+ask list "$six.rom" rows.cert
+judge "65,535 rows, listed" 0 "$(printf '%s' "$listed" | sed 's/SP unset/65534 rows, &/')"$'\n' ''
+ask report "$six.rom" rows.cert
+judge "65,535 rows, a page" 0 "$(cat out)"$'\n' ''
+
+# Two certificates side by side. The lines of the second are those of its table, printed here by awk.
+pages=$here/examples/page-cell/pages
+"$galcert" verify "$pages.rom" "$pages.cert" > pages.table
+others() { awk -v new="$1" '$3 == "depth" && $1 != "main" {
+    printf "%-4s %s depth", $1, $2
+    if (new) printf "      -%7s time      -%7s new\n", $4, $6; else printf "%7s      - time%7s      - gone\n", $4, $6 }' pages.table; }
+ask diff "$six.cert" "$six.cert"
+judge "a certificate beside itself" 0 $'main 0000 depth      0      0 time      -      -\nstack 0 0 of 128\nnmi none\n' ''
+ask diff "$six.cert" "$pages.cert"
+judge "a certificate beside a greater one" 0 $'main 0000 depth      0      8 time      -      - grew\n'"$(others 1)"$'\nstack 0 20 of 64 grew\nnmi - 1959 of 2500\n' ''
+ask diff "$pages.cert" "$six.cert"
+judge "a certificate beside a smaller one" 0 $'main 0000 depth      8      0 time      -      -\n'"$(others '')"$'\nstack 20 0 of 128\nnmi none\n' ''
+printf 'first equ $00BA\nsecond equ $00C8\n' > old.sym
+printf 'first equ $00C8\nsecond equ $00BA\n' > new.sym
+ask diff "$pages.cert" "$pages.cert" --old-symbols old.sym --symbols new.sym
+judge "procedures by their names" 0 "$(awk '$3 == "depth" { end = ""; name = ""; entry = $2; depth = $4; time = $6
+    if (entry == "00BA") { entry = "00C8"; depth = 2; time = 56; name = " first" }
+    else if (entry == "00C8") { entry = "00BA"; depth = 2; time = 147; name = " second"; end = " grew" }
+    printf "%-4s %s depth%7s%7s time%7s%7s%s%s\n", $1, entry, $4, depth, $6, time, name, end }' pages.table)"$'\nstack 20 20 of 64\nnmi 1959 1959 of 2500\n' ''
+ask diff "$six.cert" "$six.rom"
+judge "a ROM in the place of a certificate" 1 $'bad certificate line 1\n' ''
+ask diff "$six.cert" missing
+judge "a certificate that is not there" 3 '' $'device error\ngalcert: cannot open missing: No such file or directory (os error 2)\n'
+ask diff - -
+judge "two certificates from standard input" 2 '' $'galcert: standard input can stand for one file only\n'
+
+# Limits below those of the certificate.
+table_of_pages=$(cat pages.table)$'\n'
+ask verify "$pages.rom" "$pages.cert" --max-stack 20 --max-nmi 1959
+judge "a table at its limits" 0 "$table_of_pages" ''
+ask verify "$pages.rom" "$pages.cert" --max-stack 19
+judge "a stack above its limit" 1 "$table_of_pages" $'galcert: the stack takes 20 bytes, more than 19\n'
+ask verify "$pages.rom" "$pages.cert" --max-nmi 1958 -q
+judge "an NMI routine above its limit" 1 '' $'galcert: the NMI routine takes 1959 T-states, more than 1958\n'
+ask check "$six.rom" "$six.toml" --max-stack 0 --max-nmi 0
+judge "a program without NMI routine below any limit" 0 "$table" ''
+ask check "$pages.rom" "$pages.toml" --max-stack 8 --max-nmi 8 --cert limits.cert
+judge "both limits" 1 "$table_of_pages" $'galcert: the stack takes 20 bytes, more than 8\ngalcert: the NMI routine takes 1959 T-states, more than 8\n'
+cmp -s limits.cert "$pages.cert" || { echo "not as it should be: the certificate of a table above its limits"; wrong=$((wrong + 1)); }
+ask verify "$pages.rom" "$pages.cert" --max-stack -1
+judge "a limit out of form" 2 '' +
+ask verify "$pages.rom" "$pages.cert" --max-nmi 2k
+judge "a limit that is no decimal" 2 '' $'bad max-nmi\ngalcert: N is "2k", and not a decimal of at most 4294967295\n'
+
+# Runs that are watched: the lines are those of the run, with a line before each event in a trace.
+ask run "$six.rom" "$six.cert" "$six.input" 2 --trace
+judge "a trace of two events" 0 $'0 0 0000 LD SP,4400h          0000 0000 0000 0000 0000 0000 0000\n1 10 0003 JP 0003h             0000 0000 0000 0000 0000 0000 4400\ndone 2 20 0003 4400\nregs 0000 0000 0000 0000 0000 0000\nsum 0 0 0\n' ''
+printf 'reset 50650 00\n7 00 00 00 00 00 00 1\n' > nmi.input
+ask run nmi.rom nmi.cert nmi.input 7 --until-nmi 7
+judge "a run that is watched and not cut" 0 $'nmi 5 000C\nend 6 25\ndone 7 72 000C 4400\nregs 0044 0000 0000 0000 0000 0000\nsum 12 0 0\n' ''
+ask run nmi.rom nmi.cert nmi.input 7 --until-nmi 1
+judge "a run until its first NMI" 0 $'nmi 5 000C\ndone 6 58 0066 43FE\nregs 0044 0000 0000 0000 0000 0000\nsum 12 0 0\n' ''
+ask run nmi.rom nmi.cert nmi.input 7 --until-nmi 0 --trace
+judge "a run until no NMI" 0 $'done 0 0 0000 0000\nregs 0000 0000 0000 0000 0000 0000\nsum 0 0 0\n' ''
+ask run nmi.rom nmi.cert nmi.input 7 --trace
+grep -v '^[0-9]' out > out.lines
+mv out.lines out
+judge "the other lines of a trace" 0 $'nmi 5 000C\nend 6 25\ndone 7 72 000C 4400\nregs 0044 0000 0000 0000 0000 0000\nsum 12 0 0\n' ''
+ask run nmi.rom nmi.cert nmi.input 7 --until-nmi x
+judge "--until-nmi x" 2 '' $'bad until-nmi\ngalcert: N is "x", and not a decimal of at most 4294967295\n'
+# The return address 000C lies at the top of the stack, so at the end of work RAM.
+printf 'reset 0 A5\n' > fill.input
+ask run "$six.rom" "$six.cert" fill.input 5 --dump work.bin,video.bin,object.bin
+judge "RAM of a run without events" 0 $'done 0 0 0000 A5A5\nregs A5A5 A5A5 A5A5 A5A5 A5A5 A5A5\nsum 168960 168960 42240\n' ''
+head -c 1024 /dev/zero | tr '\0' '\245' > filled.bin
+holds "work RAM" work.bin filled.bin
+holds "video RAM" video.bin filled.bin
+head -c 256 filled.bin > filled.object
+holds "object RAM" object.bin filled.object
+ask run nmi.rom nmi.cert nmi.input 7 --dump work.bin
+judge "work RAM after an NMI" 0 $'nmi 5 000C\nend 6 25\ndone 7 72 000C 4400\nregs 0044 0000 0000 0000 0000 0000\nsum 12 0 0\n' ''
+{ head -c 1022 /dev/zero; printf '\x0C\x00'; } > pushed.bin
+holds "the return address in work RAM" work.bin pushed.bin
+ask run port.rom port.cert nmi.input 7 --dump work.bin --trace
+judge "a refused certificate, watched" 1 $'refused 0000 5 IoSpace\n' ''
+ask run "$six.rom" "$six.cert" bad.input 3 --dump work.bin
+judge "a bad line, watched" 1 $'bad input line 2\n' ''
+holds "work RAM stays after a bad line" work.bin pushed.bin
+for dumps in '' , work.bin, a,b a,b,c,d -; do
+    ask run missing missing missing 3 --dump "$dumps"
+    judge "--dump '$dumps'" 2 '' $'bad dump\ngalcert: FILE is "'"$dumps"$'", and not one file or three, with commas\n'
+done
+cp nmi.rom over.rom
+ask run over.rom nmi.cert nmi.input 7 --dump work.bin,./over.rom,object.bin
+judge "--dump over the ROM" 2 '' $'FILE ./over.rom and ROM over.rom are the same file\n'
+holds "the ROM stays" over.rom nmi.rom
+ask run nmi.rom nmi.cert nmi.input 7 --dump work.bin,video.bin,./work.bin
+judge "--dump of one file twice" 2 '' $'FILE work.bin and FILE ./work.bin are the same file\n'
+rm -f full.bin
+ask run nmi.rom nmi.cert nmi.input 7 --dump full.bin,/dev/full,object.bin
+judge "--dump to a full device" 3 $'nmi 5 000C\nend 6 25\n' $'device error\ngalcert: cannot write /dev/full: No space left on device (os error 28)\n'
+cases=$((cases + 1))
+[ ! -e full.bin ] || { echo "not as it should be: a part of a dump is left"; wrong=$((wrong + 1)); }
+
+# Documents. python3 reads them.
+document() {
+    cases=$((cases + 1))
+    python3 -c 'import json, sys
+whole = sys.stdin.read()
+said = json.loads(whole)
+wanted = json.loads(sys.argv[1])
+sys.exit(whole.count("\n") != 1 or any(said.get(name) != value for name, value in wanted.items()))' "$2" < out ||
+        { echo "not as it should be: $1: $(head -c 300 out)"; wrong=$((wrong + 1)); }
+    local said
+    said=$(cat out)$'\n'
+    judge "$1: status and errors" "$3" "$said" ''
+}
+ask verify "$six.rom" "$six.cert" --json
+document "a document of verify" '{"version": 1, "command": "verify", "status": 0, "verdict": "accepted", "warnings": [], "symbols": [], "table": {"procedures": [{"kind": "main", "entry": 0, "depth": 0, "time": null}], "stack": {"used": 0, "size": 128}, "nmi": null}}' 0
+ask check loop.rom loop.toml --json --cert loop.json.cert
+document "a document of check" '{"command": "check", "status": 0, "table": {"procedures": [{"kind": "main", "entry": 0, "depth": 0, "time": null}, {"kind": "nmi", "entry": 102, "depth": 4, "time": 148}], "stack": {"used": 4, "size": 128}, "nmi": {"time": 148, "budget": 148}}}' 0
+holds "its certificate" loop.json.cert loop.cert
+ask check loop.rom unbounded.toml --json
+document "a document of a loop without a bound" '{"verdict": "unbounded", "address": 105, "status": 1}' 1
+ask verify port.rom port.cert --json
+document "a document of a refusal" '{"verdict": "refused", "address": 0, "reason": {"number": 5, "name": "IoSpace"}, "status": 1}' 1
+ask verify empty "$six.cert" --json
+document "a document with a hint" '{"verdict": "refused", "reason": {"number": 1, "name": "Rom"}, "warnings": ["galcert: empty has no bytes; a ROM has 1 to 16,384"]}' 1
+ask verify "$pages.rom" "$pages.cert" --max-stack 19 --json
+document "a document above a limit" '{"verdict": "accepted", "status": 1, "warnings": ["galcert: the stack takes 20 bytes, more than 19"]}' 1
+ask check "$six.rom" control.toml --json
+document "a document with a key of control characters" '{"verdict": "bad annotation", "key": "accepted\\nmain\\u001B[2J\\u009F \"\\\\u0000\\b\\t\\f\\r\\u007F"}' 1
+ask run nmi.rom nmi.cert nmi.input 7 --json
+document "a document of run" '{"command": "run", "verdict": "accepted", "events": [{"kind": "nmi", "event": 5, "address": 12}, {"kind": "end", "event": 6, "spent": 25}], "done": {"events": 7, "time": 72, "pc": 12, "sp": 17408}, "registers": {"AF": 68, "BC": 0, "DE": 0, "HL": 0, "IX": 0, "IY": 0}, "sums": {"work": 12, "video": 0, "object": 0}}' 0
+ask run "$six.rom" "$six.cert" "$six.input" 1 --json --trace
+document "a document of a trace" '{"events": [{"kind": "trace", "event": 0, "time": 0, "address": 0, "instruction": "LD SP,4400h", "registers": {"AF": 0, "BC": 0, "DE": 0, "HL": 0, "IX": 0, "IY": 0, "SP": 0}}]}' 0
+ask run "$six.rom" "$six.cert" bad.input 3 --json
+document "a document of a bad line" '{"verdict": "bad input", "line": 2, "status": 1}' 1
+ask list "$six.rom" "$six.cert" --json -s six.sym
+document "a document of list" "{\"verdict\": \"accepted\", \"warnings\": [\"six.sym:4: warning: no symbol\"], \"symbols\": [{\"name\": \"it's\", \"value\": 0}, {\"name\": \"loop\", \"value\": 3}, {\"name\": \"cell\", \"value\": 16640}], \"lines\": [{\"text\": \"; main 0000 it's: depth 0\"}, {\"text\": \"it's:\"}, {\"address\": 0, \"bytes\": \"31 00 44\", \"instruction\": \"LD SP,4400h\", \"taken\": 10, \"not_taken\": 10, \"left\": null, \"stack\": \"0\", \"known\": \"SP unset\"}, {\"text\": \"loop:\"}, {\"address\": 3, \"bytes\": \"C3 03 00\", \"instruction\": \"JP loop\", \"taken\": 10, \"not_taken\": 10, \"left\": null, \"stack\": \"0\", \"known\": \"\"}]}" 0
+ask longest "$six.rom" "$six.cert" main --json
+document "a document of longest" '{"verdict": "accepted", "procedure": {"kind": "untimed", "entry": 0}, "items": [], "procedures": []}' 0
+ask explain "$six.rom" six.toml --json
+document "a document of explain" '{"command": "explain", "verdict": "accepted", "status": 0}' 0
+ask explain port.rom six.toml --json
+document "a document of a refusal, explained" '{"verdict": "refused", "status": 1}' 1
+python3 -c 'import json, sys
+first = json.load(sys.stdin)["refusals"][0]
+sys.exit((first["address"], first["instruction"], first["reason"]) != (0, "OUT (00h),A", {"number": 5, "name": "IoSpace"}))' < out ||
+    { echo "not as it should be: the refusal of a document of explain: $(head -c 300 out)"; wrong=$((wrong + 1)); }
+"$galcert" suggest "$six.rom" > suggested.toml 2> suggested.notes < /dev/null
+ask suggest "$six.rom" --json
+document "a document of suggest" "$(python3 -c 'import json, sys
+print(json.dumps({"command": "suggest", "verdict": "accepted", "annotations": open("suggested.toml").read(),
+    "warnings": open("suggested.notes").read().splitlines()}))')" 0
+# With another status there is no document, and standard error says why.
+ask verify missing "$six.cert" --json
+judge "no document of a ROM that is missing" 3 '' $'device error\ngalcert: cannot open missing: No such file or directory (os error 2)\n'
+ask longest "$six.rom" "$six.cert" nowhere --json
+judge "no document of no procedure" 2 '' $'no procedure nowhere\n'
+ask verify "$six.rom" "$six.cert" --max-nmi 2k --json
+judge "no document of a word out of form" 2 '' $'bad max-nmi\ngalcert: N is "2k", and not a decimal of at most 4294967295\n'
+ask verify "$six.rom" "$six.cert" --json -q
+judge "a quiet document" 0 '' ''
+ask migrate "$six.cert" --json
+judge "--json where there is no document" 2 '' +
+"$galcert" verify "$six.rom" "$six.cert" --json > /dev/full 2> err < /dev/null
+echo $? > status
+: > out
+judge "a document to a full device" 3 '' $'device error\ngalcert: cannot write standard output: No space left on device (os error 28)\n'
+growths "a document without memory" 1 verify "$six.rom" "$six.cert" --json
+growths "a document of check without memory" 1 check "$six.rom" six.toml --json --cert kept.cert
+growths "a watched run without memory" 1 run "$six.rom" "$six.cert" "$six.input" 3 --until-nmi 1
+
+# Colors of standard error.
+red=$'\e[31m'
+yellow=$'\e[33m'
+none=$'\e[0m'
+ask verify missing "$six.cert" --color always
+judge "a device error in red" 3 '' "${red}device error$none"$'\ngalcert: cannot open missing: No such file or directory (os error 2)\n'
+ask --color=always list "$six.rom" "$six.cert" -s six.sym
+judge "a warning in yellow" 0 "$(cat named.list)"$'\n' "${yellow}six.sym:4: warning: no symbol$none"$'\n'
+for color in auto never; do
+    ask verify missing "$six.cert" --color $color
+    judge "no color: $color" 3 '' $'device error\ngalcert: cannot open missing: No such file or directory (os error 2)\n'
+done
+ask verify missing "$six.cert" --color sometimes
+judge "another color" 2 '' +
+# On a terminal, which script makes. Its lines end in CR LF.
+if command -v script > /dev/null; then
+    terminal() {
+        # shellcheck disable=SC2086
+        env $1 script -qec "$galcert verify missing $six.cert $2 > /dev/null" /dev/null < /dev/null | tr -d '\r' > out
+        echo 0 > status
+        : > err
+    }
+    terminal "-u NO_COLOR" ''
+    judge "color on a terminal" 0 "${red}device error$none"$'\ngalcert: cannot open missing: No such file or directory (os error 2)\n' ''
+    terminal "NO_COLOR=" ''
+    judge "color on a terminal, NO_COLOR is empty" 0 "${red}device error$none"$'\ngalcert: cannot open missing: No such file or directory (os error 2)\n' ''
+    terminal "NO_COLOR=1" ''
+    judge "NO_COLOR on a terminal" 0 $'device error\ngalcert: cannot open missing: No such file or directory (os error 2)\n' ''
+    terminal "NO_COLOR=1" '--color always'
+    judge "--color always and NO_COLOR" 0 "${red}device error$none"$'\ngalcert: cannot open missing: No such file or directory (os error 2)\n' ''
+fi
+
+# The short help, completions, the manual page, and what is installed.
+for command in check suggest explain verify run migrate list longest report diff; do
+    "$galcert" $command --help 2> long.help
+    ask $command -h
+    judge "$command -h" 2 '' +
+    cases=$((cases + 1))
+    [ "$(wc -c < err)" -lt "$(wc -c < long.help)" ] || { echo "not as it should be: $command -h is not shorter than --help"; wrong=$((wrong + 1)); }
+done
+# Each option of the long help stands in the manual page and in each completion.
+for option in $(for command in check suggest explain verify run list longest diff; do "$galcert" $command --help 2>&1; done |
+    grep -o -- '--[a-z-]*' | sort -u | grep -v -- '--help\|--version'); do
+    for file in galcert.bash _galcert galcert.fish galcert.1; do
+        cases=$((cases + 1))
+        grep -q -- "-${option#--}\b\| -l ${option#--}\b" "$here/share/$file" || { echo "not as it should be: $file has no $option"; wrong=$((wrong + 1)); }
+    done
+done
+cases=$((cases + 1))
+bash -c ". '$here/share/galcert.bash'; complete -p galcert" > out 2> err
+[ "$(cat out)" = "complete -o filenames -F _galcert galcert" ] || { echo "not as it should be: complete -p: $(cat out err)"; wrong=$((wrong + 1)); }
+# A completion by the tab key, in a shell on a terminal.
+if command -v script > /dev/null; then
+    mkdir -p bin && cp "$galcert" bin/galcert
+    cases=$((cases + 1))
+    printf '%s\n' "PATH=$work/bin:\$PATH; . '$here/share/galcert.bash'" $'galcert verif\t--version > completed' exit |
+        script -qec 'bash --norc --noprofile -i' /dev/null > /dev/null 2>&1
+    [ "$(cat completed 2> /dev/null)" = "$(printf '%s' "$version")" ] || { echo "not as it should be: a completion by the tab key"; wrong=$((wrong + 1)); }
+fi
+if command -v mandoc > /dev/null; then
+    cases=$((cases + 1))
+    mandoc -T lint "$here/share/galcert.1" > out 2>&1
+    [ ! -s out ] || { echo "not as it should be: mandoc: $(cat out)"; wrong=$((wrong + 1)); }
+fi
+if command -v make > /dev/null && [ -x "$here/galcert" ]; then
+    cases=$((cases + 1))
+    make -s -C "$here" -o galcert install DESTDIR="$work/stage" PREFIX=/usr > out 2>&1
+    for file in bin/galcert share/man/man1/galcert.1 share/bash-completion/completions/galcert \
+        share/zsh/site-functions/_galcert share/fish/vendor_completions.d/galcert.fish share/doc/galcert/PROGRAM.md; do
+        [ -s "stage/usr/$file" ] || { echo "not as it should be: make install: no $file: $(cat out)"; wrong=$((wrong + 1)); }
+    done
+    make -s -C "$here" uninstall DESTDIR="$work/stage" PREFIX=/usr
+    [ -z "$(find stage -type f)" ] || { echo "not as it should be: make uninstall leaves files"; wrong=$((wrong + 1)); }
+fi
+
 # Files that give a byte at a time.
 bytes() { python3 -c 'import os, sys
 for byte in open(sys.argv[1], "rb").read(): os.write(1, bytes([byte]))' "$1"; }
@@ -413,6 +748,9 @@ judge "a byte at a time, checked" 0 "$table" ''
 rows 200 > rows.cert
 ask verify <(bytes "$six.rom") <(bytes rows.cert)
 judge "a byte at a time, 200 rows" 0 "$table" ''
+head -n 3 six.sym > three.sym
+ask list <(bytes "$six.rom") <(bytes "$six.cert") -s <(bytes three.sym)
+judge "a byte at a time, listed" 0 "$(cat named.list)"$'\n' ''
 printf 'reset 50687 A5\n1 1A 2B 3C 4D 5E 6F 1\n1 00 00 00 00 00 00 0\n' > two.input
 ask run <(bytes "$six.rom") <(bytes "$six.cert") <(bytes two.input) 9
 judge "a byte at a time, two lines" 0 $'done 2 20 0003 4400\nregs A5A5 A5A5 A5A5 A5A5 A5A5 A5A5\nsum 168960 168960 42240\n' ''

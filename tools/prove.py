@@ -24,7 +24,6 @@ import kit
 # What this program calls of `rt`, beside what kit.py names.
 TAKEN = {
     "free": [],
-    "need": ["crate"],
     "processors": [],
     "rtlib.Crate.__init__": ["self", "folder", "root", "known", "above", "name"],
     "rtlib.Crate.build_rlib": ["self", "flags", "anew"],

@@ -1,10 +1,13 @@
 // The commands and their words.
 
-use crate::help_texts::{CHECK, GALCERT, MIGRATE, RUN, STATUSES, SUGGEST, VERIFY};
+use crate::help_texts::{
+    CHECK, DIFF, EXPLAIN, GALCERT, LIST, LONGEST, MIGRATE, REPORT, RUN, STATUSES, SUGGEST, VERIFY,
+};
 use crate::names::COMMAND;
 use crate::options::{
-    annot, cert, cert_option, file, infer_option, listing_option, output_option, quiet_option, rom,
-    symbols_option, trials_option, unneeded_option,
+    annot, cert, cert_option, entry, file, infer_option, listing_option, max_nmi_option,
+    max_option, max_stack_option, old_symbols_option, output_option, quiet_option, rom,
+    rows_option, second, symbols_option, trials_option, unneeded_option,
 };
 use clap::{Arg, ArgAction, Command};
 use std::alloc::{AllocError, Global};
@@ -21,8 +24,13 @@ pub fn command_line<'a>(alloc: Global) -> Result<Command<'a>, AllocError> {
         .disable_help_subcommand(true)
         .subcommand(check_command(alloc)?)?
         .subcommand(suggest_command(alloc)?)?
+        .subcommand(explain_command(alloc)?)?
         .subcommand(verify_command(alloc)?)?
         .subcommand(run_command(alloc)?)?
+        .subcommand(list_command(alloc)?)?
+        .subcommand(longest_command(alloc)?)?
+        .subcommand(report_command(alloc)?)?
+        .subcommand(diff_command(alloc)?)?
         .subcommand(migrate_command(alloc)?)?
         .subcommand(help_command(alloc)?)
 }
@@ -38,6 +46,8 @@ fn check_command<'a>(alloc: Global) -> Result<Command<'a>, AllocError> {
         .arg(symbols_option(alloc))?
         .arg(listing_option(alloc))?
         .arg(unneeded_option(alloc))?
+        .arg(max_stack_option(alloc))?
+        .arg(max_nmi_option(alloc))?
         .arg(quiet_option(alloc))
 }
 
@@ -60,6 +70,8 @@ fn verify_command<'a>(alloc: Global) -> Result<Command<'a>, AllocError> {
         .arg(cert(alloc))?
         .arg(symbols_option(alloc))?
         .arg(listing_option(alloc))?
+        .arg(max_stack_option(alloc))?
+        .arg(max_nmi_option(alloc))?
         .arg(quiet_option(alloc))
 }
 
@@ -86,6 +98,58 @@ fn migrate_command<'a>(alloc: Global) -> Result<Command<'a>, AllocError> {
     command(alloc, "migrate", MIGRATE)
         .about("Prints a certificate in version 2")
         .arg(cert(alloc))
+}
+
+fn explain_command<'a>(alloc: Global) -> Result<Command<'a>, AllocError> {
+    command(alloc, "explain", EXPLAIN)
+        .about(
+            "Says why a ROM is refused and what helps; with a number for ROM, what that reason means",
+        )
+        .arg(rom(alloc))?
+        .arg(second(alloc))?
+        .arg(infer_option(alloc))?
+        .arg(trials_option(alloc))?
+        .arg(max_option(alloc))?
+        .arg(symbols_option(alloc))?
+        .arg(listing_option(alloc))
+}
+
+fn list_command<'a>(alloc: Global) -> Result<Command<'a>, AllocError> {
+    command(alloc, "list", LIST)
+        .about("Checks, then prints a listing with what the certificate says of each instruction")
+        .arg(rom(alloc))?
+        .arg(cert(alloc))?
+        .arg(symbols_option(alloc))?
+        .arg(listing_option(alloc))
+}
+
+fn longest_command<'a>(alloc: Global) -> Result<Command<'a>, AllocError> {
+    command(alloc, "longest", LONGEST)
+        .about("Checks, then prints where the T-states of a procedure go")
+        .arg(rom(alloc))?
+        .arg(cert(alloc))?
+        .arg(entry(alloc))?
+        .arg(rows_option(alloc))?
+        .arg(symbols_option(alloc))?
+        .arg(listing_option(alloc))
+}
+
+fn report_command<'a>(alloc: Global) -> Result<Command<'a>, AllocError> {
+    command(alloc, "report", REPORT)
+        .about("Checks, then prints a report as a page of HTML")
+        .arg(rom(alloc))?
+        .arg(cert(alloc))?
+        .arg(symbols_option(alloc))?
+        .arg(listing_option(alloc))
+}
+
+fn diff_command<'a>(alloc: Global) -> Result<Command<'a>, AllocError> {
+    command(alloc, "diff", DIFF)
+        .about("Prints the tables of two certificates side by side")
+        .arg(file(alloc, "OLD", "The old certificate, a text"))?
+        .arg(file(alloc, "NEW", "The new certificate, a text"))?
+        .arg(old_symbols_option(alloc))?
+        .arg(symbols_option(alloc))
 }
 
 fn help_command<'a>(alloc: Global) -> Result<Command<'a>, AllocError> {

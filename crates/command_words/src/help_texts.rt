@@ -52,3 +52,41 @@ Example: galcert check game.rom --infer";
 pub(crate) const CERT_HELP: &str =
     "Writes the certificate to FILE, whole or not at all; `-` is standard output, and the table then \
 goes to standard error";
+
+pub(crate) const LIST: &str =
+    "Checks, then prints a listing with what the certificate says of each instruction
+
+Each line has the address, the bytes, the instruction, its T-states, the T-states that are left for its
+procedure, the bytes on the stack, and what is known of the registers.
+
+Example: galcert list game.rom game.cert --symbols game.sym";
+
+pub(crate) const LONGEST: &str = "Checks, then prints where the T-states of a procedure go
+
+Shown is the dearest way through the procedure: its instructions, loops and calls, and their shares of the
+certified time. ENTRY is a name or four hexadecimal digits; if it is not said, the NMI routine is shown.
+
+Example: galcert longest game.rom game.cert 03AB";
+
+pub(crate) const REPORT: &str = "Checks, then prints a report as a page of HTML
+
+The page stands alone: no script, and nothing from elsewhere. It has the verdict, where the time goes, the
+calls, the memory, every store, and the listing.
+
+Example: galcert report game.rom game.cert > game.html";
+
+pub(crate) const EXPLAIN: &str =
+    "Says why a ROM is refused and what helps; with a number for ROM, what that reason means
+
+For each refused row it says what is wrong, where the value comes from, what is known there, and what to
+write: lines for the annotations that were tried, or a rewriting. A second file that begins with `galcert `
+is a certificate, which `galcert verify` refuses.
+
+Example: galcert explain game.rom game.toml";
+
+pub(crate) const DIFF: &str = "Prints the tables of two certificates side by side
+
+For each procedure there is a line with its stack depths and times, the old one first, and what grew. With
+symbol files a procedure is known by its name, otherwise by its address. Nothing is checked.
+
+Example: galcert diff old.cert new.cert --old-symbols old.sym --symbols new.sym";

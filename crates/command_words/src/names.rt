@@ -10,13 +10,27 @@ pub const CERT_FILE: &str = "cert";
 
 pub const COMMAND: &str = "COMMAND";
 
+pub const ENTRY: &str = "ENTRY";
+
 pub const INFER: &str = "infer";
 
 pub const LISTING: &str = "listing";
 
+pub const MAX: &str = "max";
+
+pub const MAX_NMI: &str = "max-nmi";
+
+pub const MAX_STACK: &str = "max-stack";
+
+pub const OLD_SYMBOLS: &str = "old-symbols";
+
 pub const OUTPUT: &str = "output";
 
 pub const QUIET: &str = "quiet";
+
+pub const ROWS: &str = "rows";
+
+pub const SECOND: &str = "ANNOT_OR_CERT";
 
 pub const SYMBOLS: &str = "symbols";
 

@@ -1,7 +1,10 @@
 // Arguments and options.
 
 use crate::help_texts::CERT_HELP;
-use crate::names::{CERT_FILE, INFER, LISTING, OUTPUT, QUIET, SYMBOLS, TRIALS, WARN_UNNEEDED};
+use crate::names::{
+    CERT_FILE, ENTRY, INFER, LISTING, MAX, MAX_NMI, MAX_STACK, OLD_SYMBOLS, OUTPUT, QUIET, ROWS,
+    SECOND, SYMBOLS, TRIALS, WARN_UNNEEDED,
+};
 use clap::{Arg, ArgAction};
 use std::alloc::{AllocError, Global};
 
@@ -98,4 +101,62 @@ pub(crate) fn quiet_option<'a>(alloc: Global) -> Arg<'a> {
         .long("quiet")
         .help("Prints nothing on standard output; the status alone answers")
         .action(ArgAction::SetTrue)
+}
+
+/// The annotations or the certificate that `explain` reads.
+pub(crate) fn second<'a>(alloc: Global) -> Arg<'a> {
+    Arg::new(alloc, SECOND)
+        .help("The annotations, a TOML text, or a certificate")
+        .action(ArgAction::Set)
+}
+
+/// The option that bounds how many refusals are explained.
+pub(crate) fn max_option<'a>(alloc: Global) -> Arg<'a> {
+    Arg::new(alloc, MAX)
+        .long("max")
+        .value_name("N")
+        .help("Explains at most N refusals; 20 if not said")
+        .action(ArgAction::Set)
+}
+
+/// The procedure whose T-states are shown.
+pub(crate) fn entry<'a>(alloc: Global) -> Arg<'a> {
+    Arg::new(alloc, ENTRY)
+        .help("The procedure: its name, or its address in four hexadecimal digits")
+        .action(ArgAction::Set)
+}
+
+/// The option by which each row has a line.
+pub(crate) fn rows_option<'a>(alloc: Global) -> Arg<'a> {
+    Arg::new(alloc, ROWS)
+        .long("rows")
+        .help("Prints a line for each row of the way")
+        .action(ArgAction::SetTrue)
+}
+
+/// The option that bounds the stack below the region's size.
+pub(crate) fn max_stack_option<'a>(alloc: Global) -> Arg<'a> {
+    Arg::new(alloc, MAX_STACK)
+        .long("max-stack")
+        .value_name("N")
+        .help("Ends with status 1 if the stack takes more than N bytes")
+        .action(ArgAction::Set)
+}
+
+/// The option that bounds the NMI routine below its budget.
+pub(crate) fn max_nmi_option<'a>(alloc: Global) -> Arg<'a> {
+    Arg::new(alloc, MAX_NMI)
+        .long("max-nmi")
+        .value_name("N")
+        .help("Ends with status 1 if the NMI routine takes more than N T-states")
+        .action(ArgAction::Set)
+}
+
+/// The option that names the symbol file of the old program.
+pub(crate) fn old_symbols_option<'a>(alloc: Global) -> Arg<'a> {
+    Arg::new(alloc, OLD_SYMBOLS)
+        .long("old-symbols")
+        .value_name("FILE")
+        .help("Reads names for the addresses of OLD from a symbol file")
+        .action(ArgAction::Set)
 }

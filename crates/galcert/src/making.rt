@@ -2,8 +2,8 @@
 
 use crate::devices::{Input, Out, clash_of, input, output, stderr, stdout};
 use crate::ending::{Used, end, report, report_clash};
-use crate::hints::{hint_annotations, hint_named, hint_rom};
 use crate::naming::{has_names, has_reports, names, optional, tell_refused};
+use crate::numbers::{Limits, limits, number_of};
 use crate::reporter::Reporter;
 use clap::ArgMatches;
 use command_parts::ExitStatus;
@@ -12,6 +12,7 @@ use command_words::{
 };
 use commands::check_on;
 use file_devices::{AfterOutput, Output, SharedOutput};
+use file_hints::{hint_annotations, hint_named, hint_rom};
 use inference_commands::{infer_on, suggest_on};
 use named_commands::{NamedCheck, check_named_on, suggest_named_on};
 use program_names::ProgramNames;
@@ -32,6 +33,7 @@ struct Asked<'r, 'm> {
     matches: &'r ArgMatches<'m>,
     /// The most trials of a search.
     trials: u32,
+    limits: Limits,
 }
 
 /// `galcert check`, with and without `--infer`. The result is the exit status.
@@ -41,7 +43,7 @@ pub fn check_files<'a>(rt: &'a HostRuntime, matches: &ArgMatches<'a>) -> u8 {
         report(rt, "ANNOT is missing; --infer finds annotations without it");
         return ExitStatus::Usage.code();
     }
-    let Some(trials) = trials_of(rt, matches) else {
+    let (Some(trials), Some(limits)) = (trials_of(rt, matches), limits(rt, matches)) else {
         return ExitStatus::Usage.code();
     };
     if let Some(clash) = clash_of(rt, matches, &INPUTS, Some(CERT_FILE)) {
@@ -56,6 +58,7 @@ pub fn check_files<'a>(rt: &'a HostRuntime, matches: &ArgMatches<'a>) -> u8 {
         rt,
         matches,
         trials,
+        limits,
     };
     let (status, out) = match judge_files(asked, &mut rom, &mut annot, &mut keep, out) {
         Ok(judged) => judged,
@@ -90,7 +93,12 @@ fn judge_files<K: Sink, W: Sink + Drop>(
     keep: &mut K,
     out: W,
 ) -> Result<(u8, W), u8> {
-    let Asked { rt, matches, .. } = asked;
+    let Asked {
+        rt,
+        matches,
+        limits,
+        ..
+    } = asked;
     let infers = matches.get_flag(INFER);
     let names = names(rt, matches, has_reports(matches))?;
     let mut out = Watched::new(out);
@@ -100,12 +108,14 @@ fn judge_files<K: Sink, W: Sink + Drop>(
     };
     tell_refused(rt, names.as_ref(), status, &out);
     if status == ExitStatus::Refused.code() {
-        hint_rom(rt, rom);
+        let notes = &mut stderr(rt);
+        hint_rom(rt, rt.alloc(), rom, notes);
         match &names {
-            Some(names) => hint_named(rt, annot, names, infers),
-            None => hint_annotations(rt, annot, infers),
+            Some(names) => hint_named(rt.alloc(), annot, names, infers, notes),
+            None => hint_annotations(rt.alloc(), annot, infers, notes),
         }
     }
+    let status = limits.judge(rt, status, &out);
     Ok((status, out.into_inner()))
 }
 
@@ -122,6 +132,7 @@ fn check_by_names<K: Sink, W: Sink>(
         rt,
         matches,
         trials,
+        ..
     } = asked;
     let how = NamedCheck {
         names,
@@ -145,6 +156,7 @@ fn check_plain<K: Sink, W: Sink>(
         rt,
         matches,
         trials,
+        ..
     } = asked;
     if !matches.get_flag(INFER) {
         return check_on(rt.alloc(), rom, annot, keep, out);
@@ -171,22 +183,8 @@ fn table_output<'a>(rt: &'a HostRuntime, matches: &ArgMatches) -> Out<'a> {
 }
 
 /// The number of trials that a command may take. If the word is out of form, it is reported.
-fn trials_of(rt: &HostRuntime, matches: &ArgMatches) -> Option<u32> {
-    let Some(text) = matches.get_str(TRIALS) else {
-        return Some(TRIALS_UNSAID);
-    };
-    match text.parse() {
-        Ok(trials) => Some(trials),
-        Err(_) => {
-            report(rt, "bad trials");
-            let text = text.escape_debug();
-            report(
-                rt,
-                format_args!("galcert: N is \"{text}\", and not a decimal of at most 4294967295"),
-            );
-            None
-        }
-    }
+pub fn trials_of(rt: &HostRuntime, matches: &ArgMatches) -> Option<u32> {
+    number_of(rt, matches, TRIALS, TRIALS_UNSAID)
 }
 
 /// `galcert suggest`. The result is the exit status.
@@ -231,10 +229,11 @@ pub fn suggest_files<'a>(rt: &'a HostRuntime, matches: &ArgMatches<'a>) -> u8 {
     };
     let status = finished(suggested, &mut out);
     if status == ExitStatus::Refused.code() {
-        hint_rom(rt, &rom);
+        let notes = &mut stderr(rt);
+        hint_rom(rt, rt.alloc(), &rom, notes);
         match &names {
-            Some(names) => hint_named(rt, &annot, names, true),
-            None => hint_annotations(rt, &annot, true),
+            Some(names) => hint_named(rt.alloc(), &annot, names, true, notes),
+            None => hint_annotations(rt.alloc(), &annot, true, notes),
         }
     }
     let name = match matches.get_str(OUTPUT) {

@@ -30,6 +30,11 @@ pub fn names<'m>(
     if !is_wanted {
         return Ok(None);
     }
+    Ok(Some(read(rt, matches)?))
+}
+
+/// The names for addresses; none where no file is named. The error is the exit status.
+pub fn read<'m>(rt: &'m HostRuntime, matches: &ArgMatches<'m>) -> Result<ProgramNames<'m>, u8> {
     let files = NameFiles {
         symbols: matches.get_str(SYMBOLS),
         listing: matches.get_str(LISTING),
@@ -38,7 +43,7 @@ pub fn names<'m>(
     let mut listing = optional(rt, files.listing);
     let mut notes = WriterSink::new(rt.stderr());
     match read_names(rt.alloc(), files, &mut symbols, &mut listing, &mut notes) {
-        Ok(names) => Ok(Some(names)),
+        Ok(names) => Ok(names),
         Err(status) => { Err(end(rt, status, &[Used::input(&symbols), Used::input(&listing)])) }
     }
 }

@@ -1,19 +1,23 @@
 // The commands that judge a certificate, play it or migrate it.
 
-use crate::devices::{Out, clash_of, input, stdout};
+use crate::devices::{Out, clash_of, input, stderr, stdout};
 use crate::ending::{Used, end, report, report_clash};
-use crate::hints::{hint_certificate, hint_rom};
 use crate::naming::{has_names, names, tell_refused};
+use crate::numbers::limits;
 use clap::ArgMatches;
 use command_parts::ExitStatus;
 use command_words::{LISTING, QUIET, SYMBOLS, word};
 use commands::{migrate_on, run_on, steps_of, verify_on};
 use file_devices::{Output, WriterSink};
+use file_hints::{hint_certificate, hint_rom};
 use std::io;
 use watched_sinks::Watched;
 
 /// `galcert verify`. The result is the exit status.
 pub fn verify_files<'a>(rt: &'a HostRuntime, matches: &ArgMatches<'a>) -> u8 {
+    let Some(limits) = limits(rt, matches) else {
+        return ExitStatus::Usage.code();
+    };
     if let Some(clash) = clash_of(rt, matches, &["ROM", "CERT", SYMBOLS, LISTING], None) {
         return report_clash(rt, &clash);
     }
@@ -27,9 +31,11 @@ pub fn verify_files<'a>(rt: &'a HostRuntime, matches: &ArgMatches<'a>) -> u8 {
     let status = verify_on(rt.alloc(), &mut rom, &mut cert, &mut out);
     tell_refused(rt, names.as_ref(), status, &out);
     if status == ExitStatus::Refused.code() {
-        hint_rom(rt, &rom);
-        hint_certificate(rt, &rom, &cert);
+        let notes = &mut stderr(rt);
+        hint_rom(rt, rt.alloc(), &rom, notes);
+        hint_certificate(rt.alloc(), &rom, &cert, notes);
     }
+    let status = limits.judge(rt, status, &out);
     let out = out.into_inner();
     end(
         rt,
@@ -83,8 +89,9 @@ pub fn run_files<'a>(rt: &'a HostRuntime, matches: &ArgMatches<'a>) -> u8 {
     );
     tell_refused(rt, names.as_ref(), status, &out);
     if status == ExitStatus::Refused.code() {
-        hint_rom(rt, &rom);
-        hint_certificate(rt, &rom, &cert);
+        let notes = &mut stderr(rt);
+        hint_rom(rt, rt.alloc(), &rom, notes);
+        hint_certificate(rt.alloc(), &rom, &cert, notes);
     }
     let out = out.into_inner();
     let used = [

@@ -14,8 +14,9 @@ use command_verdicts::{refused_line, write_bad_key};
 use explored_plans::{Family, Progress};
 use plan_search::{Inference, inferred};
 use runner::cert_checker::Accepted;
-use std::alloc::Global;
-use texts::{MadeLine, Sink, put};
+use std::alloc::{AllocError, Global};
+use symbols::Symbols;
+use texts::{Sink, put};
 
 /// Reads given annotations. If they are bad, the line that reports it is written to `out`.
 pub fn read_given<W: Sink>(alloc: Global, text: &[u8], out: &mut W) -> Result<Given, Stop>
@@ -39,12 +40,13 @@ pub fn read_given<W: Sink>(alloc: Global, text: &[u8], out: &mut W) -> Result<Gi
 }
 
 /// Finds annotations for a ROM beside those given. If the search has no answer, the line that reports it is written to
-/// `out`. A line on `notes` says what was found.
+/// `out`. A line on `notes` says what was found, with labels beside addresses.
 pub fn find<'r, 'g, W: Sink, N: Sink, P: Progress>(
     alloc: Global,
     rom: &'r [u8],
     given: &'g Given,
     trials: u32,
+    symbols: &Symbols,
     out: &mut W,
     notes: &mut N,
     progress: &mut P,
@@ -57,7 +59,7 @@ pub fn find<'r, 'g, W: Sink, N: Sink, P: Progress>(
 {
     match inferred(alloc, rom, given, trials, progress) {
         Ok(Some(found)) => {
-            let _noted = put(notes, found_line(&found).bytes());
+            tell_found(alloc, &found, symbols, notes);
             Ok(found)
         }
         Ok(None) => {
@@ -73,12 +75,13 @@ pub fn find<'r, 'g, W: Sink, N: Sink, P: Progress>(
 }
 
 /// Finds annotations for a ROM beside those of a text, and makes a certificate by them. If none is accepted, the line
-/// that reports it is written to `out`. A line on `notes` says what was found.
+/// that reports it is written to `out`. A line on `notes` says what was found, with labels of `symbols` beside addresses.
 pub fn infer<'r, W: Sink, N: Sink, P: Progress>(
     alloc: Global,
     rom: &'r [u8],
     text: &[u8],
     trials: u32,
+    symbols: &Symbols,
     out: &mut W,
     notes: &mut N,
     progress: &mut P,
@@ -95,7 +98,7 @@ pub fn infer<'r, W: Sink, N: Sink, P: Progress>(
         Ok(given) => given,
         Err(stop) => return Err(stop),
     };
-    let found = match find(alloc, rom, &given, trials, out, notes, progress) {
+    let found = match find(alloc, rom, &given, trials, symbols, out, notes, progress) {
         Ok(found) => found,
         Err(stop) => return Err(stop),
     };
@@ -163,30 +166,34 @@ fn add(count: &mut u32, more: usize) {
     *count = count.saturating_add(more.min(1_000_000) as u32);
 }
 
-/// The line that says what was found.
-fn found_line(found: &Inference) -> MadeLine {
+/// Tells what was found. What cannot be written, or made in memory, is left out.
+fn tell_found<N: Sink>(alloc: Global, found: &Inference, symbols: &Symbols, notes: &mut N) {
+    if let Ok(line) = found_line(alloc, found, symbols) {
+        let _told = put(notes, line.as_bytes());
+    }
+}
+
+/// The line that says what was found. The error is refused memory.
+fn found_line(alloc: Global, found: &Inference, symbols: &Symbols) -> Result<String, AllocError> {
     let counts = count_of(found);
-    let mut line = MadeLine::new();
-    line.add(b"inferred: ");
-    line.add_decimal(u128::from(counts.facts));
-    line.add(b" facts in ");
-    line.add_decimal(u128::from(counts.rows));
-    line.add(b" rows, ");
-    line.add_decimal(u128::from(counts.inlines));
-    line.add(b" inline calls, ");
-    line.add_decimal(u128::from(counts.splits));
-    line.add(b" splits, ");
-    line.add_decimal(u128::from(counts.loops));
-    line.add(b" loops, ");
-    line.add_decimal(u128::from(counts.cells));
-    line.add(b" cells, ");
-    line.add_decimal(u128::from(counts.contexts));
-    line.add(b" contexts, low ");
-    line.add_hex4(found.base.region.low);
-    line.add(b", top ");
-    line.add_hex4(found.base.region.top);
-    line.add(b", trials ");
-    line.add_decimal(u128::from(found.trials));
-    line.add(b"\n");
-    line
+    let (facts, rows) = (counts.facts, counts.rows);
+    let (inlines, splits, loops) = (counts.inlines, counts.splits, counts.loops);
+    let (cells, contexts, trials) = (counts.cells, counts.contexts, found.trials);
+    let low = place_text(alloc, symbols, found.base.region.low)?;
+    let top = place_text(alloc, symbols, found.base.region.top)?;
+    let mut line = format!(in alloc;
+        "inferred: {facts} facts in {rows} rows, {inlines} inline calls, {splits} splits, {loops} loops"
+    )?;
+    line.push_str(format!(in alloc;
+        ", {cells} cells, {contexts} contexts, low {low}, top {top}, trials {trials}\n"
+    )?.as_str())?;
+    Ok(line)
+}
+
+/// An address with its label, if it has one: `4400 stack`.
+fn place_text(alloc: Global, symbols: &Symbols, address: u16) -> Result<String, AllocError> {
+    match symbols.label_at(address) {
+        Some(label) => format!(in alloc; "{address:04X} {label}"),
+        None => format!(in alloc; "{address:04X}"),
+    }
 }

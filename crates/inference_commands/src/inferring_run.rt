@@ -9,6 +9,7 @@ use crate::finding::infer;
 use command_parts::{ExitStatus, Stop, keep_and_tell, read_all, read_rom};
 use explored_plans::Progress;
 use std::alloc::Global;
+use symbols::Symbols;
 use texts::{DeviceFault, Sink, Source};
 
 /// `galcert check ROM [ANNOT] --infer [--cert FILE]`: finds annotations beside those in ANNOT, makes a certificate,
@@ -58,11 +59,13 @@ pub fn infer_on<A: Source, B: Source, K: Sink, W: Sink, N: Sink, P: Progress>(
         Ok(text) => text,
         Err(stop) => return stop.status(),
     };
+    let symbols = Symbols::new(alloc);
     let accepted = match infer(
         alloc,
         bytes.as_slice(),
         text.as_slice(),
         trials,
+        &symbols,
         out,
         notes,
         progress,

@@ -100,27 +100,21 @@ impl View<'_> {
         }
         let mut address = gap.address;
         for bytes in gap.bytes.chunks(LINE) {
-            self.write_dump(address, bytes, out)?;
+            write_line(self.dump_line(address, bytes)?.as_str(), out)?;
             address = address.saturating_add(bytes.len() as u16);
         }
         Ok(())
     }
 
-    /// Writes at most 16 bytes in hexadecimal and as characters.
-    fn write_dump<W: Sink>(
-        &self,
-        address: u16,
-        bytes: &[u8],
-        out: &mut W,
-    ) -> Result<(), ListFault> {
+    /// At most 16 bytes in hexadecimal and as characters.
+    pub fn dump_line(&self, address: u16, bytes: &[u8]) -> Result<String, AllocError> {
         let alloc = self.alloc;
         let mut characters = String::new(alloc);
         for byte in bytes {
             characters.push(shown(*byte))?;
         }
         let digits = self.hex_bytes(bytes)?;
-        let line = format!(in alloc; "{address:04X}  {digits:<47}  {characters}")?;
-        write_line(line.as_str(), out)
+        format!(in alloc; "{address:04X}  {digits:<47}  {characters}")
     }
 
     /// Bytes in hexadecimal, with a blank between two.

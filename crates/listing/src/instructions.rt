@@ -49,7 +49,7 @@ impl View<'_> {
 
     /// The text of an instruction with its label: in the place of the number, or after a semicolon. It is left out where
     /// there is no room for it.
-    fn labelled(&self, instr: &Instr, after: u16) -> Result<String, AllocError> {
+    pub fn labelled(&self, instr: &Instr, after: u16) -> Result<String, AllocError> {
         let alloc = self.alloc;
         let text = spelled(instr, after);
         let plain = format!(in alloc; "{text}")?;
@@ -73,7 +73,7 @@ impl View<'_> {
 
     /// The label of the number in an instruction. A symbol file does not distinguish constants from addresses, so the
     /// word of LD dd,nn has one only if it is an address of RAM or of a byte of data, and dd is not BC then.
-    fn label_of(&self, instr: &Instr, text: &InstrText) -> Option<&str> {
+    pub fn label_of(&self, instr: &Instr, text: &InstrText) -> Option<&str> {
         let reference = text.reference()?;
         let address = reference.address();
         if let Reference::Constant(word) = reference {

@@ -15,5 +15,6 @@ mod writing;
 pub use fault::ListFault;
 pub use gaps::Gap;
 pub use instructions::ListedInstr;
+pub use procedures::{kind_word, pair_name};
 pub use view::View;
-pub use writing::write_listing;
+pub use writing::{Listing, procs_of, write_listing};

@@ -10,8 +10,8 @@ use survey::{KeptPairs, PAIRS};
 /// The most procedures that a line names.
 const NAMED: usize = 8;
 
-/// The word for a kind of procedure.
-fn kind_word(kind: ProcKind) -> &'static str {
+/// The word for a kind of procedure: `main`, `nmi` or `sub`.
+pub fn kind_word(kind: ProcKind) -> &'static str {
     match kind {
         ProcKind::Main => "main",
         ProcKind::Nmi => "nmi",
@@ -92,7 +92,8 @@ impl View<'_> {
     }
 }
 
-fn pair_name(pair: RegPair) -> &'static str {
+/// The name of a pair.
+pub fn pair_name(pair: RegPair) -> &'static str {
     match pair {
         RegPair::Af => "AF",
         RegPair::Bc => "BC",

@@ -28,4 +28,19 @@ impl<'a> View<'a> {
             survey: Survey::of(alloc, accepted)?,
         })
     }
+
+    /// The accepted program.
+    pub fn accepted(&self) -> &'a Accepted<'a> {
+        self.accepted
+    }
+
+    /// The names of its addresses.
+    pub fn symbols(&self) -> &'a Symbols {
+        self.symbols
+    }
+
+    /// Its survey.
+    pub fn survey(&self) -> &Survey {
+        &self.survey
+    }
 }

@@ -5,7 +5,7 @@ use crate::fault::ListFault;
 use crate::view::View;
 use call_graph::ProcId;
 use cert_checker::Accepted;
-use std::alloc::Global;
+use std::alloc::{AllocError, Global};
 use survey::RowAt;
 use symbols::{Symbols, is_shown};
 use texts::Sink;
@@ -20,6 +20,78 @@ const HEADINGS: Columns<'static> = Columns {
     stack: "stack",
 };
 
+/// What begins at an address.
+#[derive(Drop)]
+enum Begun {
+    /// An instruction of these procedures.
+    Instr(Vec<ProcId>),
+    /// A gap, up to below this address.
+    Gap(u16),
+    Nothing,
+}
+
+/// A listing that is written address by address (docs/LISTING.md).
+#[derive(Drop)]
+pub struct Listing<'a> {
+    view: View<'a>,
+    /// The procedures of the instruction above.
+    listed: Vec<ProcId>,
+    /// The address after the last gap.
+    next: u16,
+}
+
+impl<'a> Listing<'a> {
+    /// The listing of a view, before its first line.
+    pub fn of(view: View<'a>) -> Listing<'a> {
+        Listing {
+            listed: Vec::new(view.alloc),
+            next: 0,
+            view,
+        }
+    }
+
+    /// What it shows.
+    pub fn view(&self) -> &View<'a> {
+        &self.view
+    }
+
+    /// Writes the names of the columns.
+    pub fn write_headings<W: Sink>(&self, out: &mut W) -> Result<(), ListFault> {
+        let alloc = self.view.alloc;
+        let mut heading = Vec::new(alloc);
+        heading.push(String::from_str(alloc, "known")?)?;
+        write_columns(alloc, &HEADINGS, &heading, out)
+    }
+
+    /// Writes the lines of an address, if an instruction with a row or a gap begins there. The addresses have to come
+    /// one after another.
+    pub fn write_at<W: Sink>(&mut self, address: u16, out: &mut W) -> Result<(), ListFault> {
+        match self.write_lines(address, out)? {
+            Begun::Instr(procs) => self.listed = procs,
+            Begun::Gap(next) => self.next = next,
+            Begun::Nothing => {}
+        }
+        Ok(())
+    }
+
+    /// Writes the lines of an address.
+    fn write_lines<W: Sink>(&self, address: u16, out: &mut W) -> Result<Begun, ListFault> {
+        let rows = self.view.survey.rows().at(address);
+        if !rows.is_empty() {
+            let procs = procs_of(self.view.alloc, rows)?;
+            self.view.write_procs(address, &procs, &self.listed, out)?;
+            self.view.write_instr(address, rows, out)?;
+            return Ok(Begun::Instr(procs));
+        }
+        if address >= self.next && !self.view.survey.is_code(address) {
+            let gap = self.view.gap_at(address);
+            self.view.write_gap(&gap, out)?;
+            return Ok(Begun::Gap(gap.behind()));
+        }
+        Ok(Begun::Nothing)
+    }
+}
+
 /// Writes the listing of an accepted program (docs/LISTING.md), line by line. The names of its addresses come from
 /// `symbols`.
 ///
@@ -32,30 +104,16 @@ pub fn write_listing<W: Sink>(
     symbols: &Symbols,
     out: &mut W,
 ) -> Result<(), ListFault> {
-    let view = View::of(alloc, accepted, symbols)?;
-    let mut heading = Vec::new(alloc);
-    heading.push(String::from_str(alloc, "known")?)?;
-    write_columns(alloc, &HEADINGS, &heading, out)?;
-    let mut listed = Vec::new(alloc);
-    let mut next = 0u16;
+    let mut listing = Listing::of(View::of(alloc, accepted, symbols)?);
+    listing.write_headings(out)?;
     for address in 0..accepted.rom().len() {
-        let rows = view.survey.rows().at(address);
-        if !rows.is_empty() {
-            let procs = procs_of(alloc, rows)?;
-            view.write_procs(address, &procs, &listed, out)?;
-            view.write_instr(address, rows, out)?;
-            listed = procs;
-        } else if address >= next && !view.survey.is_code(address) {
-            let gap = view.gap_at(address);
-            view.write_gap(&gap, out)?;
-            next = gap.behind();
-        }
+        listing.write_at(address, out)?;
     }
     Ok(())
 }
 
 /// The procedures of rows, each once and rising.
-fn procs_of(alloc: Global, rows: &[RowAt]) -> Result<Vec<ProcId>, ListFault> {
+pub fn procs_of(alloc: Global, rows: &[RowAt]) -> Result<Vec<ProcId>, AllocError> {
     let mut procs = Vec::new(alloc);
     for row in rows {
         if procs.last() != Some(&row.proc) {

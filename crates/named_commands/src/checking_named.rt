@@ -156,7 +156,7 @@ fn check_said<K: Sink, W: Sink, N: Sink, P: Progress>(
         ⊎ (out.new ≡ out.old) }
 {
     warn_of_misplaced(alloc, &how.names.names, rom, said, notes);
-    let accepted = match certified(alloc, rom, said, how.trials, out, notes, progress) {
+    let accepted = match certified(alloc, rom, said, how, out, notes, progress) {
         Ok(accepted) => accepted,
         Err(stop) => {
             warn_of_stop(alloc, how, rom, said, stop, notes);
@@ -342,7 +342,7 @@ fn certified<'r, W: Sink, N: Sink, P: Progress>(
     alloc: Global,
     rom: &'r [u8],
     said: &[u8],
-    trials: Option<u32>,
+    how: NamedCheck<'_>,
     out: &mut W,
     notes: &mut N,
     progress: &mut P,
@@ -355,8 +355,9 @@ fn certified<'r, W: Sink, N: Sink, P: Progress>(
     ensures told { result ≢ Err Stop.Device → CountsNoFailure (W.state out.old) (W.state out.new) }
     ensures memory { result ≡ Err Stop.OutOfMemory → out.new ≡ out.old }
 {
-    if let Some(trials) = trials {
-        return infer(alloc, rom, said, trials, out, notes, progress);
+    if let Some(trials) = how.trials {
+        let symbols = &how.names.names.symbols;
+        return infer(alloc, rom, said, trials, symbols, out, notes, progress);
     }
     let annotations = match read_annotations(alloc, &mut BytesSource::of(said), out) {
         Ok(annotations) => annotations,

@@ -448,6 +448,7 @@ fn read_back(alloc: Global, files: Files<'static>, annotations: &str) -> Left {
 fn inferred(rt: HostRuntime) -> Result<(), Fail> {
     let files = Files {
         trials: Some(50),
+        symbols: "fill equ $0008\nstack equ $4400\nvideo equ $5000\n",
         listing: FILL_LISTING,
         annotations: "low = \"video - $C80\"\n",
         ..FILL
@@ -455,6 +456,8 @@ fn inferred(rt: HostRuntime) -> Result<(), Fail> {
     let left = check_named(rt.alloc(), files);
     assert!(rt; left.status == 0);
     assert!(rt; left.out.as_slice() == FILL_TABLE.as_bytes());
-    assert!(rt; left.notes.as_slice().starts_with(b"inferred: "));
+    let told = str::from_utf8(left.notes.as_slice()).unwrap_or("");
+    assert!(rt; told.starts_with("inferred: "));
+    assert!(rt; told.contains(", low 4380, top 4400 stack, trials "));
     Ok(())
 }

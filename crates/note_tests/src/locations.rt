@@ -69,6 +69,17 @@ const NESTED: &[u8] = b"\
     # End of file n.asm\n\
     0003\n";
 
+/// Blank lines of the source, by the same assembler.
+const BLANK: &[u8] = b"\
+    # File b.asm\n\
+    0000\t\t\t \n\
+    0000 31 00 44\t\t        ld sp,stack \n\
+    0003\t\t\t\r\n\
+    0003\t\t\t\n\
+    0003 c9\t\t\t        ret \n\
+    # End of file b.asm\n\
+    0004\n";
+
 /// `sjasmplus --lst`, with an included file.
 const SJASMPLUS: &[u8] = b"\
     # file opened: s.asm\n\
@@ -100,6 +111,7 @@ const LOCATED: &[(&[u8], &str)] = &[
         0023 src/a.asm:18\n0025 src/a.asm:18\n0122 src/a.asm:18\n0123 -\n4000 -\n",
     ),
     (NESTED, "0000 n.asm:8\n0001 n.asm:8\n0002 n.asm:9\n"),
+    (BLANK, "0000 b.asm:2\n0002 b.asm:2\n0003 b.asm:5\n"),
     (
         SJASMPLUS,
         "0000 s.asm:2\n0002 s.asm:2\n0003 b.asm:1\n0007 b.asm:1\n0094 b.asm:2\n0096 s.asm:4\n",

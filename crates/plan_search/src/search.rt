@@ -2,7 +2,7 @@
 
 ghost use Rattle.std.specs.Prelude.{◌≡◌, IfOk, IfSome};
 
-use crate::judged::{Judged, judge};
+use crate::judged::{Judged, judge, judge_with};
 use analysis::FlowFault;
 use cert_writer::WriterFault;
 use explored_plans::{ExploredPlan, Plan, Progress, Search};
@@ -34,6 +34,17 @@ pub(crate) fn clear<P: Progress>(search: &mut Search<P>) -> Result<(), FlowFault
 /// The first move that helps: what is cheap first, then cells, then what costs trials. Rows that lead nowhere come
 /// before others, since more code is reached from them.
 fn helping<P: Progress>(search: &mut Search<P>) -> Result<Option<ExploredPlan>, FlowFault> {
+    search.repeats = false;
+    let found = first_helping(search)?;
+    if found.is_some() || !search.has_trials() {
+        return Ok(found);
+    }
+    search.repeats = true;
+    first_helping(search)
+}
+
+/// The first new move that helps; None if none does.
+fn first_helping<P: Progress>(search: &mut Search<P>) -> Result<Option<ExploredPlan>, FlowFault> {
     let refused = in_order(search)?;
     for address in refused.as_slice() {
         let found = cheap(search, *address)?;
@@ -66,6 +77,35 @@ fn in_order<P: Progress>(search: &Search<P>) -> Result<Vec<u16>, FlowFault> {
         }
     }
     Ok(order)
+}
+
+/// The first move that takes the refusals of one address away; None if no move does. The search stays as it was.
+///
+/// # Errors
+///
+/// `NoMemory` where memory was refused.
+pub fn helping_at<P: Progress>(
+    search: &mut Search<P>,
+    refused: u16,
+) -> Result<Option<ExploredPlan>, FlowFault> {
+    search.repeats = false;
+    let found = first_at(search, refused)?;
+    if found.is_some() || !search.has_trials() {
+        return Ok(found);
+    }
+    search.repeats = true;
+    first_at(search, refused)
+}
+
+fn first_at<P: Progress>(
+    search: &mut Search<P>,
+    refused: u16,
+) -> Result<Option<ExploredPlan>, FlowFault> {
+    let found = cheap(search, refused)?;
+    if found.is_some() || !search.has_trials() {
+        return Ok(found);
+    }
+    dear(search, refused)
 }
 
 fn cheap<P: Progress>(
@@ -121,10 +161,7 @@ fn bound<'r, P: Progress>(search: &mut Search<P>, bytes: &'r [u8]) -> Result<Jud
             _ => return Ok(judged),
         };
         match first_better(search, bytes, &judged, plans)? {
-            Some((explored, better)) => {
-                search.keep(explored)?;
-                judged = better;
-            }
+            Some(better) => judged = better,
             None => return Ok(judged),
         }
     }
@@ -146,23 +183,71 @@ pub(crate) fn bound_and_lessen<'r, P: Progress>(
     }
 }
 
-/// The first of these plans whose answer is better.
+/// What the writer answers to the first of these plans whose answer is better. The search goes on with that plan.
 fn first_better<'r, P: Progress>(
     search: &mut Search<P>,
     bytes: &'r [u8],
     judged: &Judged<'r>,
     plans: Vec<Plan>,
-) -> Result<Option<(ExploredPlan, Judged<'r>)>, FlowFault>
-    ensures { IfOk result (λ found. IfSome found (λ both. both.1 ≡ bytes.now)) }
+) -> Result<Option<Judged<'r>>, FlowFault>
+    ensures { IfOk result (λ found. IfSome found (λ better. better ≡ bytes.now)) }
 {
     for plan in plans {
-        if let Some(explored) = search.try_plan(plan)? {
-            let other = judge(search.alloc, search.context, bytes, &explored)?;
-            if other.is_better_than(judged) {
-                return Ok(Some((explored, other)));
-            }
+        let better = if search.explored.plan.adds_loops(&plan) {
+            with_loops(search, bytes, judged, plan)?
+        } else {
+            with_other(search, bytes, judged, plan)?
+        };
+        if better.is_some() {
+            return Ok(better);
         }
     }
+    Ok(None)
+}
+
+/// What the writer answers to a plan, if that is better.
+fn with_other<'r, P: Progress>(
+    search: &mut Search<P>,
+    bytes: &'r [u8],
+    judged: &Judged<'r>,
+    plan: Plan,
+) -> Result<Option<Judged<'r>>, FlowFault>
+    ensures { IfOk result (λ found. IfSome found (λ better. better ≡ bytes.now)) }
+{
+    let Some(explored) = search.try_plan(plan)? else {
+        return Ok(None);
+    };
+    let other = judge(search.alloc, search.context, bytes, &explored)?;
+    if !other.is_better_than(judged) {
+        return Ok(None);
+    }
+    search.keep(explored)?;
+    Ok(Some(other))
+}
+
+/// The same for a plan with bounds of more loops. Its rows are the same, and need the facts that they needed before.
+fn with_loops<'r, P: Progress>(
+    search: &mut Search<P>,
+    bytes: &'r [u8],
+    judged: &Judged<'r>,
+    plan: Plan,
+) -> Result<Option<Judged<'r>>, FlowFault>
+    ensures { IfOk result (λ found. IfSome found (λ better. better ≡ bytes.now)) }
+{
+    let Some(before) = search.try_bounds(plan)? else {
+        return Ok(None);
+    };
+    let other = judge_with(
+        search.alloc,
+        search.context,
+        bytes,
+        &search.explored,
+        judged.guide(),
+    )?;
+    if other.is_better_than(judged) {
+        return Ok(Some(other));
+    }
+    search.set_bounds(before)?;
     Ok(None)
 }
 
@@ -178,15 +263,62 @@ fn lessen<'r, P: Progress>(
 {
     let mut judged = judged;
     for place in (0..search.explored.plan.findings.len()).rev() {
-        let plan = search.explored.plan.without(search.alloc, place)?;
-        let Some(explored) = ExploredPlan::of(search.alloc, search.context, plan)? else {
-            continue;
+        let found = if search.explored.plan.is_loop(place) {
+            without_loop(search, bytes, &judged, place)?
+        } else {
+            without_family(search, bytes, place)?
         };
-        let other = judge(search.alloc, search.context, bytes, &explored)?;
-        if other.answer().is_ok() {
-            search.keep(explored)?;
+        if let Some(other) = found {
             judged = other;
         }
     }
     Ok(judged)
+}
+
+/// What the writer answers without the family at a place, if it accepts. The search then goes on without it.
+fn without_family<'r, P: Progress>(
+    search: &mut Search<P>,
+    bytes: &'r [u8],
+    place: usize,
+) -> Result<Option<Judged<'r>>, FlowFault>
+    ensures { IfOk result (λ found. IfSome found (λ other. other ≡ bytes.now)) }
+{
+    let explored = search
+        .explored
+        .without(search.alloc, search.context, place)?;
+    let Some(explored) = explored else {
+        return Ok(None);
+    };
+    if search.explored.is_worse(&explored) {
+        return Ok(None);
+    }
+    let other = judge(search.alloc, search.context, bytes, &explored)?;
+    if other.answer().is_err() {
+        return Ok(None);
+    }
+    search.keep(explored)?;
+    Ok(Some(other))
+}
+
+/// The same for the bound of a loop. The rows are the same without it.
+fn without_loop<'r, P: Progress>(
+    search: &mut Search<P>,
+    bytes: &'r [u8],
+    judged: &Judged<'r>,
+    place: usize,
+) -> Result<Option<Judged<'r>>, FlowFault>
+    ensures { IfOk result (λ found. IfSome found (λ other. other ≡ bytes.now)) }
+{
+    let plan = search.explored.plan.without(search.alloc, place)?;
+    let before = search
+        .explored
+        .exchange_bounds(search.alloc, search.context, plan)?;
+    if judged.is_accepted_with(search.alloc, &search.explored.said)? {
+        let other = judge(search.alloc, search.context, bytes, &search.explored)?;
+        if other.answer().is_ok() {
+            return Ok(Some(other));
+        }
+    }
+    search.set_bounds(before)?;
+    Ok(None)
 }

@@ -4,7 +4,7 @@ use crate::telling::{tell_lines, tell_note, tell_symbols};
 use command_parts::{ExitStatus, Stop};
 use source_lines::{AddressNames, ListingFault, Locations, SourceLines};
 use source_notes::{NoteFault, SourceNotes};
-use std::alloc::{AllocError, Global};
+use std::alloc::Global;
 use symbols::{SymbolFault, Symbols};
 use texts::{Sink, Source};
 
@@ -114,10 +114,7 @@ fn with_listing<'a>(
     name: &str,
     text: &[u8],
 ) -> Result<ProgramNames<'a>, ListingFault> {
-    let Ok(text) = with_blank_lines(alloc, text) else {
-        return Err(ListingFault::NoMemory);
-    };
-    let lines = SourceLines::read(alloc, text.as_slice())?;
+    let lines = SourceLines::read(alloc, text)?;
     let symbols = match found {
         Some(symbols) => symbols,
         None => lines.labels(alloc)?,
@@ -132,34 +129,6 @@ fn with_listing<'a>(
         names: AddressNames { symbols, locations },
         notes: Some(notes),
     })
-}
-
-/// A listing of z80asm in which each blank line of the source is a comment. Such a line shows an address and tabs
-/// alone, and would not be counted as a line of the source.
-fn with_blank_lines(alloc: Global, text: &[u8]) -> Result<Vec<u8>, AllocError> {
-    let mut made = Vec::new(alloc);
-    for (number, line) in text.split(|byte| *byte == b'\n').enumerate() {
-        if number > 0 {
-            made.push(b'\n')?;
-        }
-        match line.split_last() {
-            Some((_, rest)) if is_blank(line) => {
-                made.extend_from_slice(rest)?;
-                made.push(b';')?;
-            }
-            _ => made.extend_from_slice(line)?,
-        }
-    }
-    Ok(made)
-}
-
-/// Whether a line is four hexadecimal digits, and then two tabs and more blanks.
-fn is_blank(line: &[u8]) -> bool {
-    let digits = line.get(..4).unwrap_or(b"");
-    let rest = line.get(4..).unwrap_or(b"");
-    digits.iter().all(|digit| digit.is_ascii_hexdigit())
-        && rest.starts_with(b"\t\t")
-        && rest.trim_ascii().is_empty()
 }
 
 /// Reads a file up to its 4,194,305th byte.

@@ -55,6 +55,20 @@ impl fmt::Display for TermText {
     }
 }
 
+/// The name of a variable.
+pub fn variable_text(alloc: Global, variable: Variable) -> Result<String, AllocError> {
+    let name = VariableText(variable);
+    format!(in alloc; "{name}")
+}
+
+/// The text of a linear: `44 + 13*B - 2*C`.
+pub fn linear_text(alloc: Global, linear: &Linear) -> Result<String, AllocError> {
+    let constant = linear.constant();
+    let mut sum = format!(in alloc; "{constant}")?;
+    add_terms(alloc, &mut sum, linear.terms(), false, None)?;
+    Ok(sum)
+}
+
 /// Whether the variable is a word.
 fn is_word(variable: Variable) -> bool {
     match variable {

@@ -78,7 +78,7 @@ fn counted_lines(alloc: Global, listing: &[u8]) -> Result<Vec<Counted<'_>>, Allo
     let mut open = Vec::new(alloc);
     let mut counted = Vec::new(alloc);
     for line in listing.rsplit(|byte| *byte == b'\n') {
-        counted.push(counted_line(&mut open, line.trim_ascii_end())?)?;
+        counted.push(counted_line(&mut open, line)?)?;
     }
     counted.reverse();
     Ok(counted)
@@ -86,18 +86,20 @@ fn counted_lines(alloc: Global, listing: &[u8]) -> Result<Vec<Counted<'_>>, Allo
 
 /// What a line of z80asm's listing is. `open` has what ends at the lines after it and has not begun there.
 fn counted_line<'a>(open: &mut Vec<Ended<'a>>, line: &'a [u8]) -> Result<Counted<'a>, AllocError> {
-    if let Some(name) = line.strip_prefix(b"# End of macro ") {
+    let mark = line.trim_ascii_end();
+    if let Some(name) = mark.strip_prefix(b"# End of macro ") {
         open.push(Ended::Macro(name))?;
         return Ok(Counted::Nothing);
     }
-    if let Some(name) = line.strip_prefix(b"# End of file ") {
+    if let Some(name) = mark.strip_prefix(b"# End of file ") {
         open.push(Ended::File(name))?;
         return Ok(Counted::Ends);
     }
-    if let Some(name) = line.strip_prefix(b"# File ") {
+    if let Some(name) = mark.strip_prefix(b"# File ") {
         open.pop();
         return Ok(Counted::Begins(str::from_utf8(name).unwrap_or("")));
     }
+    // A blank line of the source shows an address and tabs alone.
     let Some(shown) = Layout::Z80asm.shown(line) else {
         return Ok(Counted::Nothing);
     };

@@ -10,4 +10,4 @@ mod lines;
 mod sums;
 mod writing;
 
-pub use writing::{Suggested, suggestion};
+pub use writing::{Suggested, lines_of_notes, suggestion};

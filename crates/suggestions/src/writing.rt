@@ -90,6 +90,27 @@ pub fn suggestion<'s>(
     Ok(text)
 }
 
+/// The lines of notes by rising address, without comments and without the keys about the whole ROM. Names of `symbols`
+/// stand for addresses that have a label.
+///
+/// # Errors
+///
+/// `NoMemory` where memory was refused.
+pub fn lines_of_notes(
+    alloc: Global,
+    symbols: &Symbols,
+    notes: &Annotations,
+) -> Result<String, FlowFault> {
+    let lines = Lines { alloc, symbols };
+    let mut text = String::new(alloc);
+    let mut entries = entries_of(alloc, notes)?;
+    entries.sort_by_key(|entry| entry.at())?;
+    for entry in entries.as_slice() {
+        text.push_str(lines.entry(entry)?.as_str())?;
+    }
+    Ok(text)
+}
+
 /// The first line: which call accepts the file, and whether it needs the symbols.
 fn head(alloc: Global, suggested: &Suggested, symbols: &Symbols) -> Result<String, AllocError> {
     let with = if symbols.names().is_empty() {

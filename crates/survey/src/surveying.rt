@@ -22,6 +22,8 @@ pub struct Survey {
     /// For each procedure, what all its exits keep; None before the first exit.
     kept: Vec<Option<KeptPairs>>,
     heads: Starts,
+    /// The targets of jumps from a higher address.
+    turned_to: Starts,
     code: Starts,
     read: Starts,
 }
@@ -35,6 +37,7 @@ impl Survey {
             calls: CallPlaces::new(alloc),
             kept: Vec::new(alloc),
             heads: Starts::new(),
+            turned_to: Starts::new(),
             code: Starts::new(),
             read: Starts::new(),
         };
@@ -89,6 +92,9 @@ impl Survey {
             NextKind::Jump => {
                 if next.address != subject.behind && next.address != subject.row.address {
                     mark(&mut self.heads, next.address);
+                    if subject.row.address > next.address {
+                        mark(&mut self.turned_to, next.address);
+                    }
                 }
                 Ok(())
             }
@@ -148,6 +154,11 @@ impl Survey {
     /// elsewhere, the place after a call, or one into which no instruction falls.
     pub fn is_head(&self, address: u16) -> bool {
         self.heads.contains(address)
+    }
+
+    /// Whether a jump from a higher address leads to an instruction.
+    pub fn is_turned_to(&self, address: u16) -> bool {
+        self.turned_to.contains(address)
     }
 
     /// Whether a byte of the ROM lies in an instruction with a row.

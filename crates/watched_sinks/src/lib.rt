@@ -1,4 +1,4 @@
-// A sink that remembers the first bytes that it passes on (docs/PROGRAM.md, "Names for addresses").
+// Sinks that remember of what they pass on (docs/PROGRAM.md, "Names for addresses").
 #![tactic(auto)]
 
 mod watched;

@@ -1,9 +1,12 @@
-// A sink that remembers how what was written begins.
+// A sink that remembers how what was written begins and ends.
 
 use texts::{DeviceFault, Sink};
 
 /// How many of the first bytes are remembered. The line of every refusal but a long recursion has room.
 const FIRST: usize = 256;
+
+/// How many of the last bytes are remembered. The last two lines of a table have room.
+const LAST: usize = 64;
 
 /// The first bytes of a text, 256 at most.
 #[derive(Drop)]
@@ -25,11 +28,39 @@ impl Beginning {
     }
 }
 
-/// A sink that passes all to another one. It remembers the first 256 bytes that it took.
+/// The last bytes of a text, 64 at most.
+#[derive(Drop)]
+struct Ending {
+    bytes: [u8; LAST],
+    count: usize,
+}
+
+impl Ending {
+    /// Adds bytes; the first ones are forgotten.
+    fn add(&mut self, more: &[u8]) {
+        let skipped = more.len().saturating_sub(LAST);
+        for byte in more.iter().skip(skipped) {
+            self.bytes.rotate_left(1);
+            if let Some(place) = self.bytes.last_mut() {
+                *place = *byte;
+            }
+            self.count = self.count.saturating_add(1).min(LAST);
+        }
+    }
+
+    fn text(&self) -> &str {
+        let start = LAST.saturating_sub(self.count);
+        let bytes = self.bytes.get(start..).unwrap_or(b"");
+        str::from_utf8(bytes).unwrap_or("")
+    }
+}
+
+/// A sink that passes all to another one. It remembers the first 256 bytes that it took, and the last 64.
 #[derive(Drop)]
 pub struct Watched<W: Sink> {
     inner: W,
     first: Beginning,
+    last: Ending,
 }
 
 impl<W: Sink> Watched<W> {
@@ -38,6 +69,10 @@ impl<W: Sink> Watched<W> {
             inner,
             first: Beginning {
                 bytes: [0; FIRST],
+                count: 0,
+            },
+            last: Ending {
+                bytes: [0; LAST],
                 count: 0,
             },
         }
@@ -56,6 +91,30 @@ impl<W: Sink> Watched<W> {
             None => taken,
         }
     }
+
+    /// The bytes of stack that a program uses, if its table was written last (docs/PROGRAM.md, "Accepted").
+    pub fn stack(&self) -> Option<u32> {
+        self.total("stack")
+    }
+
+    /// The T-states of a program's NMI routine, if its table was written last; None if it has none.
+    pub fn nmi(&self) -> Option<u32> {
+        self.total("nmi")
+    }
+
+    /// The number after a word, in a line of the form `stack 6 of 6`.
+    fn total(&self, word: &str) -> Option<u32> {
+        for line in self.last.text().split('\n') {
+            let mut words = line.split(' ');
+            if words.next() == Some(word) {
+                let total = words.next()?.parse().ok();
+                if words.next() == Some("of") {
+                    return total;
+                }
+            }
+        }
+        None
+    }
 }
 
 impl<W: Sink> Sink for Watched<W> {
@@ -65,6 +124,7 @@ impl<W: Sink> Sink for Watched<W> {
         let taken = self.inner.write(bytes);
         if let Ok(count) = taken {
             self.first.add(&bytes[..count]);
+            self.last.add(&bytes[..count]);
         }
         taken
     }

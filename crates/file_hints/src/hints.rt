@@ -1,59 +1,74 @@
-// Hints on standard error about files that are not what a command takes (docs/PROGRAM.md, "Hints").
+// Hints about files that are not what a command takes (docs/PROGRAM.md, "Hints").
 
-use crate::devices::Input;
-use crate::ending::report;
 use annotation_faults::place_of_fault;
-use file_devices::{Likeness, certified_len};
+use file_devices::{FileSource, Likeness, certified_len};
 use named_reports::numbered;
-use program_names::ProgramNames;
+use program_names::{ProgramNames, tell_note};
+use std::alloc::Global;
 use std::fs;
+use std::rt::Files;
+use texts::Sink;
 
 /// The most bytes of a ROM.
 const MOST_ROM: u64 = 16_384;
 
 /// Says what a ROM looks like, if it is none.
-pub fn hint_rom(rt: &HostRuntime, rom: &Input) {
+pub fn hint_rom<R: Files, N: Sink>(
+    files: &R,
+    alloc: Global,
+    rom: &FileSource<'_, R>,
+    notes: &mut N,
+) {
     let name = rom.path().escape_debug();
     if let Some(likeness) = Likeness::of(rom.head()) {
         let words = likeness.words();
-        report(
-            rt,
+        tell_note(
+            alloc,
+            notes,
             format_args!(
                 "galcert: {name} looks like {words}; ROM is a file of the bytes themselves"
             ),
         );
     }
     if rom.len() == 0 && rom.failure().is_none() {
-        report(
-            rt,
+        tell_note(
+            alloc,
+            notes,
             format_args!("galcert: {name} has no bytes; a ROM has 1 to 16,384"),
         );
     } else if rom.len() > MOST_ROM {
-        let len = len_of(rt, rom).max(rom.len());
-        report(
-            rt,
+        let len = len_of(files, rom).max(rom.len());
+        tell_note(
+            alloc,
+            notes,
             format_args!("galcert: {name} has {len} bytes; a ROM has 1 to 16,384"),
         );
     }
 }
 
 /// How many bytes a regular file has, of which not all were read; 0 for another one.
-fn len_of(rt: &HostRuntime, file: &Input) -> u64 {
-    match fs::metadata(rt, file.path()) {
+fn len_of<R: Files>(files: &R, file: &FileSource<'_, R>) -> u64 {
+    match fs::metadata(files, file.path()) {
         Ok(found) if found.is_file() => found.len(),
         _ => 0,
     }
 }
 
 /// Says what a certificate looks like, if it is none, or that it is for a ROM of another length.
-pub fn hint_certificate(rt: &HostRuntime, rom: &Input, cert: &Input) {
+pub fn hint_certificate<R: Files, N: Sink>(
+    alloc: Global,
+    rom: &FileSource<'_, R>,
+    cert: &FileSource<'_, R>,
+    notes: &mut N,
+) {
     let name = cert.path().escape_debug();
     match Likeness::of(cert.head()) {
         Some(Likeness::Certificate) => {}
         Some(likeness) => {
             let words = likeness.words();
-            report(
-                rt,
+            tell_note(
+                alloc,
+                notes,
                 format_args!("galcert: {name} looks like {words}; CERT is a certificate"),
             );
         }
@@ -62,8 +77,9 @@ pub fn hint_certificate(rt: &HostRuntime, rom: &Input, cert: &Input) {
     if let Some(len) = certified_len(cert.head()) {
         let found = rom.len();
         if u64::from(len) != found && 0 < found && found <= MOST_ROM {
-            report(
-                rt,
+            tell_note(
+                alloc,
+                notes,
                 format_args!(
                     "galcert: {name} is for a ROM of {len} bytes, and the ROM has {found}"
                 ),
@@ -74,36 +90,54 @@ pub fn hint_certificate(rt: &HostRuntime, rom: &Input, cert: &Input) {
 
 /// Says what annotations look like, if they are none, and where they are at fault. With `infers` they were read for
 /// `--infer`.
-pub fn hint_annotations(rt: &HostRuntime, annot: &Input, infers: bool) {
-    if !hint_other(rt, annot) {
+pub fn hint_annotations<R: Files, N: Sink>(
+    alloc: Global,
+    annot: &FileSource<'_, R>,
+    infers: bool,
+    notes: &mut N,
+) {
+    if !hint_other(alloc, annot, notes) {
         if let Some(text) = annot.text() {
-            hint_fault(rt, annot, text, infers);
+            hint_fault(alloc, annot, text, infers, notes);
         }
     }
 }
 
 /// The same of annotations in which names may stand for addresses. Notes may say what is required.
-pub fn hint_named(rt: &HostRuntime, annot: &Input, names: &ProgramNames, infers: bool) {
-    if hint_other(rt, annot) {
+pub fn hint_named<R: Files, N: Sink>(
+    alloc: Global,
+    annot: &FileSource<'_, R>,
+    names: &ProgramNames,
+    infers: bool,
+    notes: &mut N,
+) {
+    if hint_other(alloc, annot, notes) {
         return;
     }
     let Some(text) = annot.text() else {
         return;
     };
-    if let Ok(text) = numbered(rt.alloc(), text, &names.names.symbols) {
-        hint_fault(rt, annot, text.as_slice(), infers || names.has_notes());
+    if let Ok(text) = numbered(alloc, text, &names.names.symbols) {
+        hint_fault(
+            alloc,
+            annot,
+            text.as_slice(),
+            infers || names.has_notes(),
+            notes,
+        );
     }
 }
 
 /// Says what annotations look like. The result is whether they look like something else.
-fn hint_other(rt: &HostRuntime, annot: &Input) -> bool {
+fn hint_other<R: Files, N: Sink>(alloc: Global, annot: &FileSource<'_, R>, notes: &mut N) -> bool {
     let name = annot.path().escape_debug();
     match Likeness::of(annot.head()) {
         None | Some(Likeness::Toml) => false,
         Some(likeness) => {
             let words = likeness.words();
-            report(
-                rt,
+            tell_note(
+                alloc,
+                notes,
                 format_args!("galcert: {name} looks like {words}; ANNOT is a TOML text"),
             );
             true
@@ -112,14 +146,24 @@ fn hint_other(rt: &HostRuntime, annot: &Input) -> bool {
 }
 
 /// Says where annotations are at fault.
-fn hint_fault(rt: &HostRuntime, annot: &Input, text: &[u8], infers: bool) {
+fn hint_fault<R: Files, N: Sink>(
+    alloc: Global,
+    annot: &FileSource<'_, R>,
+    text: &[u8],
+    infers: bool,
+    notes: &mut N,
+) {
     let name = annot.path().escape_debug();
-    if let Ok(Some(place)) = place_of_fault(rt.alloc(), text, infers) {
+    if let Ok(Some(place)) = place_of_fault(alloc, text, infers) {
         let why = &place.why;
         match (place.line, place.column) {
-            (Some(line), Some(column)) => report(rt, format_args!("{name}:{line}:{column}: {why}")),
-            (Some(line), None) => report(rt, format_args!("{name}:{line}: {why}")),
-            (None, _) => report(rt, format_args!("{name}: {why}")),
+            (Some(line), Some(column)) => tell_note(
+                alloc,
+                notes,
+                format_args!("{name}:{line}:{column}: {why}"),
+            ),
+            (Some(line), None) => tell_note(alloc, notes, format_args!("{name}:{line}: {why}")),
+            (None, _) => tell_note(alloc, notes, format_args!("{name}: {why}")),
         }
     }
 }

@@ -1,0 +1,2 @@
+-- Definitions of the command that explains refusals.
+pub mod Explaining

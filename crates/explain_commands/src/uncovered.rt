@@ -1,0 +1,189 @@
+// What is wrong between a row of a certificate and where it leads: reasons 11, 12, 13 and 17.
+
+use abs_step::NextKind;
+use analysis::FlowFault;
+use certificate::Certificate;
+use check_cover::callee_at;
+use explanations::Situation;
+use loop_bounds::Linear;
+use named_annotations::variable_name;
+use refusal_texts::{TargetRow, Wording, add_computed, add_line, add_uncovered, jump_pair};
+
+/// Adds the first successor of a row that no row covers, with what is not met there.
+pub(crate) fn add_not_covered(
+    text: &mut String,
+    with: &Wording,
+    certificate: &Certificate,
+    situation: &Situation,
+    row: u32,
+) -> Result<(), FlowFault> {
+    let alloc = with.alloc;
+    if let Ok((instr, _)) = board_fetch::fetch(with.rom, situation.place.address) {
+        if let Some(pair) = jump_pair(&instr) {
+            if situation.state.pairs.pair(pair).word.value().is_none() {
+                return add_computed(text, with, situation, pair);
+            }
+        }
+    }
+    let Some(nexts) = &situation.judged.nexts else {
+        return Ok(());
+    };
+    let own = match certificate.facts(row) {
+        Some(facts) => Vec::from_slice(alloc, facts.as_slice())?,
+        None => Vec::new(alloc),
+    };
+    for next in nexts.as_slice() {
+        let proc = match next.kind {
+            NextKind::Exit => continue,
+            NextKind::Call => match callee_at(certificate, next.address) {
+                Some(callee) => Some(callee.number),
+                None => {
+                    let to = with.place(next.address)?;
+                    return add_line(
+                        text,
+                        format!(in alloc;
+                            "calls {to}, which is no procedure of the certificate"
+                        )?.as_str(),
+                    );
+                }
+            },
+            NextKind::Jump => certificate.proc_of(row),
+        };
+        let Some(proc) = proc else {
+            continue;
+        };
+        let mut rows: Vec<TargetRow> = Vec::new(alloc);
+        for id in certificate.rows_at(proc, next.address) {
+            if let (Some(state), Some(facts)) = (certificate.state(id), certificate.facts(id)) {
+                rows.push(TargetRow {
+                    state,
+                    facts: Vec::from_slice(alloc, facts.as_slice())?,
+                })?;
+            }
+        }
+        if add_uncovered(text, with, situation, &own, next, &rows)? {
+            return Ok(());
+        }
+    }
+    add_line(text, "the state after the call is covered by no row")
+}
+
+/// Adds the ranks of a caller and a callee.
+pub(crate) fn add_rank(
+    text: &mut String,
+    with: &Wording,
+    certificate: &Certificate,
+    situation: &Situation,
+    row: u32,
+) -> Result<(), FlowFault> {
+    let alloc = with.alloc;
+    let own = match certificate.proc_of(row) {
+        Some(id) => certificate.rank(id).unwrap_or(0),
+        None => 0,
+    };
+    let Some(nexts) = &situation.judged.nexts else {
+        return Ok(());
+    };
+    for next in nexts.as_slice() {
+        if next.kind != NextKind::Call {
+            continue;
+        }
+        if let Some(callee) = callee_at(certificate, next.address) {
+            let (to, rank) = (with.place(next.address)?, callee.proc.rank);
+            return add_line(
+                text,
+                format!(in alloc;
+                    "calls {to} of rank {rank}, and its own rank is {own}: a callee's has to be lower"
+                )?.as_str(),
+            );
+        }
+    }
+    Ok(())
+}
+
+/// Adds the bytes of stack at a row, and what its procedure has room for.
+pub(crate) fn add_callee_depth(
+    text: &mut String,
+    with: &Wording,
+    certificate: &Certificate,
+    situation: &Situation,
+    row: u32,
+) -> Result<(), FlowFault> {
+    let alloc = with.alloc;
+    let depth = match certificate.proc_of(row) {
+        Some(id) => certificate.depth(id).unwrap_or(0),
+        None => 0,
+    };
+    let entry = if situation.place.proc == analysis::MAIN {
+        0
+    } else {
+        2
+    };
+    let slots = situation.state.shape.bytes().saturating_add(entry);
+    let mut line = format!(in alloc;
+        "the depth of its procedure is {depth}; {slots} bytes are on the stack here"
+    )?;
+    if let Some(nexts) = &situation.judged.nexts {
+        for next in nexts.as_slice() {
+            if let Some(callee) = callee_at(certificate, next.address) {
+                if next.kind == NextKind::Call {
+                    let more = callee.proc.depth;
+                    line.push_str(format!(in alloc; ", and the callee needs {more}")?.as_str())?;
+                }
+            }
+        }
+    }
+    add_line(text, line.as_str())
+}
+
+/// Adds the potential of a row, and those of the rows that may come next.
+pub(crate) fn add_unpaid(
+    text: &mut String,
+    with: &Wording,
+    certificate: &Certificate,
+    situation: &Situation,
+    row: u32,
+) -> Result<(), FlowFault> {
+    let alloc = with.alloc;
+    let own = match certificate.potential(row) {
+        Some(Some(potential)) => linear_text(with, &potential)?,
+        Some(None) | None => String::from_str(alloc, "none")?,
+    };
+    let mut line = format!(in alloc; "the row has {own} T-states left")?;
+    let Some(nexts) = &situation.judged.nexts else {
+        return add_line(text, line.as_str());
+    };
+    for next in nexts.as_slice() {
+        let cost = next.cost;
+        let proc = certificate.proc_of(row);
+        let mut wants = String::new(alloc);
+        if let (NextKind::Jump, Some(proc)) = (next.kind, proc) {
+            for id in certificate.rows_at(proc, next.address).take(4) {
+                if let Some(Some(potential)) = certificate.potential(id) {
+                    wants.push_str(if wants.is_empty() {
+                        " and then "
+                    } else {
+                        " or "
+                    })?;
+                    wants.push_str(linear_text(with, &potential)?.as_str())?;
+                }
+            }
+        }
+        let to = with.place(next.address)?;
+        line.push_str(format!(in alloc; "; to {to} it takes {cost}{wants}")?.as_str())?;
+    }
+    add_line(text, line.as_str())
+}
+
+/// A linear as a sum: `15 + 13*B`.
+fn linear_text(with: &Wording, linear: &Linear) -> Result<String, FlowFault> {
+    let alloc = with.alloc;
+    let mut text = format!(in alloc; "{}", linear.constant())?;
+    for term in linear.terms() {
+        let name = variable_name(alloc, term.variable)?;
+        let sign = if term.coefficient < 0 { "-" } else { "+" };
+        let size = term.coefficient.unsigned_abs();
+        text.push_str(format!(in alloc; " {sign} {size}*{name}")?.as_str())?;
+    }
+    Ok(text)
+}

@@ -1,0 +1,13 @@
+// What is known of refusals: the refused rows of an analysis that goes on after them, and where their values come from
+// (docs/EXPLAIN.md).
+#![tactic(auto)]
+
+mod explored;
+mod origins;
+mod refusals;
+mod situation;
+
+pub use explored::Explored;
+pub use origins::{Origin, OriginKind, origins_of};
+pub use refusals::{Refusal, refusals_of};
+pub use situation::{Situation, all_follow, lost_pairs};

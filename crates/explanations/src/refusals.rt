@@ -1,0 +1,89 @@
+// The refused rows, in the order in which they are explained.
+
+use crate::explored::Explored;
+use abs_step::Reason;
+use analysis::FlowFault;
+use inferred_rows::ContextPoint;
+use inferring::Worklist;
+use std::alloc::Global;
+
+/// A refused address, and why it is refused.
+#[derive(Clone, Copy)]
+pub struct Refusal {
+    /// The number of the first refused row there; None where the reason is one of the whole.
+    pub row: Option<u64>,
+    pub address: u16,
+    pub reason: Reason,
+}
+
+/// Whether a reason is one of the whole certificate.
+fn is_of_whole(reason: Reason) -> bool {
+    matches!(
+        reason,
+        Reason::Rom | Reason::Region | Reason::Entry | Reason::StackDepth | Reason::Budget
+    )
+}
+
+/// The number of the first row at an address.
+fn row_at(list: &Worklist, address: u16) -> Option<u64> {
+    for (number, _) in list.rows().iter() {
+        if ContextPoint::of(*number).address == address {
+            return Some(*number);
+        }
+    }
+    None
+}
+
+/// The refused rows of an analysis, one for each address, by their places. The one that the writer reports comes first.
+/// A row that only sends a state which is in no row is left out: that follows from another refusal.
+///
+/// # Errors
+///
+/// `NoMemory` where memory was refused.
+pub fn refusals_of(
+    alloc: Global,
+    explored: &Explored,
+    first: Option<(u16, Reason)>,
+) -> Result<Vec<Refusal>, FlowFault> {
+    let list = explored.list;
+    let mut found: Vec<Refusal> = Vec::new(alloc);
+    if let Some((address, reason)) = first {
+        let row = if is_of_whole(reason) {
+            None
+        } else {
+            refused_at(list, address, reason)
+        };
+        found.push(Refusal {
+            row,
+            address,
+            reason,
+        })?;
+    }
+    for (number, row) in list.rows().iter() {
+        let reason = match row.reason {
+            Some(reason) => reason,
+            None if row.drops && !explored.lacking(alloc, *number)?.is_empty() =>
+                Reason::NotCovered,
+            None => continue,
+        };
+        let address = ContextPoint::of(*number).address;
+        if !found.iter().any(|other| other.address == address) {
+            found.push(Refusal {
+                row: Some(*number),
+                address,
+                reason,
+            })?;
+        }
+    }
+    Ok(found)
+}
+
+/// The first row at an address that is refused for a reason, or else the first row there.
+fn refused_at(list: &Worklist, address: u16, reason: Reason) -> Option<u64> {
+    for (number, row) in list.rows().iter() {
+        if ContextPoint::of(*number).address == address && row.reason == Some(reason) {
+            return Some(*number);
+        }
+    }
+    row_at(list, address)
+}

@@ -1,0 +1,14 @@
+// Remedies against refusals: annotations that were tried (docs/EXPLAIN.md, "Remedies").
+#![tactic(auto)]
+
+mod case;
+mod looking;
+mod loops;
+mod merging;
+mod tried;
+
+pub use case::Case;
+pub use looking::{Remedies, Remedy};
+pub use loops::for_loop;
+pub use merging::with_region;
+pub use tried::plain_setting;

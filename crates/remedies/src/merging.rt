@@ -1,0 +1,159 @@
+// Annotations with notes added, or with another region or budget.
+
+use address_map::Region;
+use analysis::FlowFault;
+use annotations::{Annotations, FactNote, LoopNote, Notes};
+use explored_plans::copy_of_split;
+use loop_bounds::Variable;
+use std::alloc::Global;
+
+/// No notes.
+fn no_notes(alloc: Global) -> Notes {
+    Notes {
+        inlines: Vec::new(alloc),
+        splits: Vec::new(alloc),
+        facts: Vec::new(alloc),
+        loops: Vec::new(alloc),
+        cells: Vec::new(alloc),
+    }
+}
+
+/// The notes of annotations.
+fn notes_of(alloc: Global, said: &Annotations) -> Result<Notes, FlowFault> {
+    let mut notes = Notes {
+        inlines: Vec::from_slice(alloc, said.inlines())?,
+        splits: Vec::new(alloc),
+        facts: Vec::from_slice(alloc, said.facts())?,
+        loops: Vec::from_slice(alloc, said.loops())?,
+        cells: Vec::from_slice(alloc, said.cells())?,
+    };
+    for split in said.splits() {
+        notes.splits.push(copy_of_split(alloc, split)?)?;
+    }
+    Ok(notes)
+}
+
+/// Annotations with the notes of others added.
+pub(crate) fn merged(
+    alloc: Global,
+    said: &Annotations,
+    added: &Annotations,
+) -> Result<Annotations, FlowFault> {
+    let mut notes = notes_of(alloc, said)?;
+    notes.inlines.extend_from_slice(added.inlines())?;
+    notes.inlines.sort_unstable();
+    notes.inlines.dedup();
+    for split in added.splits() {
+        notes.splits.push(copy_of_split(alloc, split)?)?;
+    }
+    notes.splits.sort_unstable_by_key(|split| split.at);
+    for fact in added.facts() {
+        notes.facts.push(*fact)?;
+    }
+    notes.facts.sort_by_key(|note| note.at)?;
+    for note in added.loops() {
+        add_loop(&mut notes.loops, note)?;
+    }
+    notes.loops.sort_unstable_by_key(|note| note.at);
+    notes.cells.extend_from_slice(added.cells())?;
+    notes.cells.sort_unstable_by_key(|cell| cell.at);
+    Ok(Annotations::of(said.region(), said.budget(), said.board(), notes))
+}
+
+/// Adds a loop.
+pub(crate) fn add_loop(loops: &mut Vec<LoopNote>, note: &LoopNote) -> Result<(), FlowFault> {
+    // The type is named, since the prover looks for it among those that the module names.
+    let counter: Variable = note.counter;
+    loops.push(LoopNote { counter, ..*note })?;
+    Ok(())
+}
+
+/// The notes of annotations that others do not have at the same address.
+///
+/// # Errors
+///
+/// `NoMemory` where memory was refused.
+pub(crate) fn added_of(
+    alloc: Global,
+    said: &Annotations,
+    all: &Annotations,
+) -> Result<Annotations, FlowFault> {
+    let mut notes = no_notes(alloc);
+    for at in all.inlines() {
+        if !said.inlines().contains(at) {
+            notes.inlines.push(*at)?;
+        }
+    }
+    for split in all.splits() {
+        if !said.splits().iter().any(|other| other.at == split.at) {
+            notes.splits.push(copy_of_split(alloc, split)?)?;
+        }
+    }
+    for note in all.loops() {
+        if !said.loops().iter().any(|other| other.at == note.at) {
+            add_loop(&mut notes.loops, note)?;
+        }
+    }
+    for cell in all.cells() {
+        if !said.cells().iter().any(|other| other.at == cell.at) {
+            notes.cells.push(*cell)?;
+        }
+    }
+    Ok(with_notes(said, notes))
+}
+
+/// Annotations with other notes.
+fn with_notes(said: &Annotations, notes: Notes) -> Annotations {
+    Annotations::of(said.region(), said.budget(), said.board(), notes)
+}
+
+/// Only these facts, as annotations.
+pub(crate) fn only_facts(alloc: Global, said: &Annotations, facts: Vec<FactNote>) -> Annotations {
+    let mut notes = no_notes(alloc);
+    notes.facts = facts;
+    with_notes(said, notes)
+}
+
+/// Only these loops, as annotations.
+pub(crate) fn only_loops(alloc: Global, said: &Annotations, loops: Vec<LoopNote>) -> Annotations {
+    let mut notes = no_notes(alloc);
+    notes.loops = loops;
+    with_notes(said, notes)
+}
+
+/// Annotations without the facts of an address.
+pub(crate) fn without_facts(
+    alloc: Global,
+    said: &Annotations,
+    at: u16,
+) -> Result<Annotations, FlowFault> {
+    let mut notes = notes_of(alloc, said)?;
+    let mut facts = Vec::new(alloc);
+    for fact in said.facts() {
+        if fact.at != at {
+            facts.push(*fact)?;
+        }
+    }
+    notes.facts = facts;
+    Ok(with_notes(said, notes))
+}
+
+/// Annotations with another region of the stack.
+pub fn with_region(
+    alloc: Global,
+    said: &Annotations,
+    region: Region,
+) -> Result<Annotations, FlowFault> {
+    let notes = notes_of(alloc, said)?;
+    Ok(Annotations::of(region, said.budget(), said.board(), notes))
+}
+
+/// Annotations with a routine of this budget.
+pub(crate) fn with_budget(
+    alloc: Global,
+    said: &Annotations,
+    budget: u16,
+) -> Result<Annotations, FlowFault> {
+    let notes = notes_of(alloc, said)?;
+    Ok(Annotations::of(said.region(), Some(budget), said.board(), notes))
+}

@@ -1,0 +1,2 @@
+-- Definitions of the commands that show a program.
+pub mod Viewing
