@@ -18,7 +18,7 @@ REMEMBERS, SUMS = "stamp_once", {"rtlib.Crate.stamp": ["self"]}
 # The share of the memory that `rt` sets aside for a check, which the check takes. By that memory `rt ci` decides how many
 # checks run side by side. `rt` sets 3.4 GB aside for `cert_lines`, which took 1.8, and 6.1 for `plan_search`, which took
 # 4.7 (2026-11-28): so two or three checks ran where four could.
-SHARE = 0.75
+SHARE = 0.6
 
 
 class Unexpected(Exception):

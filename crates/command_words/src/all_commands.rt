@@ -14,24 +14,37 @@ use std::alloc::{AllocError, Global};
 
 /// The command line (docs/PROGRAM.md). The error is refused memory.
 pub fn command_line<'a>(alloc: Global) -> Result<Command<'a>, AllocError> {
-    Command::new(alloc, "galcert")
+    let line = Command::new(alloc, "galcert")
         .about("Verifies Z80 program ROMs of the Galaxian arcade board")
         .long_about(GALCERT)
         .after_long_help(STATUSES)
         .version("1.0.0")
         .propagate_version(true)
         .subcommand_required(true)
-        .disable_help_subcommand(true)
-        .subcommand(check_command(alloc)?)?
+        .disable_help_subcommand(true);
+    with_others(alloc, with_views(alloc, with_judging(alloc, line)?)?)
+}
+
+/// Adds the commands that judge a program, and play it.
+fn with_judging<'a>(alloc: Global, line: Command<'a>) -> Result<Command<'a>, AllocError> {
+    line.subcommand(check_command(alloc)?)?
         .subcommand(suggest_command(alloc)?)?
         .subcommand(explain_command(alloc)?)?
         .subcommand(verify_command(alloc)?)?
-        .subcommand(run_command(alloc)?)?
-        .subcommand(list_command(alloc)?)?
+        .subcommand(run_command(alloc)?)
+}
+
+/// Adds the commands that show an accepted program.
+fn with_views<'a>(alloc: Global, line: Command<'a>) -> Result<Command<'a>, AllocError> {
+    line.subcommand(list_command(alloc)?)?
         .subcommand(longest_command(alloc)?)?
         .subcommand(report_command(alloc)?)?
-        .subcommand(diff_command(alloc)?)?
-        .subcommand(migrate_command(alloc)?)?
+        .subcommand(diff_command(alloc)?)
+}
+
+/// Adds the other commands.
+fn with_others<'a>(alloc: Global, line: Command<'a>) -> Result<Command<'a>, AllocError> {
+    line.subcommand(migrate_command(alloc)?)?
         .subcommand(help_command(alloc)?)
 }
 

@@ -1,16 +1,16 @@
 // Explains what `check` answers to a ROM and its annotations.
 
-ghost use Rattle.std.specs.Prelude.{◌≡◌, IfOk, IfSome};
+ghost use Rattle.std.specs.Prelude.{◌≡◌, IfOk, IfSome, length};
 
 use crate::limits::{add_too_large, bounds_of, first_of, is_about_whole};
 use abs_step::Reason;
-use address_map::Rom;
+use address_map::{Map, Rom};
 use analysis::{FlowFault, Task};
 use annotations::{Annotations, Given};
 use cert_writer::{WriterFault, certify};
 use explanation_texts::{add_block, add_head, add_recursion, add_remedy, add_unbounded};
 use explanations::{Explored, Refusal, refusals_of};
-use explored_plans::{Base, ExploredPlan, Plan, Search, SearchContext, Unwatched};
+use explored_plans::{Base, ExploredPlan, Plan, Progress, Search, SearchContext, Unwatched};
 use inferred_rows::Guide;
 use inferring::Worklist;
 use refusal_texts::{Wording, add_entry, add_region, add_rom_lengths, add_whole};
@@ -61,24 +61,32 @@ pub(crate) fn explained<'r>(
     }
 }
 
+/// What `check` answered, beside the annotations, and what is asked of its explanation.
+struct Asked<'a> {
+    given: &'a Given,
+    question: Question<'a>,
+    fault: &'a WriterFault,
+}
+
 /// Why a ROM is refused.
-fn refused<'x>(
+fn refused(
     alloc: Global,
-    bytes: &'x [u8],
+    bytes: &[u8],
     said: &Annotations,
     given: &Given,
-    question: Question<'x>,
+    question: Question,
     fault: &WriterFault,
 ) -> Result<String, FlowFault> {
     let Some(rom) = Rom::of(bytes) else {
         return no_rom(alloc, bytes);
     };
-    let with = Wording {
-        alloc,
-        rom: &rom,
-        names: question.names,
+    let map = said.board().map(rom.len());
+    let asked = Asked {
+        given,
+        question,
+        fault,
     };
-    refused_rom(bytes, &rom, &with, said, given, question.most, fault)
+    refused_rom(alloc, bytes, &rom, &map, said, &asked)
 }
 
 /// What is said of a ROM that has no bytes, or too many.
@@ -90,48 +98,39 @@ fn no_rom(alloc: Global, bytes: &[u8]) -> Result<String, FlowFault> {
     Ok(text)
 }
 
-/// The same for a ROM that has a board. At most `most` refusals are explained.
+/// What is said where a limit of the writer ends its analysis.
+fn too_large(
+    alloc: Global,
+    said: &Annotations,
+    explored: Option<&Explored>,
+) -> Result<String, FlowFault> {
+    let mut text = String::new(alloc);
+    add_too_large(&mut text, alloc, said, explored)?;
+    Ok(text)
+}
+
+/// Why a ROM with a board is refused. The map is for a ROM of this length.
 fn refused_rom(
+    alloc: Global,
     bytes: &[u8],
     rom: &Rom,
-    with: &Wording,
+    map: &Map,
     said: &Annotations,
-    given: &Given,
-    most: usize,
-    fault: &WriterFault,
-) -> Result<String, FlowFault> {
-    let alloc = with.alloc;
-    let mut text = String::new(alloc);
-    let map = said.board().map(rom.len());
-    let Some(task) = Task::of(rom, &map, said) else {
-        add_too_large(&mut text, alloc, said, None)?;
-        return Ok(text);
+    asked: &Asked,
+) -> Result<String, FlowFault>
+    requires { map.now.rom_len ≡ length rom.now }
+{
+    let Some(task) = Task::of(rom, map, said) else {
+        return too_large(alloc, said, None);
     };
     let guide = Guide::none(alloc);
-    let list = match Worklist::run(alloc, plain_setting(&task, &guide), VISITS) {
+    let setting = plain_setting(&task, &guide);
+    let list = match Worklist::run(alloc, setting, VISITS) {
         Ok(list) => list,
-        Err(FlowFault::Limit) => {
-            add_too_large(&mut text, alloc, said, None)?;
-            return Ok(text);
-        }
+        Err(FlowFault::Limit) => return too_large(alloc, said, None),
         Err(FlowFault::NoMemory) => return Err(FlowFault::NoMemory),
     };
-    let explored = Explored::of(alloc, plain_setting(&task, &guide), &list)?;
-    let base = Base {
-        region: said.region(),
-        budget: said.budget(),
-        board: said.board(),
-        given,
-    };
-    let context = SearchContext::of(rom, &map, &base, VISITS);
-    let Some(plan) = ExploredPlan::of(alloc, &context, Plan::empty(alloc))? else {
-        add_too_large(&mut text, alloc, said, Some(&explored))?;
-        return Ok(text);
-    };
-    let mut progress = Unwatched;
-    let analyses = analyses_of(list.rows().len());
-    let trials = analyses / 3;
-    let mut search = Search::of(alloc, &context, plan, trials, &mut progress)?;
+    let explored = Explored::of(alloc, setting, &list)?;
     let case = Case {
         alloc,
         bytes,
@@ -139,43 +138,114 @@ fn refused_rom(
         explored: &explored,
         visits: VISITS,
     };
+    let with = Wording {
+        alloc,
+        rom,
+        names: asked.question.names,
+    };
+    told(&case, rom, map, &with, asked)
+}
+
+/// Why a ROM is refused, with remedies that a search finds. The map is for a ROM of this length.
+fn told(
+    case: &Case,
+    rom: &Rom,
+    map: &Map,
+    with: &Wording,
+    asked: &Asked,
+) -> Result<String, FlowFault>
+    requires { map.now.rom_len ≡ length rom.now }
+{
+    let alloc = case.alloc;
+    let base = Base {
+        region: case.said.region(),
+        budget: case.said.budget(),
+        board: case.said.board(),
+        given: asked.given,
+    };
+    let context = SearchContext::of(rom, map, &base, VISITS);
+    let Some(plan) = ExploredPlan::of(alloc, &context, Plan::empty(alloc))? else {
+        return too_large(alloc, case.said, Some(case.explored));
+    };
+    let analyses = analyses_of(case.explored.list.rows().len());
+    let trials = analyses / 3;
+    let mut progress = Unwatched;
+    let mut search = Search::of(alloc, &context, plan, trials, &mut progress)?;
     let mut remedies = Remedies::new(analyses);
+    let mut text = String::new(alloc);
+    add_fault(&mut text, with, case, &mut search, asked.fault)?;
+    add_refusals(&mut text, with, case, &mut search, &mut remedies, asked)?;
+    Ok(text)
+}
+
+/// Adds what is said of a fault that is no refusal.
+fn add_fault<P: Progress>(
+    text: &mut String,
+    with: &Wording,
+    case: &Case,
+    search: &mut Search<P>,
+    fault: &WriterFault,
+) -> Result<(), FlowFault> {
     match fault {
         WriterFault::Recursion(entries) => {
             text.push_str("recursion\n")?;
-            add_recursion(&mut text, with, Some(&explored), entries.as_slice())?;
+            add_recursion(text, with, Some(case.explored), entries.as_slice())?;
             text.push_str(RECURSION)?;
+            Ok(())
         }
-        WriterFault::LoopUnbounded(at) => {
-            let place = with.location(*at)?;
-            text.push_str(format!(in alloc; "{place}  unbounded\n")?.as_str())?;
-            add_unbounded(&mut text, with, &explored, *at)?;
-            let remedy = for_loop(&case, &mut search, *at)?;
-            add_remedy(&mut text, with, &remedy, Some(COUNT_DOWN))?;
-            text.push_str("  see: galcert explain 17\n")?;
-        }
-        WriterFault::Limit => add_too_large(&mut text, alloc, said, Some(&explored))?,
-        WriterFault::Refused(_) | WriterFault::NoMemory => {}
+        WriterFault::LoopUnbounded(at) => add_loop(text, with, case, search, *at),
+        WriterFault::Limit => add_too_large(text, case.alloc, case.said, Some(case.explored)),
+        WriterFault::Refused(_) | WriterFault::NoMemory => Ok(()),
     }
-    let refusals = refusals_of(alloc, &explored, first_of(fault))?;
+}
+
+/// Adds what is said of a loop without a bound.
+fn add_loop<P: Progress>(
+    text: &mut String,
+    with: &Wording,
+    case: &Case,
+    search: &mut Search<P>,
+    at: u16,
+) -> Result<(), FlowFault> {
+    let alloc = case.alloc;
+    let place = with.location(at)?;
+    text.push_str(format!(in alloc; "{place}  unbounded\n")?.as_str())?;
+    add_unbounded(text, with, case.explored, at)?;
+    let remedy = for_loop(case, search, at)?;
+    add_remedy(text, with, &remedy, Some(COUNT_DOWN))?;
+    text.push_str("  see: galcert explain 17\n")?;
+    Ok(())
+}
+
+/// Adds a block for each refusal, as many as are asked for.
+fn add_refusals<P: Progress>(
+    text: &mut String,
+    with: &Wording,
+    case: &Case,
+    search: &mut Search<P>,
+    remedies: &mut Remedies,
+    asked: &Asked,
+) -> Result<(), FlowFault> {
+    let alloc = case.alloc;
+    let refusals = refusals_of(alloc, case.explored, first_of(asked.fault))?;
     for (count, refusal) in refusals.iter().enumerate() {
-        if count >= most {
+        if count >= asked.question.most {
             let more = refusals.len().saturating_sub(count);
             text.push_str(format!(in alloc; "and {more} more\n")?.as_str())?;
             break;
         }
-        let remedy = match remedies.find(&case, &mut search, refusal)? {
+        let remedy = match remedies.find(case, search, refusal)? {
             // Nothing stands above the first one.
             Remedy::Untried if count == 0 => Remedy::Unknown,
             remedy => remedy,
         };
         if is_about_whole(refusal) {
-            add_whole_block(&mut text, with, &case, refusal, &remedy)?;
+            add_whole_block(text, with, case, refusal, &remedy)?;
         } else {
-            add_block(&mut text, with, &explored, refusal, &remedy)?;
+            add_block(text, with, case.explored, refusal, &remedy)?;
         }
     }
-    Ok(text)
+    Ok(())
 }
 
 /// How many analyses of this many rows try remedies.

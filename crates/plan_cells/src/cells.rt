@@ -210,27 +210,53 @@ fn first_cells<P: Progress>(search: &Search<P>) -> Result<Attempted, FlowFault> 
     let mut cells = Attempted {
         ranges: BTreeMap::new(search.alloc),
         growths: BTreeMap::new(search.alloc),
-        wanted: BTreeSet::new(search.alloc),
+        wanted: wanted_cells(search)?,
         changed: false,
     };
-    for (number, row) in search.explored.list.rows().iter() {
-        let address = ContextPoint::of(*number).address;
-        if let Ok((instr, _)) = fetch(search.context.rom(), address) {
-            if let Some((at, count)) = read_by(&instr, &row.state) {
-                for by in 0..count {
-                    let at = at.wrapping_add(by);
-                    if may_be_cell(search, at) {
-                        cells.wanted.insert(at)?;
-                    }
-                }
-            }
-        }
+    for (at, store) in last_stores(search, &cells.wanted)?.iter() {
+        cells.ranges.insert(*at, store.byte)?;
     }
     for cell in search.explored.said.cells() {
         cells.ranges.insert(cell.at, cell.range)?;
     }
+    Ok(cells)
+}
+
+/// The bytes of work RAM outside the stack that are read at one address.
+fn wanted_cells<P: Progress>(search: &Search<P>) -> Result<BTreeSet<u16>, FlowFault> {
+    let mut wanted = BTreeSet::new(search.alloc);
+    for (number, row) in search.explored.list.rows().iter() {
+        let address = ContextPoint::of(*number).address;
+        let Ok((instr, _)) = fetch(search.context.rom(), address) else {
+            continue;
+        };
+        let Some((at, count)) = read_by(&instr, &row.state) else {
+            continue;
+        };
+        for by in 0..count {
+            let at = at.wrapping_add(by);
+            if may_be_cell(search, at) {
+                wanted.insert(at)?;
+            }
+        }
+    }
+    Ok(wanted)
+}
+
+/// A store to a byte: what it leaves, and how many steps from the start of main it is.
+#[derive(Drop)]
+struct LastStore {
+    distance: u16,
+    byte: ByteRange,
+}
+
+/// The last stores to these bytes in main before NMIs, as far as they leave less than all values.
+fn last_stores<P: Progress>(
+    search: &Search<P>,
+    wanted: &BTreeSet<u16>,
+) -> Result<BTreeMap<u16, LastStore>, FlowFault> {
     let distances = search.graph.distances(search.alloc, MAIN, 0)?;
-    let mut last: BTreeMap<u16, (u16, ByteRange)> = BTreeMap::new(search.alloc);
+    let mut last = BTreeMap::new(search.alloc);
     for (number, row) in search.explored.list.rows().iter() {
         let point = ContextPoint::of(*number);
         if point.proc != MAIN || row.state.mode == Mode::Nmi {
@@ -242,23 +268,32 @@ fn first_cells<P: Progress>(search: &Search<P>) -> Result<Attempted, FlowFault> 
             _ => 0,
         };
         for write in writes_of(search, &search.explored, *number)? {
-            if let Some(at) = write.at.value() {
-                let is_later = match last.get(&at) {
-                    Some((before, _)) => *before <= distance,
-                    None => true,
-                };
-                if cells.wanted.contains(&at) && !write.byte.is_full() && is_later {
-                    last.insert(at, (distance, write.byte))?;
-                }
+            let Some(at) = write.at.value() else {
+                continue;
+            };
+            if wanted.contains(&at) && !write.byte.is_full() {
+                keep_later(&mut last, at, distance, write.byte)?;
             }
         }
     }
-    for (at, (_, byte)) in last.iter() {
-        if !cells.ranges.contains_key(at) {
-            cells.ranges.insert(*at, *byte)?;
-        }
+    Ok(last)
+}
+
+/// Keeps a store unless one that is further from the start is kept.
+fn keep_later(
+    last: &mut BTreeMap<u16, LastStore>,
+    at: u16,
+    distance: u16,
+    byte: ByteRange,
+) -> Result<(), FlowFault> {
+    let is_later = match last.get(&at) {
+        Some(before) => before.distance <= distance,
+        None => true,
+    };
+    if is_later {
+        last.insert(at, LastStore { distance, byte })?;
     }
-    Ok(cells)
+    Ok(())
 }
 
 /// Whether an address may be that of a cell: in the first 400h addresses of work RAM, outside the stack region.

@@ -118,14 +118,8 @@ fn fitted<'r, P: Progress>(
         return Err(FlowFault::Limit);
     };
     let mut search = Search::of(alloc, &context, explored, left, progress)?;
-    clear(&mut search)?;
-    let low = low_of(base, search.explored.list.depth(alloc)?);
-    let mut judged = None;
-    if is_last || low == base.region.low {
-        judged = Some(bound_and_lessen(&mut search, bytes)?);
-    }
+    let Answered { low, judged, stuck } = answered(&mut search, bytes, base, is_last)?;
     let Search { explored, left, .. } = search;
-    let stuck = explored.refused_addresses(alloc)?;
     Ok(Fitting {
         explored,
         left,
@@ -133,6 +127,34 @@ fn fitted<'r, P: Progress>(
         judged,
         stuck,
     })
+}
+
+/// What a search comes to, beside its plan: fields as in `Fitting`.
+#[derive(Drop)]
+struct Answered<'r> {
+    low: u16,
+    judged: Option<Judged<'r>>,
+    stuck: Vec<u16>,
+}
+
+/// Lets a search run, and asks the writer where the region fits the depth, or `is_last`.
+fn answered<'r, P: Progress>(
+    search: &mut Search<P>,
+    bytes: &'r [u8],
+    base: &Base,
+    is_last: bool,
+) -> Result<Answered<'r>, FlowFault>
+    ensures { IfOk result (λ answered. IfSome answered.judged (λ judged. judged ≡ bytes.now)) }
+{
+    clear(search)?;
+    let low = low_of(base, search.explored.list.depth(search.alloc)?);
+    let judged = if is_last || low == base.region.low {
+        Some(bound_and_lessen(search, bytes)?)
+    } else {
+        None
+    };
+    let stuck = search.explored.refused_addresses(search.alloc)?;
+    Ok(Answered { low, judged, stuck })
 }
 
 /// The low end of the stack region that leaves room for this many bytes, one word at least.

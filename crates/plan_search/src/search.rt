@@ -152,20 +152,30 @@ fn bound<'r, P: Progress>(search: &mut Search<P>, bytes: &'r [u8]) -> Result<Jud
 {
     let mut judged = judge(search.alloc, search.context, bytes, &search.explored)?;
     for _ in 0..BOUNDS {
-        let plans = match judged.answer() {
-            Err(WriterFault::LoopUnbounded(_)) => with_counters(search)?,
-            Err(WriterFault::Refused(refused))
-                if matches!(refused.reason.number(), 6 | 7 | 12 | 17) => {
-                with_other_bounds(search, refused.address)?
-            }
-            _ => return Ok(judged),
+        let Some(better) = bettered(search, bytes, &judged)? else {
+            return Ok(judged);
         };
-        match first_better(search, bytes, &judged, plans)? {
-            Some(better) => judged = better,
-            None => return Ok(judged),
-        }
+        judged = better;
     }
     Ok(judged)
+}
+
+/// A better answer by other bounds, which the search then keeps; None if no plan has one.
+fn bettered<'r, P: Progress>(
+    search: &mut Search<P>,
+    bytes: &'r [u8],
+    judged: &Judged<'r>,
+) -> Result<Option<Judged<'r>>, FlowFault>
+    ensures { IfOk result (λ found. IfSome found (λ better. better ≡ bytes.now)) }
+{
+    let plans = match judged.answer() {
+        Err(WriterFault::LoopUnbounded(_)) => with_counters(search)?,
+        Err(WriterFault::Refused(refused)) if matches!(refused.reason.number(), 6 | 7 | 12 | 17) => {
+            with_other_bounds(search, refused.address)?
+        }
+        _ => return Ok(None),
+    };
+    first_better(search, bytes, judged, plans)
 }
 
 /// The same; an accepted plan loses the families that it does not need.

@@ -16,6 +16,43 @@ const SHOWN: usize = 24;
 /// The most addresses whose ways are shown one by one.
 const MOST: u32 = 2_000;
 
+/// What a line tells of a row.
+#[derive(Drop)]
+struct Told {
+    /// The registers that differ between the rows of the address.
+    names: Vec<Used>,
+    has_procs: bool,
+    has_times: bool,
+}
+
+/// Adds a number of rows or ways alone; `what` ends the element.
+fn add_count(page: &mut Page, count: usize, what: &'static str) -> Result<(), AllocError> {
+    page.raw(" <span class=\"cm\">")?;
+    page.number(count as u64)?;
+    page.raw(what)
+}
+
+/// Adds the ways, which a reader can open.
+fn add_details(page: &mut Page, lines: &IndexSet<String>) -> Result<(), AllocError> {
+    page.raw(" <details><summary>")?;
+    page.number(lines.len() as u64)?;
+    page.raw(" ways</summary><pre>")?;
+    let mut is_first = true;
+    for line in lines.iter().take(SHOWN) {
+        if !is_first {
+            page.raw("\n")?;
+        }
+        is_first = false;
+        page.text(line.as_str())?;
+    }
+    if lines.len() > SHOWN {
+        page.raw("\n… ")?;
+        page.number(lines.len().saturating_sub(SHOWN) as u64)?;
+        page.raw(" more")?;
+    }
+    page.raw("</pre></details>")
+}
+
 impl Report<'_> {
     /// Adds what distinguishes the rows at an address, if there are several.
     pub(crate) fn add_ways(
@@ -30,36 +67,18 @@ impl Report<'_> {
         }
         let lines = self.way_lines(rows, instr, is_head)?;
         if lines.len() < 2 {
-            if is_head {
-                page.raw(" <span class=\"cm\">")?;
-                page.number(rows.len() as u64)?;
-                page.raw(" rows</span>")?;
-            }
-            return Ok(());
+            return if is_head {
+                add_count(page, rows.len(), " rows</span>")
+            } else {
+                Ok(())
+            };
         }
         self.ways_shown = self.ways_shown.saturating_add(1);
         if self.ways_shown > MOST {
-            page.raw(" <span class=\"cm\">")?;
-            page.number(lines.len() as u64)?;
-            return page.raw(" ways</span>");
+            add_count(page, lines.len(), " ways</span>")
+        } else {
+            add_details(page, &lines)
         }
-        page.raw(" <details><summary>")?;
-        page.number(lines.len() as u64)?;
-        page.raw(" ways</summary><pre>")?;
-        let mut is_first = true;
-        for line in lines.iter().take(SHOWN) {
-            if !is_first {
-                page.raw("\n")?;
-            }
-            is_first = false;
-            page.text(line.as_str())?;
-        }
-        if lines.len() > SHOWN {
-            page.raw("\n… ")?;
-            page.number(lines.len().saturating_sub(SHOWN) as u64)?;
-            page.raw(" more")?;
-        }
-        page.raw("</pre></details>")
     }
 
     /// What distinguishes the rows, a line for each way.
@@ -69,42 +88,69 @@ impl Report<'_> {
         instr: &Instr,
         is_head: bool,
     ) -> Result<IndexSet<String>, AllocError> {
+        let told = Told {
+            names: self.differing(rows, instr, is_head)?,
+            has_procs: is_head && self.has_several_procs(rows),
+            has_times: is_head && self.has_several_potentials(rows),
+        };
+        let mut lines = IndexSet::new(self.shown.alloc);
+        for one in rows.chunks(1) {
+            let line = self.way_line(one, &told)?;
+            if !line.is_empty() {
+                lines.insert(line)?;
+            }
+        }
+        Ok(lines)
+    }
+
+    /// The registers that differ between the rows.
+    fn differing(
+        &self,
+        rows: &[RowAt],
+        instr: &Instr,
+        is_head: bool,
+    ) -> Result<Vec<Used>, AllocError> {
         let mut names = Vec::new(self.shown.alloc);
         for used in self.registers_of(instr, is_head)? {
             if self.differs(rows, used)? {
                 names.push(used)?;
             }
         }
-        let has_procs = is_head && self.has_several_procs(rows);
-        let has_times = is_head && self.has_several_potentials(rows);
-        let mut lines = IndexSet::new(self.shown.alloc);
-        for one in rows.chunks(1) {
-            let Some(at) = one.first() else {
-                continue;
-            };
-            let Some(row) = self.shown.view.accepted().certificate().row(at.id) else {
-                continue;
-            };
-            let mut line = String::new(self.shown.alloc);
-            for used in &names {
-                self.add_register(&mut line, &row, *used)?;
-            }
-            if has_procs {
-                add_comma(&mut line)?;
-                line.push_str("in ")?;
-                line.push_str(self.shown.name_of(at.proc)?.as_str())?;
-            }
-            if let (true, Some(left)) = (has_times, self.shown.view.left(one)) {
-                add_comma(&mut line)?;
-                let left = u64::try_from(left).unwrap_or(0);
-                line.push_str(grouped(self.shown.alloc, left)?.as_str())?;
-                line.push_str(" left")?;
-            }
-            if !line.is_empty() {
-                lines.insert(line)?;
-            }
+        Ok(names)
+    }
+
+    /// The line of one row; an empty one where nothing distinguishes it.
+    fn way_line(&self, one: &[RowAt], told: &Told) -> Result<String, AllocError> {
+        let mut line = String::new(self.shown.alloc);
+        let Some(at) = one.first() else {
+            return Ok(line);
+        };
+        let Some(row) = self.shown.view.accepted().certificate().row(at.id) else {
+            return Ok(line);
+        };
+        for used in &told.names {
+            self.add_register(&mut line, &row, *used)?;
         }
-        Ok(lines)
+        if told.has_procs {
+            add_comma(&mut line)?;
+            line.push_str("in ")?;
+            line.push_str(self.shown.name_of(at.proc)?.as_str())?;
+        }
+        if told.has_times {
+            self.add_left(&mut line, one)?;
+        }
+        Ok(line)
+    }
+
+    /// Adds the T-states that are left at a row, where it has a potential.
+    fn add_left(&self, line: &mut String, one: &[RowAt]) -> Result<(), AllocError> {
+        let Some(left) = self.shown.view.left(one) else {
+            return Ok(());
+        };
+        add_comma(line)?;
+        let left = u64::try_from(left).unwrap_or(0);
+        line.push_str(grouped(self.shown.alloc, left)?.as_str())?;
+        line.push_str(" left")
     }
 
     /// The registers that are looked at: at a head all pairs, elsewhere those that the instruction uses.

@@ -164,33 +164,74 @@ fn add_run(
     found: &RamUse,
     run: &RamRun,
 ) -> Result<(), AllocError> {
-    let alloc = report.alloc;
     let first = found.base.saturating_add(run.first());
-    let id = format!(in alloc; "r{first:04X}")?;
+    let id = format!(in report.alloc; "r{first:04X}")?;
     page.open("tr", &[with("id", id.as_str())])?;
+    add_run_ends(report, page, found, run)?;
+    add_run_label(report, page, run, first)?;
+    page.raw("</td><td class=\"r\">")?;
+    page.number(u64::from(run.size()))?;
+    add_run_users(report, page, found, run)
+}
+
+/// The addresses of a run, and how often it comes again.
+fn add_run_ends(
+    report: &Reported,
+    page: &mut Page,
+    found: &RamUse,
+    run: &RamRun,
+) -> Result<(), AllocError> {
     page.raw("<th scope=\"row\" class=\"c\">")?;
-    page.address(first)?;
+    page.address(found.base.saturating_add(run.first()))?;
     if let Some((low, high)) = run.ends.first() {
         if low < high {
             page.raw("–")?;
             page.address(found.base.saturating_add(*high))?;
         }
     }
-    if let Some(step) = run.step {
-        let note = format!(in alloc; "{} times, step {step:02X}", run.ends.len())?;
-        page.raw(" <span class=\"cm\">")?;
-        page.text(note.as_str())?;
-        page.raw("</span>")?;
+    match run.step {
+        Some(step) => add_run_step(report, page, run, step),
+        None => Ok(()),
     }
+}
+
+/// How often a run comes again, and at which step.
+fn add_run_step(
+    report: &Reported,
+    page: &mut Page,
+    run: &RamRun,
+    step: u16,
+) -> Result<(), AllocError> {
+    let note = format!(in report.alloc; "{} times, step {step:02X}", run.ends.len())?;
+    page.raw(" <span class=\"cm\">")?;
+    page.text(note.as_str())?;
+    page.raw("</span>")
+}
+
+/// The label of a run, and the range that its cell keeps.
+fn add_run_label(
+    report: &Reported,
+    page: &mut Page,
+    run: &RamRun,
+    first: u16,
+) -> Result<(), AllocError> {
     page.raw("</th><td class=\"c\">")?;
     page.text(report.label_of(first)?.as_str())?;
-    if let Some(cell) = run.cell {
-        page.raw(" <span class=\"tag\">kept ")?;
-        page.text(report.byte_range(cell.range)?.as_str())?;
-        page.raw("</span>")?;
-    }
-    page.raw("</td><td class=\"r\">")?;
-    page.number(u64::from(run.size()))?;
+    let Some(cell) = run.cell else {
+        return Ok(());
+    };
+    page.raw(" <span class=\"tag\">kept ")?;
+    page.text(report.byte_range(cell.range)?.as_str())?;
+    page.raw("</span>")
+}
+
+/// Who stores the bytes of a run, and who reads them.
+fn add_run_users(
+    report: &Reported,
+    page: &mut Page,
+    found: &RamUse,
+    run: &RamRun,
+) -> Result<(), AllocError> {
     page.raw("</td><td class=\"nw\">")?;
     report.add_side(page, side_of(report, run.writers.as_slice()))?;
     page.raw("</td><td class=\"c\">")?;

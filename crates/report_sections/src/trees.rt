@@ -140,6 +140,25 @@ fn add_inner(
     blocks: &mut Vec<Block>,
 ) -> Result<(), AllocError> {
     let sum = u64::from(walk.sum).max(1);
+    let inner = inner_of(report, walk, sum, depth)?;
+    let has_room = inner
+        .iter()
+        .any(|(cost, _)| ratio(*cost, sum, share) > LEAST);
+    if !has_room || depth == u8::MAX {
+        return Ok(());
+    }
+    page.raw("<ul>")?;
+    blocks.push(Block::End("</ul>"))?;
+    add_shares(inner.as_slice(), sum, share, blocks)
+}
+
+/// The calls and loops of a procedure with their T-states, the cheapest first.
+fn inner_of(
+    report: &Reported,
+    walk: &ProcWalk,
+    sum: u64,
+    depth: u8,
+) -> Result<Vec<(u64, Block)>, AllocError> {
     let mut inner: Vec<(u64, Block)> = Vec::new(report.alloc);
     for item in &walk.items {
         match item.kind {
@@ -153,17 +172,18 @@ fn add_inner(
             }
         }
     }
-    let has_room = inner
-        .iter()
-        .any(|(cost, _)| ratio(*cost, sum, share) > LEAST);
-    if !has_room || depth == u8::MAX {
-        return Ok(());
-    }
-    page.raw("<ul>")?;
-    blocks.push(Block::End("</ul>"))?;
-    // The last one comes first from the stack.
     inner.sort_by_key(|(cost, _)| *cost)?;
-    for (cost, block) in &inner {
+    Ok(inner)
+}
+
+/// Pushes the blocks that are wide enough to show. The dearest comes last, so it is the first from the stack.
+fn add_shares(
+    inner: &[(u64, Block)],
+    sum: u64,
+    share: u64,
+    blocks: &mut Vec<Block>,
+) -> Result<(), AllocError> {
+    for (cost, block) in inner {
         let wide = ratio(*cost, sum, share);
         if wide > LEAST {
             blocks.push(with_share(*block, wide))?;
