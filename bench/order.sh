@@ -4,7 +4,7 @@
 set -euo pipefail
 here=$(cd "$(dirname "$0")" && pwd)
 times=100
-(cd "$here/../crates/benchmarks" && rt run > /dev/null < /dev/null)
+(cd "$here/../crates/benchmarks" && ../../tools/rt run > /dev/null < /dev/null)
 program=$here/../crates/benchmarks/out/benchmarks
 
 # The least processor time of five runs with these arguments, in milliseconds for each of the calls of `order`.

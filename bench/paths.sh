@@ -3,7 +3,7 @@
 # processor time. Prints milliseconds for each call, from the least of five runs with one call and of five with eleven; the aim is 100.
 set -euo pipefail
 here=$(cd "$(dirname "$0")" && pwd)
-(cd "$here/../crates/benchmarks" && rt run > /dev/null < /dev/null)
+(cd "$here/../crates/benchmarks" && ../../tools/rt run > /dev/null < /dev/null)
 program=$here/../crates/benchmarks/out/benchmarks
 
 # The least processor time of five runs with these WALKS, POTENTIALS and BRANCHES, in seconds.

@@ -10,7 +10,7 @@ program=$(realpath "${2:-$here/../galcert}")
 work=$(mktemp -d)
 trap 'rm -rf "$work"' EXIT
 cc -O2 -o "$work/libz80ex" "$here/libz80ex.c" -lz80ex
-(cd "$here/../crates/benchmarks" && rt run > /dev/null < /dev/null)
+(cd "$here/../crates/benchmarks" && ../../tools/rt run > /dev/null < /dev/null)
 steps=$here/../crates/benchmarks/out/benchmarks
 python3 "$here/roms.py" "$work"
 cd "$work"

@@ -8,6 +8,6 @@ here=$(cd "$(dirname "$0")" && pwd)
 work=$(mktemp -d)
 trap 'rm -rf "$work"' EXIT
 cc -O2 -o "$work/steps" "$here/steps.c" -lz80ex
-(cd "$here/../crates/benchmarks" && rt run > /dev/null < /dev/null)
+(cd "$here/../crates/benchmarks" && ../../tools/rt run > /dev/null < /dev/null)
 "$work/steps" "${1:-1000000}" "${2:-1}" > "$work/lines"
 "$here/../crates/benchmarks/out/benchmarks" < "$work/lines"

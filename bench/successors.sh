@@ -9,7 +9,7 @@ events=50000000
 work=$(mktemp -d)
 trap 'rm -rf "$work"' EXIT
 cc -O2 -o "$work/libz80ex" "$here/libz80ex.c" -lz80ex
-(cd "$here/../crates/benchmarks" && rt run > /dev/null < /dev/null)
+(cd "$here/../crates/benchmarks" && ../../tools/rt run > /dev/null < /dev/null)
 ours=$here/../crates/benchmarks/out/benchmarks
 theirs=$work/libz80ex
 

@@ -5,7 +5,7 @@
 set -euo pipefail
 here=$(cd "$(dirname "$0")" && pwd)
 events=${1:-10000000}
-(cd "$here/../crates/benchmarks" && rt run > /dev/null < /dev/null)
+(cd "$here/../crates/benchmarks" && ../../tools/rt run > /dev/null < /dev/null)
 for cert in "$here"/../examples/*/*.cert; do
     printf '%s: ' "$(basename "${cert%.cert}")"
     "$here/../crates/benchmarks/out/benchmarks" 0 0 0 0 "$events" 0 0 0 0 0 "${2:-1}" "${cert%.cert}.rom" "$cert" < /dev/null | sed -n 1p
