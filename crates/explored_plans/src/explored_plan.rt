@@ -1,14 +1,15 @@
 // An explored plan: its rows, and what is refused.
 
-use crate::plan::Plan;
 use crate::search_context::SearchContext;
 use abs_state::AbsState;
-use analysis::{FlowFault, Task, judged_row};
+use analysis::{FlowFault, Task};
 use annotations::Annotations;
-use inferred_rows::{ContextPoint, Guide, InferredRow, Manner};
-use inferring::{RowEdge, Setting, Worklist};
+use inferred_rows::{ContextPoint, Guide, InferredRow, JudgedRows, Manner};
+use inferring::{RowEdge, Setting, Span, Watch, Worklist};
+use plans::Plan;
 use std::alloc::Global;
 use std::collections::BTreeMap;
+use std::mem::replace;
 
 /// Why rows at an address of a procedure are refused: a bit for each reason by its number, and bit 0 where a state that
 /// leaves them is in no part of a split, or in no row.
@@ -72,31 +73,131 @@ impl ExploredPlan {
         context: &SearchContext,
         plan: Plan,
     ) -> Result<Option<ExploredPlan>, FlowFault> {
+        ExploredPlan::with_rows(
+            alloc,
+            context,
+            plan,
+            &JudgedRows::none(alloc)?,
+            Watch::Nothing,
+        )
+    }
+
+    /// Explores another plan on the same ground; None if its analysis takes too many rows or visits.
+    ///
+    /// # Errors
+    ///
+    /// `NoMemory` where memory was refused.
+    pub fn with_plan(
+        &self,
+        alloc: Global,
+        context: &SearchContext,
+        plan: Plan,
+    ) -> Result<Option<ExploredPlan>, FlowFault> {
+        ExploredPlan::with_rows(
+            alloc,
+            context,
+            plan,
+            self.list.judged_rows(),
+            Watch::Nothing,
+        )
+    }
+
+    /// Explores the plan without the family at a place. None if its analysis takes too many rows or visits, or what the
+    /// family was found for is refused again.
+    ///
+    /// # Errors
+    ///
+    /// `NoMemory` where memory was refused.
+    pub fn without(
+        &self,
+        alloc: Global,
+        context: &SearchContext,
+        place: usize,
+    ) -> Result<Option<ExploredPlan>, FlowFault> {
+        let watched = match self.plan.findings.get(place) {
+            Some(finding) => Watch::Address(finding.wanted_at),
+            None => Watch::Nothing,
+        };
+        let plan = self.plan.without(alloc, place)?;
+        ExploredPlan::with_rows(alloc, context, plan, self.list.judged_rows(), watched)
+    }
+
+    /// Takes another plan that differs in the bounds of loops alone, and so has the same rows. The result is the plan
+    /// before.
+    ///
+    /// # Errors
+    ///
+    /// `NoMemory` where memory was refused.
+    pub fn exchange_bounds(
+        &mut self,
+        alloc: Global,
+        context: &SearchContext,
+        plan: Plan,
+    ) -> Result<Plan, FlowFault> {
+        self.said = plan.annotations(alloc, context.base())?;
+        Ok(replace(&mut self.plan, plan))
+    }
+
+    /// Explores the plan with a split more, from the rows of this one, between which these are the steps. Only what the
+    /// split distinguishes is explored again, so more may be refused than if all were explored. None if the analysis
+    /// takes too many rows or visits, or the watched address is refused before the fixpoint is reached.
+    ///
+    /// # Errors
+    ///
+    /// `NoMemory` where memory was refused.
+    pub fn with_split(
+        &self,
+        alloc: Global,
+        context: &SearchContext,
+        plan: Plan,
+        edges: &[RowEdge],
+        span: Span,
+        watched: u16,
+    ) -> Result<Option<ExploredPlan>, FlowFault> {
         let said = plan.annotations(alloc, context.base())?;
         let guide = plan.guide(alloc, context.base())?;
         let Some(task) = context.task(&said) else {
             return Ok(None);
         };
         let setting = exploring(&task, &guide);
-        let list = match Worklist::run(alloc, setting, context.visits()) {
+        let found = Worklist::resumed(
+            alloc,
+            setting,
+            context.visits(),
+            &self.list,
+            edges,
+            span,
+            Watch::Address(watched),
+        );
+        let list = match found {
             Ok(list) => list,
             Err(FlowFault::Limit) => return Ok(None),
             Err(FlowFault::NoMemory) => return Err(FlowFault::NoMemory),
         };
-        let refused = refusals_of(alloc, &list)?;
-        let mut places = Vec::new(alloc);
-        for (number, _) in list.rows().iter() {
-            places.push((ContextPoint::of(*number).address, *number))?;
-        }
-        places.sort_unstable();
-        Ok(Some(ExploredPlan {
-            plan,
-            said,
-            guide,
-            list,
-            refused,
-            places,
-        }))
+        Ok(Some(explored_of(alloc, plan, said, guide, list)?))
+    }
+
+    /// Explores a plan, with the judged rows of others.
+    fn with_rows(
+        alloc: Global,
+        context: &SearchContext,
+        plan: Plan,
+        judged: &JudgedRows,
+        watched: Watch,
+    ) -> Result<Option<ExploredPlan>, FlowFault> {
+        let said = plan.annotations(alloc, context.base())?;
+        let guide = plan.guide(alloc, context.base())?;
+        let Some(task) = context.task(&said) else {
+            return Ok(None);
+        };
+        let setting = exploring(&task, &guide);
+        let found = Worklist::run_with(alloc, setting, context.visits(), judged, watched);
+        let list = match found {
+            Ok(list) => list,
+            Err(FlowFault::Limit) => return Ok(None),
+            Err(FlowFault::NoMemory) => return Err(FlowFault::NoMemory),
+        };
+        Ok(Some(explored_of(alloc, plan, said, guide, list)?))
     }
 
     /// The numbers of the rows at an address.
@@ -160,6 +261,11 @@ impl ExploredPlan {
             }
         }
         all
+    }
+
+    /// Whether some row of a procedure is refused at an address.
+    pub fn refuses_at(&self, proc: u32, address: u16) -> bool {
+        self.refused.contains_key(&spot(proc, address))
     }
 
     /// Whether nothing is refused.
@@ -267,6 +373,10 @@ impl ExploredPlan {
     }
 
     /// Whether a reason is against a state in place of a row.
+    ///
+    /// # Errors
+    ///
+    /// `NoMemory` where memory was refused.
     pub fn refuses(
         &self,
         alloc: Global,
@@ -274,15 +384,13 @@ impl ExploredPlan {
         proc: u32,
         address: u16,
         state: &AbsState,
-    ) -> bool {
+    ) -> Result<bool, FlowFault> {
         let Some(task) = context.task(&self.said) else {
-            return true;
+            return Ok(true);
         };
         let place = ContextPoint::at(proc, address).plain();
-        let timed = self.list.is_timed(proc);
-        judged_row(alloc, &task, place, timed, state)
-            .reason
-            .is_some()
+        let judged = self.list.judged_at(alloc, &task, place, state)?;
+        Ok(judged.as_ref().reason.is_some())
     }
 }
 
@@ -296,6 +404,30 @@ pub fn exploring<'s>(task: &'s Task<'s>, guide: &'s Guide) -> Setting<'s> {
             relates: true,
         },
     }
+}
+
+/// An explored plan with these rows.
+fn explored_of(
+    alloc: Global,
+    plan: Plan,
+    said: Annotations,
+    guide: Guide,
+    list: Worklist,
+) -> Result<ExploredPlan, FlowFault> {
+    let refused = refusals_of(alloc, &list)?;
+    let mut places = Vec::new(alloc);
+    for (number, _) in list.rows().iter() {
+        places.push((ContextPoint::of(*number).address, *number))?;
+    }
+    places.sort_unstable();
+    Ok(ExploredPlan {
+        plan,
+        said,
+        guide,
+        list,
+        refused,
+        places,
+    })
 }
 
 /// Why rows are refused, by procedure and address.

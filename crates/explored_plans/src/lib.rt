@@ -1,20 +1,15 @@
-// Plans: notes that a search tries together, and what an analysis that explores them shows (docs/INFERENCE.md, "The
-// search").
+// What an analysis that explores a plan shows, and the state of a search (docs/INFERENCE.md, "The search").
 #![tactic(auto)]
 
-mod base;
-mod deduced;
 mod explored_plan;
-mod plan;
 mod progress;
 mod reads;
 mod search_context;
 mod trials;
 mod values;
 
-pub use base::Base;
 pub use explored_plan::{ExploredPlan, OF_CONTEXTS, OF_RANGES, Refusals, exploring};
-pub use plan::{Family, Finding, Plan, copy_of_split, split_of};
+pub use plans::{Base, Family, Finding, Plan, copy_of_split, split_of};
 pub use progress::{Progress, Unwatched};
 pub use reads::read_by;
 pub use search_context::SearchContext;

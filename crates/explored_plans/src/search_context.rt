@@ -2,10 +2,10 @@
 
 ghost use Rattle.std.specs.Prelude.{◌≡◌, length};
 
-use crate::base::Base;
 use address_map::{Map, Rom};
 use analysis::Task;
 use annotations::Annotations;
+use plans::Base;
 use std::marker::Model;
 
 /// What a search works on: a ROM, its map, and what is given.

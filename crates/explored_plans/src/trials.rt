@@ -1,11 +1,13 @@
 // The state of a search: the explored plan, and the trials that are left.
 
 use crate::explored_plan::ExploredPlan;
-use crate::plan::{Family, Plan};
 use crate::progress::Progress;
 use crate::search_context::SearchContext;
 use analysis::FlowFault;
+use annotations::SplitNote;
 use board_fetch::fetch;
+use inferring::{RowEdge, Span};
+use plans::{Family, Plan};
 use row_graph::{FlowGraph, NaturalLoop, loops_of};
 use std::alloc::Global;
 use std::collections::BTreeMap;
@@ -23,9 +25,11 @@ pub struct Search<'s, P: Progress> {
     pub context: &'s SearchContext<'s>,
     pub explored: ExploredPlan,
     pub graph: FlowGraph,
+    /// The steps between the rows.
+    edges: Vec<RowEdge>,
     /// How many trials are left.
     pub left: u32,
-    /// Whether moves that were tried with fewer findings are tried again.
+    /// Whether moves that were tried with fewer findings are tried again, and splits with the whole plan explored.
     pub repeats: bool,
     /// What was tried, each with the number of findings that the plan had then.
     tried: BTreeMap<Attempt, usize>,
@@ -37,6 +41,7 @@ pub struct Search<'s, P: Progress> {
 pub struct SetAside {
     explored: ExploredPlan,
     graph: FlowGraph,
+    edges: Vec<RowEdge>,
 }
 
 impl<'s, P: Progress> Search<'s, P> {
@@ -55,6 +60,7 @@ impl<'s, P: Progress> Search<'s, P> {
             context,
             explored,
             graph,
+            edges,
             left: trials,
             repeats: false,
             tried: BTreeMap::new(alloc),
@@ -66,6 +72,7 @@ impl<'s, P: Progress> Search<'s, P> {
     pub fn keep(&mut self, explored: ExploredPlan) -> Result<(), FlowFault> {
         let edges = explored.edges(self.alloc, self.context)?;
         self.graph = FlowGraph::of(self.alloc, &edges)?;
+        self.edges = edges;
         self.explored = explored;
         Ok(())
     }
@@ -77,6 +84,7 @@ impl<'s, P: Progress> Search<'s, P> {
         Ok(SetAside {
             explored: replace(&mut self.explored, explored),
             graph: replace(&mut self.graph, graph),
+            edges: replace(&mut self.edges, edges),
         })
     }
 
@@ -84,6 +92,7 @@ impl<'s, P: Progress> Search<'s, P> {
     pub fn restore(&mut self, before: SetAside) {
         self.explored = before.explored;
         self.graph = before.graph;
+        self.edges = before.edges;
     }
 
     /// Whether a move is new; from now on it is not. Where the search repeats moves, one that was tried on a plan with
@@ -110,7 +119,52 @@ impl<'s, P: Progress> Search<'s, P> {
         }
         self.progress.tell(self.left, self.explored.refused.len());
         self.left = self.left.saturating_sub(1);
-        ExploredPlan::of(self.alloc, self.context, plan)
+        self.explored.with_plan(self.alloc, self.context, plan)
+    }
+
+    /// Explores the plan with a split more as a trial, from the rows found so far. Only what the split distinguishes is
+    /// explored again, so more may be refused than if all were explored. None if the address for which the split is
+    /// wanted is refused again.
+    pub fn try_split(
+        &mut self,
+        split: SplitNote,
+        wanted_at: u16,
+    ) -> Result<Option<ExploredPlan>, FlowFault> {
+        if self.left == 0 {
+            return Ok(None);
+        }
+        self.progress.tell(self.left, self.explored.refused.len());
+        self.left = self.left.saturating_sub(1);
+        let span = Span {
+            at: split.at,
+            until: split.until,
+        };
+        let plan = self
+            .explored
+            .plan
+            .with(self.alloc, Family::Split(split), wanted_at)?;
+        self.explored.with_split(self.alloc, self.context, plan, &self.edges, span, wanted_at)
+    }
+
+    /// Takes a plan that differs in the bounds of loops alone, as a trial. The result is the plan before; None if no
+    /// trial is left.
+    pub fn try_bounds(&mut self, plan: Plan) -> Result<Option<Plan>, FlowFault> {
+        if self.left == 0 {
+            return Ok(None);
+        }
+        self.progress.tell(self.left, self.explored.refused.len());
+        self.left = self.left.saturating_sub(1);
+        let before = self
+            .explored
+            .exchange_bounds(self.alloc, self.context, plan)?;
+        Ok(Some(before))
+    }
+
+    /// Goes back to a plan that differs in the bounds of loops alone.
+    pub fn set_bounds(&mut self, plan: Plan) -> Result<(), FlowFault> {
+        self.explored
+            .exchange_bounds(self.alloc, self.context, plan)?;
+        Ok(())
     }
 
     /// Explores the plan with one more family as a trial.

@@ -3,11 +3,11 @@
 use crate::closure::{Incoming, add, closure_of};
 use abs_state::AbsState;
 use abs_step::Reason;
-use analysis::{FlowFault, judged_row};
+use analysis::FlowFault;
 use board_fetch::fetch;
 use cert_fields::Facts;
 use inferred_rows::{ContextPoint, Guide, InferredRow, Manner, pointer_of};
-use inferring::{Setting, Worklist};
+use inferring::{Setting, Watch, Worklist};
 use loop_bounds::{Linear, Ranges, Variable};
 use std::alloc::Global;
 use std::collections::BTreeMap;
@@ -49,7 +49,13 @@ pub fn needed_facts(alloc: Global, search: &FactSearch) -> Result<Guide, FlowFau
             },
             ..search.setting
         };
-        let plain = Worklist::run(alloc, setting, search.visits)?;
+        let plain = Worklist::run_with(
+            alloc,
+            setting,
+            search.visits,
+            search.related.judged_rows(),
+            Watch::Nothing,
+        )?;
         let mut found = search.found(alloc, &incoming, &guide, &plain, stage)?;
         for _ in 0..STAGES {
             if !found.is_empty() {
@@ -222,7 +228,7 @@ impl<'s> FactSearch<'s> {
             let Some(state) = tightened(&row.state, table.facts.get(&number), relation) else {
                 continue;
             };
-            if is_soft(self.reason_of(alloc, number, &state)) {
+            if is_soft(self.reason_of(alloc, number, &state)?) {
                 continue;
             }
             let closure = self.closure(alloc, incoming, table, number, relation)?;
@@ -311,10 +317,17 @@ impl<'s> FactSearch<'s> {
     }
 
     /// The lowest reason against a state at a place.
-    fn reason_of(&self, alloc: Global, number: u64, state: &AbsState) -> Option<Reason> {
-        let point = ContextPoint::of(number);
-        let timed = self.related.is_timed(point.proc);
-        judged_row(alloc, self.setting.task, point.plain(), timed, state).reason
+    fn reason_of(
+        &self,
+        alloc: Global,
+        number: u64,
+        state: &AbsState,
+    ) -> Result<Option<Reason>, FlowFault> {
+        let place = ContextPoint::of(number).plain();
+        let judged = self
+            .related
+            .judged_at(alloc, self.setting.task, place, state)?;
+        Ok(judged.as_ref().reason)
     }
 
     /// The relations that narrow rows at which states join, or at which a split cuts them, with all from which these

@@ -11,11 +11,11 @@ ghost use Rattle.texts.specs.Device.{HasFailed, CountsNoFailure};
 use crate::finding::{find, read_given};
 use address_map::Rom;
 use analysis::FlowFault;
-use annotations::{Annotations, FactNote};
+use annotations::Annotations;
 use cert_writer::{WriterFault, certify};
 use command_parts::{ExitStatus, read_all, read_rom};
 use explored_plans::Progress;
-use plan_search::{Inference, Judged, plain_annotations, without_fact};
+use plan_search::{Inference, Judged, plain_annotations, seems_refused, without_fact};
 use std::alloc::Global;
 use suggestions::{Suggested, suggestion};
 use symbols::Symbols;
@@ -142,12 +142,17 @@ fn file_of(
         return Ok(String::new(alloc));
     };
     let map = found.base.board.map(rom.len());
-    let suggested = suggested_of(alloc, bytes, found)?;
+    let suggested = suggested_of(alloc, bytes, &rom, found)?;
     suggestion(alloc, &rom, &map, found, &suggested, symbols, annot)
 }
 
 /// What may be said of a file of what was found. Whether `check` accepts the ROM with it is tried.
-fn suggested_of(alloc: Global, bytes: &[u8], found: &Inference) -> Result<Suggested, FlowFault> {
+fn suggested_of(
+    alloc: Global,
+    bytes: &[u8],
+    rom: &Rom,
+    found: &Inference,
+) -> Result<Suggested, FlowFault> {
     if found.judged.answer().is_err() {
         return Ok(Suggested::Refused);
     }
@@ -157,8 +162,7 @@ fn suggested_of(alloc: Global, bytes: &[u8], found: &Inference) -> Result<Sugges
     if !is_accepted(alloc, bytes, &plain)? {
         return Ok(Suggested::Inferred);
     }
-    let given = found.base.given.facts.as_slice();
-    Ok(Suggested::Plain(with_few_facts(alloc, bytes, plain, given)?))
+    Ok(Suggested::Plain(with_few_facts(alloc, bytes, rom, found, plain)?))
 }
 
 /// Whether `check` accepts a ROM with these annotations.
@@ -174,9 +178,11 @@ fn is_accepted(alloc: Global, bytes: &[u8], said: &Annotations) -> Result<bool, 
 fn with_few_facts(
     alloc: Global,
     bytes: &[u8],
+    rom: &Rom,
+    found: &Inference,
     said: Annotations,
-    given: &[FactNote],
 ) -> Result<Annotations, FlowFault> {
+    let given = found.base.given.facts.as_slice();
     let mut said = said;
     for place in (0..said.facts().len().min(MOST_FACTS)).rev() {
         let Some(note) = said.facts().get(place).copied() else {
@@ -189,7 +195,7 @@ fn with_few_facts(
             continue;
         }
         let fewer = without_fact(alloc, &said, place)?;
-        if is_accepted(alloc, bytes, &fewer)? {
+        if !seems_refused(alloc, rom, found, &fewer)? && is_accepted(alloc, bytes, &fewer)? {
             said = fewer;
         }
     }

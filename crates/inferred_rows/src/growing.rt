@@ -41,33 +41,31 @@ impl Growth {
         }
     }
 
-    /// The join of a row, with each bound that moved too often widened.
-    pub(crate) fn grown(
+    /// Widens each bound of a row's join that moved too often.
+    pub(crate) fn widen(
         &mut self,
         before: &AbsState,
-        joined: &AbsState,
+        joined: &mut AbsState,
         thresholds: &Thresholds,
-    ) -> AbsState {
-        let mut left = joined.copied();
+    ) {
         for number in 0..10u8 {
             let (old, new) = (
                 pair_at(&before.pairs, number),
                 pair_at(&joined.pairs, number),
             );
             let pair = self.grown_pair(usize::from(number) * 6, old, new, thresholds);
-            with_pair(&mut left.pairs, number, pair);
+            with_pair(&mut joined.pairs, number, pair);
         }
         for place in 0..joined.shape.len() {
             let slots = (
-                before.shape.slots().get(place),
-                joined.shape.slots().get(place),
+                before.shape.slots().get(place).copied(),
+                joined.shape.slots().get(place).copied(),
             );
             if let (Some(old), Some(new)) = slots {
                 let pair = self.grown_pair(60 + place % 6 * 6, old.pair, new.pair, thresholds);
-                let _old = left.shape.replace(place, Slot { pair });
+                let _old = joined.shape.replace(place, Slot { pair });
             }
         }
-        left
     }
 
     fn grown_pair(

@@ -25,14 +25,14 @@ pub struct InferredRow {
     pub space: Space,
     /// The equalities of two or three variables that hold there. They name only slots that the row has.
     pub relations: Vec<Linear>,
-    /// The state in which the row leaves its procedure, if it does.
-    pub exit: Option<AbsState>,
     /// The lowest reason that is against the row.
     pub reason: Option<Reason>,
     /// Whether a state to which the row leads is in no part of a split, or in no row.
     pub drops: bool,
     /// The most bytes of slots on the stack at the row and its successors, 0 to 128; the return address is not counted.
     pub bytes: u16,
+    /// The pair through which its instruction writes.
+    pointer: Option<Variable>,
     growth: Growth,
     changes: u16,
 }
@@ -48,8 +48,6 @@ pub struct Tightening<'t> {
     pub part: u16,
     /// The facts of the row itself.
     pub found: &'t [Linear],
-    /// The pair through which its instruction writes.
-    pub pointer: Option<Variable>,
     /// Whether its relations tighten it.
     pub relates: bool,
     pub thresholds: &'t Thresholds,
@@ -69,33 +67,55 @@ pub enum JoinOutcome {
 }
 
 impl InferredRow {
-    /// The row of the first state that comes.
+    /// The row of the first state that comes, of an instruction that writes through `pointer`.
     pub fn first(
         alloc: Global,
         state: &AbsState,
         space: &Space,
+        pointer: Option<Variable>,
         by: &Tightening,
     ) -> Result<InferredRow, FlowFault> {
         let mut row = InferredRow {
             state: state.copied(),
             space: *space,
             relations: Vec::new(alloc),
-            exit: None,
             reason: None,
             drops: false,
             bytes: 0,
+            pointer,
             growth: Growth::none(),
             changes: 0,
         };
         if by.relates {
-            row.relate(by.pointer)?;
+            row.relate()?;
         }
-        row.state = row.tightened(state, by);
+        let mut left = state.copied();
+        row.tighten(&mut left, by);
+        row.state = left;
         Ok(row)
     }
 
+    /// A copy.
+    ///
+    /// # Errors
+    ///
+    /// `NoMemory` where memory was refused.
+    pub fn copied(&self, alloc: Global) -> Result<InferredRow, FlowFault> {
+        Ok(InferredRow {
+            state: self.state.copied(),
+            space: self.space,
+            relations: Vec::from_slice(alloc, self.relations.as_slice())?,
+            reason: self.reason,
+            drops: self.drops,
+            bytes: self.bytes,
+            pointer: self.pointer,
+            growth: self.growth,
+            changes: self.changes,
+        })
+    }
+
     /// Finds the relations of the row.
-    fn relate(&mut self, pointer: Option<Variable>) -> Result<(), FlowFault> {
+    fn relate(&mut self) -> Result<(), FlowFault> {
         let slots = self.state.shape.len();
         self.relations.clear();
         for relation in self.space.relations().as_slice() {
@@ -103,7 +123,7 @@ impl InferredRow {
                 self.relations.push(*relation)?;
             }
         }
-        if let Some(pointer) = pointer {
+        if let Some(pointer) = self.pointer {
             for relation in self.space.triples(pointer).as_slice() {
                 if names_slots_below(relation, slots) {
                     self.relations.push(*relation)?;
@@ -113,27 +133,48 @@ impl InferredRow {
         Ok(())
     }
 
-    /// A state tightened by the row's facts and relations; those that leave nothing are passed over.
-    fn tightened(&self, state: &AbsState, by: &Tightening) -> AbsState {
-        let mut left = state.copied();
+    /// Tightens a state by the row's facts and relations; those that leave nothing are passed over.
+    fn tighten(&self, state: &mut AbsState, by: &Tightening) {
         for note in by.said {
             if speaks_of(note, by.part) {
-                left = tightened_by(left, &note.fact);
+                tighten_by(state, &note.fact);
             }
         }
         for fact in by.found {
-            left = tightened_by(left, fact);
+            tighten_by(state, fact);
         }
         if by.relates && self.changes < TIGHTENED {
             for relation in self.relations.as_slice() {
-                left = tightened_by(left, relation);
+                tighten_by(state, relation);
             }
         }
-        left
     }
 
     /// Joins a state that comes to the row.
     pub fn take(
+        &mut self,
+        state: &AbsState,
+        space: &Space,
+        by: &Tightening,
+    ) -> Result<JoinOutcome, FlowFault> {
+        if !self.has(state) {
+            return self.take_new(state, space, by);
+        }
+        if !(by.relates && self.space.join(space)) {
+            return Ok(JoinOutcome::Same);
+        }
+        self.relate()?;
+        let state = self.state.copied();
+        Ok(self.grow(state, true, by))
+    }
+
+    /// Whether the row has a state already.
+    fn has(&self, state: &AbsState) -> bool {
+        self.state.mode == state.mode && self.state.armed == state.armed && self.state.covers(state)
+    }
+
+    /// Joins a state that the row does not have.
+    fn take_new(
         &mut self,
         state: &AbsState,
         space: &Space,
@@ -144,21 +185,27 @@ impl InferredRow {
         };
         let grew = by.relates && self.space.join(space);
         if grew {
-            self.relate(by.pointer)?;
+            self.relate()?;
         }
         if !grew && self.state.covers(&both) {
             return Ok(JoinOutcome::Same);
         }
-        let left = self.changed(&both, by);
+        Ok(self.grow(both, grew, by))
+    }
+
+    /// Goes on with a join. `grew` says whether the row's relations changed.
+    fn grow(&mut self, both: AbsState, grew: bool, by: &Tightening) -> JoinOutcome {
+        let mut left = both;
+        self.change(&mut left, by);
         let same = self.state.covers(&left) && left.covers(&self.state);
         if same && !grew {
-            return Ok(JoinOutcome::Same);
+            return JoinOutcome::Same;
         }
         if !same {
             self.changes = self.changes.saturating_add(1);
         }
         self.state = left;
-        Ok(JoinOutcome::Changed)
+        JoinOutcome::Changed
     }
 
     /// Joins a state without any widening.
@@ -168,41 +215,43 @@ impl InferredRow {
         space: &Space,
         by: &Tightening,
     ) -> Result<JoinOutcome, FlowFault> {
-        let Some(both) = join_of(&self.state, state, by.cells) else {
+        let Some(mut both) = join_of(&self.state, state, by.cells) else {
             return Ok(JoinOutcome::Unjoined);
         };
         if by.relates && self.space.join(space) {
-            self.relate(by.pointer)?;
+            self.relate()?;
         }
-        self.state = self.tightened(&both, by);
+        self.tighten(&mut both, by);
+        self.state = both;
         Ok(JoinOutcome::Same)
     }
 
-    /// The row's state after a join.
-    fn changed(&mut self, both: &AbsState, by: &Tightening) -> AbsState {
+    /// Makes the row's state after a join of the join.
+    fn change(&mut self, both: &mut AbsState, by: &Tightening) {
         if self.changes >= CHANGES {
-            return widest(both);
+            *both = widest(both);
+            return;
         }
-        let before = self.state.copied();
-        let mut grown = self.growth.grown(&before, both, by.thresholds);
+        if by.ranges.is_empty() {
+            self.growth.widen(&self.state, both, by.thresholds);
+        } else {
+            self.widen_within(both, by);
+        }
+        self.tighten(both, by);
+    }
+
+    /// Widens a join, but not beyond the ranges of its address.
+    fn widen_within(&mut self, both: &mut AbsState, by: &Tightening) {
+        let joined = both.copied();
+        self.growth.widen(&self.state, both, by.thresholds);
         for note in by.ranges {
-            hold(&mut grown, both, note);
+            hold(both, &joined, note);
         }
-        self.tightened(&grown, by)
     }
 
     /// Whether a bound of the row was widened.
     pub fn is_widened(&self) -> bool {
         self.growth.is_widened()
-    }
-
-    /// Whether the row's exit is the same as this one.
-    pub fn leaves_as(&self, exit: &Option<AbsState>) -> bool {
-        match (&self.exit, exit) {
-            (None, None) => true,
-            (Some(old), Some(new)) => old.covers(new) && new.covers(old),
-            _ => false,
-        }
     }
 }
 
@@ -224,13 +273,19 @@ pub fn speaks_of(note: &FactNote, part: u16) -> bool {
     }
 }
 
-/// A state tightened by a linear that is 0, or as it was if nothing would be left.
-fn tightened_by(state: AbsState, fact: &Linear) -> AbsState {
-    if !names_slots_below(fact, state.shape.len()) || !may_narrow(&state, fact) {
-        return state;
+/// Tightens a state by a linear that is 0; it stays as it was if nothing would be left.
+fn tighten_by(state: &mut AbsState, fact: &Linear) {
+    if names_slots_below(fact, state.shape.len()) && may_narrow(state, fact) {
+        narrow(state, fact);
     }
+}
+
+/// The same of a state that has each slot that the linear names.
+fn narrow(state: &mut AbsState, fact: &Linear) {
     let mut left = state.copied();
-    if left.tighten(fact) { left } else { state }
+    if left.tighten(fact) {
+        *state = left;
+    }
 }
 
 /// Whether a linear that is 0 narrows the range of a variable. A state is copied only then.

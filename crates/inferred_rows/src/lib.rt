@@ -8,11 +8,13 @@ mod growing;
 mod guide;
 mod held;
 mod inferred;
+mod judged_rows;
 mod operands;
 mod thresholds;
 
 pub use context_point::{CLASSES, CONTEXT_LIMIT, ContextPoint};
 pub use guide::{Guide, Manner};
 pub use inferred::{InferredRow, JoinOutcome, Tightening, join_of, speaks_of};
+pub use judged_rows::JudgedRows;
 pub use operands::pointer_of;
 pub use thresholds::Thresholds;

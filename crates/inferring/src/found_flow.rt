@@ -1,6 +1,7 @@
 // What an inferring analysis found, for the writer of certificates.
 
 use crate::worklist::{Setting, Worklist};
+use abs_state::AbsState;
 use analysis::{Flow, FlowFault, Noted, ProgramPoint, facts_at, names_slots_below};
 use annotations::FactNote;
 use cert_fields::Facts;
@@ -36,7 +37,7 @@ impl Worklist {
             }
             .number();
             numbers.insert(*number, place)?;
-            rows.insert(place, noted_of(row))?;
+            rows.insert(place, noted_of(row, self.exits.get(number)))?;
             let said = facts_at(setting.task.said().facts(), point.address);
             let own = setting.guide.facts_of(*number);
             if !(said.is_empty() && own.is_empty()) {
@@ -68,9 +69,9 @@ fn all_facts(said: &[FactNote], part: u16, own: &[Linear], slots: usize) -> Fact
     facts
 }
 
-/// A row for the writer of certificates.
-fn noted_of(row: &InferredRow) -> Noted {
-    let exit = match &row.exit {
+/// A row for the writer of certificates, and the state in which it leaves its procedure, if it does.
+fn noted_of(row: &InferredRow, exit: Option<&AbsState>) -> Noted {
+    let exit = match exit {
         Some(exit) => Some(exit.copied()),
         None => None,
     };

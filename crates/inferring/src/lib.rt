@@ -6,7 +6,9 @@ mod arriving;
 mod depths;
 mod found_flow;
 mod lowering;
+mod resuming;
 mod worklist;
 
 pub use arriving::{Arriving, ArrivingKind};
-pub use worklist::{RowEdge, Setting, Worklist};
+pub use resuming::Span;
+pub use worklist::{RowEdge, Setting, Watch, Worklist};

@@ -1,7 +1,7 @@
 // Rounds without widening, after the fixpoint: they lower what a widening raised too far.
 
 use crate::worklist::{Setting, Worklist, space_after};
-use analysis::{FlowFault, judged_row};
+use analysis::FlowFault;
 use inferred_rows::ContextPoint;
 use std::alloc::Global;
 use std::collections::BTreeSet;
@@ -24,36 +24,34 @@ impl Worklist {
 
     /// One round from the rows found, without widening.
     fn lowered(&self, alloc: Global, setting: Setting) -> Result<Worklist, FlowFault> {
-        let mut fresh = Worklist::begin(alloc, setting)?;
+        let mut fresh = Worklist::begin(alloc, setting, self.judged_rows().shared(setting.task)?)?;
         for timed in self.timed.iter() {
             fresh.timed.insert(*timed)?;
         }
         for (number, row) in self.rows.iter() {
             let point = ContextPoint::of(*number);
-            let timed = self.is_timed(point.proc);
-            let judged = judged_row(alloc, setting.task, point.plain(), timed, &row.state);
-            fresh.note_calls(alloc, setting, point, &judged)?;
-            let sent = self.sent_by(alloc, setting, point, &judged)?;
+            let judged = self.judged_at(alloc, setting.task, point.plain(), &row.state)?;
+            let judged = judged.as_ref();
+            fresh.note_calls(alloc, setting, point, judged)?;
+            let sent = self.sent_by(alloc, setting, point, judged)?;
             for arriving in sent.states.as_slice() {
                 let space = space_after(setting.manner, &row.space, arriving);
                 let _taken = fresh.take(alloc, setting, arriving, &space, false)?;
             }
         }
-        fresh.keep_exits(self);
+        fresh.keep_exits(self)?;
         fresh.waiting = BTreeSet::new(alloc);
         Ok(fresh)
     }
 
     /// Takes over the exits of the rows found before, until they are judged again.
-    fn keep_exits(&mut self, before: &Worklist) {
-        for (number, row) in self.rows.iter_mut() {
-            if let Some(old) = before.rows.get(number) {
-                row.exit = match &old.exit {
-                    Some(exit) => Some(exit.copied()),
-                    None => None,
-                };
+    fn keep_exits(&mut self, before: &Worklist) -> Result<(), FlowFault> {
+        for (number, exit) in before.exits.iter() {
+            if self.rows.contains_key(number) {
+                self.exits.insert(*number, exit.copied())?;
             }
         }
+        Ok(())
     }
 
     /// Judges each row again, and notes what it drops.
@@ -79,10 +77,9 @@ impl Worklist {
             return Ok(());
         };
         let point = ContextPoint::of(number);
-        let state = row.state.copied();
-        let timed = self.is_timed(point.proc);
-        let judged = judged_row(alloc, setting.task, point.plain(), timed, &state);
-        let _changed = self.note(number, &state, &judged, setting.manner);
+        let bytes = row.state.shape.bytes();
+        let judged = self.judged_at(alloc, setting.task, point.plain(), &row.state)?;
+        let _changed = self.note(number, bytes, judged.as_ref(), setting.manner)?;
         Ok(())
     }
 

@@ -7,21 +7,22 @@ use abs_state::AbsState;
 use abs_step::{Next, NextKind};
 use affine::Space;
 use analysis::{
-    Flow, FlowFault, JudgedRow, MAIN, NMI, Noted, ProgramPoint, Task, facts_at, judged_row,
-    names_slots_below, sub_of,
+    Flow, FlowFault, JudgedRow, MAIN, NMI, Noted, ProgramPoint, Task, facts_at, names_slots_below,
+    sub_of,
 };
 use annotations::FactNote;
 use board_fetch::fetch;
 use cert_fields::Facts;
 use cert_form::{PROC_LIMIT, ROW_LIMIT};
 use inferred_rows::{
-    CLASSES, ContextPoint, Guide, InferredRow, JoinOutcome, Manner, Thresholds, Tightening,
-    join_of, pointer_of,
+    CLASSES, ContextPoint, Guide, InferredRow, JoinOutcome, JudgedRows, Manner, Thresholds,
+    Tightening, join_of, pointer_of,
 };
 use intervals::ByteRange;
 use loop_bounds::{Effect, Variable};
 use std::alloc::Global;
 use std::collections::{BTreeMap, BTreeSet};
+use std::rc::Rc;
 use z80_moves::NMI_ADDRESS;
 
 /// What an inferring analysis works on.
@@ -30,6 +31,15 @@ pub struct Setting<'s> {
     pub task: &'s Task<'s>,
     pub guide: &'s Guide,
     pub manner: Manner,
+}
+
+/// Which rows end an analysis if they are refused before the fixpoint is reached.
+#[derive(Clone, Copy, PartialEq, Eq)]
+pub enum Watch {
+    Nothing,
+    /// The rows at an address.
+    Address(u16),
+    Everything,
 }
 
 /// A step from a row to another.
@@ -52,9 +62,14 @@ pub struct Worklist {
     pub(crate) entries: BTreeSet<u16>,
     /// The number of a called procedure, with the place of a call of it.
     calls: BTreeSet<u128>,
+    /// The states in which rows leave their procedures, by the rows' numbers.
+    pub(crate) exits: BTreeMap<u64, AbsState>,
     /// The numbers of timed procedures.
     pub(crate) timed: BTreeSet<u32>,
-    thresholds: Thresholds,
+    pub(crate) thresholds: Thresholds,
+    judged: JudgedRows,
+    /// Which refused row ends the analysis.
+    pub(crate) watched: Watch,
 }
 
 /// A factor that leaves room for the place of a caller.
@@ -79,7 +94,30 @@ impl Worklist {
     /// `Limit` if there are more than 65,535 rows or 1,024 procedures, or the visits do not suffice; `NoMemory` where
     /// memory was refused.
     pub fn run(alloc: Global, setting: Setting, visits: u32) -> Result<Worklist, FlowFault> {
-        let mut list = Worklist::begin(alloc, setting)?;
+        Worklist::run_with(
+            alloc,
+            setting,
+            visits,
+            &JudgedRows::none(alloc)?,
+            Watch::Nothing,
+        )
+    }
+
+    /// The same, with the judged rows of other analyses of the ROM on one map. Rows that this one judges are added. A
+    /// watched row that is refused before the fixpoint is reached ends the analysis.
+    ///
+    /// # Errors
+    ///
+    /// As for `run`; `Limit` for the refused row too.
+    pub fn run_with(
+        alloc: Global,
+        setting: Setting,
+        visits: u32,
+        judged: &JudgedRows,
+        watched: Watch,
+    ) -> Result<Worklist, FlowFault> {
+        let mut list = Worklist::begin(alloc, setting, judged.shared(setting.task)?)?;
+        list.watched = watched;
         for _ in 0..visits {
             match list.waiting.pop_first() {
                 Some(number) => list.visit(alloc, setting, number)?,
@@ -90,29 +128,65 @@ impl Worklist {
     }
 
     /// Nothing found yet.
-    fn empty(alloc: Global, setting: Setting) -> Result<Worklist, FlowFault> {
+    pub(crate) fn empty(
+        alloc: Global,
+        setting: Setting,
+        judged: JudgedRows,
+    ) -> Result<Worklist, FlowFault> {
         Ok(Worklist {
             rows: BTreeMap::new(alloc),
             waiting: BTreeSet::new(alloc),
             entries: BTreeSet::new(alloc),
             calls: BTreeSet::new(alloc),
+            exits: BTreeMap::new(alloc),
             timed: BTreeSet::new(alloc),
             thresholds: Thresholds::of(alloc, setting.task.map(), setting.task.said().region())?,
+            judged,
+            watched: Watch::Nothing,
         })
     }
 
     /// The rows at the entries, which wait.
-    pub(crate) fn begin(alloc: Global, setting: Setting) -> Result<Worklist, FlowFault> {
-        let mut list = Worklist::empty(alloc, setting)?;
+    pub(crate) fn begin(
+        alloc: Global,
+        setting: Setting,
+        judged: JudgedRows,
+    ) -> Result<Worklist, FlowFault> {
+        let mut list = Worklist::empty(alloc, setting, judged)?;
+        list.begin_entries(alloc, setting)?;
+        Ok(list)
+    }
+
+    /// The states at the entries come to their places.
+    pub(crate) fn begin_entries(
+        &mut self,
+        alloc: Global,
+        setting: Setting,
+    ) -> Result<(), FlowFault> {
         let main = entering(ContextPoint::at(MAIN, 0), AbsState::of_main());
-        list.take(alloc, setting, &main, &Space::full(), true)?;
+        self.take(alloc, setting, &main, &Space::full(), true)?;
         if setting.task.has_routine() {
-            list.timed.insert(NMI)?;
+            self.timed.insert(NMI)?;
             let state = setting.task.routine_state();
             let nmi = entering(ContextPoint::at(NMI, NMI_ADDRESS), state);
-            list.take(alloc, setting, &nmi, &Space::full(), true)?;
+            self.take(alloc, setting, &nmi, &Space::full(), true)?;
         }
-        Ok(list)
+        Ok(())
+    }
+
+    /// Takes over the calls of another analysis by rows that are not lost.
+    pub(crate) fn keep_calls(
+        &mut self,
+        before: &Worklist,
+        lost: &BTreeSet<u64>,
+    ) -> Result<(), FlowFault> {
+        for call in before.calls.iter() {
+            let caller = (*call % CALLERS) as u64;
+            if !lost.contains(&caller) {
+                self.calls.insert(*call)?;
+            }
+        }
+        Ok(())
     }
 
     /// The rows, ordered by the numbers of their places.
@@ -175,23 +249,32 @@ impl Worklist {
         space: &Space,
         widens: bool,
     ) -> Result<bool, FlowFault> {
+        let first = ContextPoint {
+            class: 0,
+            ..arriving.to
+        }
+        .number();
+        if !self.rows.contains_key(&first) {
+            self.begin_row(alloc, setting, first, arriving, space)?;
+            return Ok(true);
+        }
         for class in 0..CLASSES {
             let number = ContextPoint {
                 class,
                 ..arriving.to
             }
             .number();
-            if !self.rows.contains_key(&number) {
-                self.begin_row(alloc, setting, number, arriving, space)?;
-                return Ok(true);
-            }
             match self.add_to_row(setting, number, arriving, space, widens)? {
-                JoinOutcome::Same => return Ok(true),
-                JoinOutcome::Changed => {
+                Some(JoinOutcome::Same) => return Ok(true),
+                Some(JoinOutcome::Changed) => {
                     self.waiting.insert(number)?;
                     return Ok(true);
                 }
-                JoinOutcome::Unjoined => {}
+                Some(JoinOutcome::Unjoined) => {}
+                None => {
+                    self.begin_row(alloc, setting, number, arriving, space)?;
+                    return Ok(true);
+                }
             }
         }
         Ok(false)
@@ -209,17 +292,19 @@ impl Worklist {
         if self.rows.len() >= ROW_LIMIT {
             return Err(FlowFault::Limit);
         }
+        let mut pointer = None;
         if let Ok((instr, _)) = fetch(setting.task.rom(), arriving.to.address) {
             self.thresholds.add(&instr)?;
+            pointer = pointer_of(&instr);
         }
         let by = tightening(setting, number, arriving.to.address, &self.thresholds);
-        let row = InferredRow::first(alloc, &arriving.state, space, &by)?;
+        let row = InferredRow::first(alloc, &arriving.state, space, pointer, &by)?;
         self.rows.insert(number, row)?;
         self.waiting.insert(number)?;
         Ok(())
     }
 
-    /// Joins a state to a row.
+    /// Joins a state to a row; None if there is no such row.
     fn add_to_row(
         &mut self,
         setting: Setting,
@@ -227,18 +312,17 @@ impl Worklist {
         arriving: &Arriving,
         space: &Space,
         widens: bool,
-    ) -> Result<JoinOutcome, FlowFault> {
+    ) -> Result<Option<JoinOutcome>, FlowFault> {
         let by = tightening(setting, number, arriving.to.address, &self.thresholds);
-        match self.rows.get_mut(&number) {
-            Some(row) => {
-                if widens {
-                    row.take(&arriving.state, space, &by)
-                } else {
-                    row.add(&arriving.state, space, &by)
-                }
-            }
-            None => Ok(JoinOutcome::Unjoined),
-        }
+        let Some(row) = self.rows.get_mut(&number) else {
+            return Ok(None);
+        };
+        let outcome = if widens {
+            row.take(&arriving.state, space, &by)?
+        } else {
+            row.add(&arriving.state, space, &by)?
+        };
+        Ok(Some(outcome))
     }
 
     /// Computes the successors of a row.
@@ -253,12 +337,17 @@ impl Worklist {
         };
         let point = ContextPoint::of(number);
         let space = row.space;
-        let state = row.state.copied();
-        let timed = self.is_timed(point.proc);
-        let judged = judged_row(alloc, setting.task, point.plain(), timed, &state);
-        self.note_calls(alloc, setting, point, &judged)?;
-        let sent = self.sent_by(alloc, setting, point, &judged)?;
-        if self.note(number, &state, &judged, setting.manner) {
+        let bytes = row.state.shape.bytes();
+        let judged = self.judged_at(alloc, setting.task, point.plain(), &row.state)?;
+        let judged = judged.as_ref();
+        let is_watched = self.watched == Watch::Everything
+            || self.watched == Watch::Address(point.address);
+        if is_watched && judged.reason.is_some() {
+            return Err(FlowFault::Limit);
+        }
+        self.note_calls(alloc, setting, point, judged)?;
+        let sent = self.sent_by(alloc, setting, point, judged)?;
+        if self.note(number, bytes, judged, setting.manner)? {
             for caller in self.callers_of(alloc, point.proc)? {
                 self.waiting.insert(caller)?;
             }
@@ -274,6 +363,27 @@ impl Worklist {
             row.drops = drops;
         }
         Ok(())
+    }
+
+    /// Judges a state at a place.
+    ///
+    /// # Errors
+    ///
+    /// `NoMemory` where memory was refused.
+    pub fn judged_at(
+        &self,
+        alloc: Global,
+        task: &Task,
+        place: ProgramPoint,
+        state: &AbsState,
+    ) -> Result<Rc<JudgedRow>, FlowFault> {
+        let timed = self.is_timed(place.proc);
+        self.judged.judged(alloc, task, place, timed, state)
+    }
+
+    /// The rows that were judged, for other analyses of the ROM on the same map.
+    pub fn judged_rows(&self) -> &JudgedRows {
+        &self.judged
     }
 
     /// What a judged row sends on.
@@ -354,43 +464,62 @@ impl Worklist {
         Ok(())
     }
 
-    /// Notes what was found of a row. The result is whether its exit changed.
+    /// Notes what was found of a row with so many bytes of slots. The result is whether its exit changed.
     pub(crate) fn note(
         &mut self,
         number: u64,
-        state: &AbsState,
+        bytes: u16,
         judged: &JudgedRow,
         manner: Manner,
-    ) -> bool {
+    ) -> Result<bool, FlowFault> {
         let Some(row) = self.rows.get_mut(&number) else {
-            return false;
+            return Ok(false);
         };
         row.reason = judged.reason;
-        row.bytes = state.shape.bytes();
+        row.bytes = bytes;
         let mut exit = None;
         for next in nexts_of(manner, judged) {
             row.bytes = row.bytes.max(next.state.shape.bytes());
             if next.kind == NextKind::Exit {
-                exit = Some(next.state.copied());
+                exit = Some(&next.state);
             }
         }
-        if row.leaves_as(&exit) {
-            return false;
+        self.leave(number, exit)
+    }
+
+    /// Notes the state in which a row leaves its procedure, if it does. The result is whether it changed.
+    fn leave(&mut self, number: u64, exit: Option<&AbsState>) -> Result<bool, FlowFault> {
+        let same = match (self.exits.get(&number), exit) {
+            (None, None) => true,
+            (Some(old), Some(new)) => old.covers(new) && new.covers(old),
+            _ => false,
+        };
+        if same {
+            return Ok(false);
         }
-        row.exit = exit;
-        true
+        match exit {
+            Some(exit) => {
+                self.exits.insert(number, exit.copied())?;
+            }
+            None => {
+                self.exits.remove(&number);
+            }
+        }
+        Ok(true)
     }
 
     /// The states in which a procedure is left, in the order of its rows.
-    fn exits_of(&self, alloc: Global, proc: u32) -> Result<Vec<AbsState>, FlowFault> {
+    ///
+    /// # Errors
+    ///
+    /// `NoMemory` where memory was refused.
+    pub fn exits_of(&self, alloc: Global, proc: u32) -> Result<Vec<AbsState>, FlowFault> {
         let mut exits = Vec::new(alloc);
-        for (_, row) in self
-            .rows
+        for (_, exit) in self
+            .exits
             .range(ContextPoint::first_of(proc)..=ContextPoint::last_of(proc))
         {
-            if let Some(exit) = &row.exit {
-                exits.push(exit.copied())?;
-            }
+            exits.push(exit.copied())?;
         }
         Ok(exits)
     }
@@ -421,9 +550,8 @@ impl Worklist {
             return Ok(Sent::none(alloc));
         };
         let point = ContextPoint::of(number);
-        let timed = self.is_timed(point.proc);
-        let judged = judged_row(alloc, setting.task, point.plain(), timed, &row.state);
-        self.sent_by(alloc, setting, point, &judged)
+        let judged = self.judged_at(alloc, setting.task, point.plain(), &row.state)?;
+        self.sent_by(alloc, setting, point, judged.as_ref())
     }
 
     /// The steps between the rows.
@@ -473,16 +601,11 @@ fn tightening<'t>(
     address: u16,
     thresholds: &'t Thresholds,
 ) -> Tightening<'t> {
-    let pointer = match fetch(setting.task.rom(), address) {
-        Ok((instr, _)) => pointer_of(&instr),
-        Err(_) => None,
-    };
     Tightening {
         said: facts_at(setting.task.said().facts(), address),
         ranges: setting.guide.ranges_at(address),
         part: ContextPoint::of(number).part,
         found: setting.guide.facts_of(number),
-        pointer,
         relates: setting.manner.relates,
         thresholds,
         cells: setting.task.cells().len(),

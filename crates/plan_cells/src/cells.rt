@@ -2,7 +2,7 @@
 
 use abs_draft::DataWrite;
 use abs_state::{KeptCell, Mode};
-use analysis::{FlowFault, MAIN, judged_row};
+use analysis::{FlowFault, MAIN};
 use board_fetch::fetch;
 use explored_plans::{ExploredPlan, Family, Plan, Progress, Search, read_by};
 use inferred_rows::ContextPoint;
@@ -315,9 +315,10 @@ fn writes_of<P: Progress>(
     };
     if let Some(row) = explored.list.row(number) {
         let point = ContextPoint::of(number);
-        let timed = explored.list.is_timed(point.proc);
-        let judged = judged_row(search.alloc, &task, point.plain(), timed, &row.state);
-        for write in judged.writes.as_slice() {
+        let judged = explored
+            .list
+            .judged_at(search.alloc, &task, point.plain(), &row.state)?;
+        for write in judged.as_ref().writes.as_slice() {
             writes.push(*write)?;
         }
     }

@@ -16,6 +16,10 @@ use z80_decode::Register8;
 /// A loop of at most so many turns is unrolled.
 const FEW_TURNS: usize = 16;
 
+/// A loop of two turns is unrolled even if it has a counter: where it goes back its counter is a constant, so no multiple
+/// of it pays for a turn.
+const TWO_TURNS: usize = 2;
+
 /// The timed procedures, rising.
 fn timed_procs<P: Progress>(search: &Search<P>) -> Result<Vec<u32>, FlowFault> {
     let mut procs = Vec::new(search.alloc);
@@ -85,17 +89,19 @@ fn bounding<P: Progress>(
     found: &NaturalLoop,
 ) -> Result<Vec<Family>, FlowFault> {
     let mut families = Vec::new(search.alloc);
-    if let Some((counter, rises)) = counter_of(search, proc, found)? {
-        families.push(counted_by(found, counter, rises))?;
-        return Ok(families);
-    }
     let unrollings = unrollings(search, proc, found)?;
     let first = unrollings.first();
-    let is_short = match first {
-        Some(unrolling) => unrolling.parts.len() <= FEW_TURNS,
-        None => false,
+    let turns = match first {
+        Some(unrolling) => unrolling.parts.len(),
+        None => usize::MAX,
     };
-    if !is_short {
+    if turns != TWO_TURNS {
+        if let Some((counter, rises)) = counter_of(search, proc, found)? {
+            families.push(counted_by(found, counter, rises))?;
+            return Ok(families);
+        }
+    }
+    if turns > FEW_TURNS {
         if let Some(counter) = raised_variable(search, found) {
             families.push(Family::Turns(TurnNote {
                 head: found.head,

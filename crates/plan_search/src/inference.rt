@@ -13,7 +13,7 @@ use std::alloc::Global;
 use t_states::MAX_BUDGET;
 
 /// The most visits of rows in one analysis.
-const VISITS: u32 = 2_000_000;
+pub(crate) const VISITS: u32 = 2_000_000;
 
 /// How many times the stack region is fitted to the depth.
 const FITTINGS: u32 = 4;

@@ -2,13 +2,14 @@
 
 ghost use Rattle.std.specs.Prelude.{◌≡◌, IfOk};
 
-use analysis::FlowFault;
+use analysis::{Flow, FlowFault};
+use annotations::Annotations;
 use cert_checker::Accepted;
 use cert_writer::{WriterFault, certify_flow};
 use explored_plans::{ExploredPlan, SearchContext, exploring};
 use fact_closure::{FactSearch, needed_facts};
 use inferred_rows::{Guide, Manner};
-use inferring::{Setting, Worklist};
+use inferring::{Setting, Watch, Worklist};
 use std::alloc::Global;
 use std::marker::Model;
 
@@ -18,6 +19,8 @@ pub struct Judged<'r> {
     bytes: &'r [u8],
     answer: Result<Accepted<'r>, WriterFault>,
     guide: Guide,
+    /// The rows of which the writer made a certificate, if it came so far.
+    flow: Option<Flow>,
 }
 
 impl<'r> Model for Judged<'r> {
@@ -48,6 +51,22 @@ impl<'r> Judged<'r> {
         &self.guide
     }
 
+    /// Whether the writer makes an accepted certificate of the same rows with other bounds of loops.
+    pub(crate) fn is_accepted_with(
+        &self,
+        alloc: Global,
+        said: &Annotations,
+    ) -> Result<bool, FlowFault> {
+        let Some(flow) = &self.flow else {
+            return Ok(false);
+        };
+        match certify_flow(alloc, self.bytes, said, flow) {
+            Err(WriterFault::NoMemory) => Err(FlowFault::NoMemory),
+            Err(_) => Ok(false),
+            Ok(_) => Ok(true),
+        }
+    }
+
     /// Whether the answer is better than another: it accepts, or where the other names a cycle without bounds, it names
     /// another or none, or it refuses another place for its time.
     pub(crate) fn is_better_than(&self, before: &Judged) -> bool {
@@ -75,15 +94,29 @@ pub(crate) fn judge<'r>(
 ) -> Result<Judged<'r>, FlowFault>
     ensures { IfOk result (λ judged. judged ≡ bytes.now) }
 {
+    judge_with(alloc, context, bytes, explored, &explored.guide)
+}
+
+/// The same. The search for facts begins with those of a guide.
+pub(crate) fn judge_with<'r>(
+    alloc: Global,
+    context: &SearchContext,
+    bytes: &'r [u8],
+    explored: &ExploredPlan,
+    known: &Guide,
+) -> Result<Judged<'r>, FlowFault>
+    ensures { IfOk result (λ judged. judged ≡ bytes.now) }
+{
     let Some(task) = context.task(&explored.said) else {
         return Ok(Judged {
             bytes,
             answer: Err(WriterFault::Limit),
             guide: Guide::none(alloc),
+            flow: None,
         });
     };
     let search = FactSearch {
-        setting: exploring(&task, &explored.guide),
+        setting: exploring(&task, known),
         related: &explored.list,
         visits: context.visits(),
     };
@@ -96,7 +129,8 @@ pub(crate) fn judge<'r>(
             relates: false,
         },
     };
-    let list = Worklist::run(alloc, setting, context.visits())?;
+    let rows = explored.list.judged_rows();
+    let list = Worklist::run_with(alloc, setting, context.visits(), rows, Watch::Nothing)?;
     let flow = list.into_flow(alloc, setting)?;
     match certify_flow(alloc, bytes, &explored.said, &flow) {
         Err(WriterFault::NoMemory) => Err(FlowFault::NoMemory),
@@ -104,6 +138,7 @@ pub(crate) fn judge<'r>(
             bytes,
             answer,
             guide,
+            flow: Some(flow),
         }),
     }
 }

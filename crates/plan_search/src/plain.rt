@@ -1,11 +1,13 @@
 // What was found as plain annotations.
 
-use crate::inference::Inference;
-use analysis::{FlowFault, facts_at};
+use crate::inference::{Inference, VISITS};
+use address_map::Rom;
+use analysis::{FlowFault, Task, facts_at};
 use annotations::{Annotations, FactNote, Notes};
 use cert_fields::Facts;
 use explored_plans::{Family, copy_of_split};
-use inferred_rows::ContextPoint;
+use inferred_rows::{ContextPoint, Guide, Manner};
+use inferring::{Setting, Watch, Worklist};
 use std::alloc::Global;
 
 /// The most facts of an address.
@@ -78,6 +80,39 @@ pub fn without_fact(
         }
     }
     with_facts(alloc, said, facts)
+}
+
+/// Whether an analysis with these plain annotations, which widens less than that of `check`, refuses a row. Where it does
+/// `check` does not accept the ROM with them.
+///
+/// # Errors
+///
+/// `NoMemory` where memory was refused.
+pub fn seems_refused(
+    alloc: Global,
+    rom: &Rom,
+    found: &Inference,
+    said: &Annotations,
+) -> Result<bool, FlowFault> {
+    let map = found.base.board.map(rom.len());
+    let Some(task) = Task::of(rom, &map, said) else {
+        return Ok(true);
+    };
+    let guide = Guide::none(alloc);
+    let setting = Setting {
+        task: &task,
+        guide: &guide,
+        manner: Manner {
+            explores: false,
+            relates: false,
+        },
+    };
+    let rows = found.explored.list.judged_rows();
+    match Worklist::run_with(alloc, setting, VISITS, rows, Watch::Everything) {
+        Ok(_) => Ok(false),
+        Err(FlowFault::Limit) => Ok(true),
+        Err(FlowFault::NoMemory) => Err(FlowFault::NoMemory),
+    }
 }
 
 /// Whether all that was given and found can be said without the keys that only a writer that infers reads.

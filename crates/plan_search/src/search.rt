@@ -2,7 +2,7 @@
 
 ghost use Rattle.std.specs.Prelude.{◌≡◌, IfOk, IfSome};
 
-use crate::judged::{Judged, judge};
+use crate::judged::{Judged, judge, judge_with};
 use analysis::FlowFault;
 use cert_writer::WriterFault;
 use explored_plans::{ExploredPlan, Plan, Progress, Search};
@@ -88,6 +88,19 @@ pub fn helping_at<P: Progress>(
     search: &mut Search<P>,
     refused: u16,
 ) -> Result<Option<ExploredPlan>, FlowFault> {
+    search.repeats = false;
+    let found = first_at(search, refused)?;
+    if found.is_some() || !search.has_trials() {
+        return Ok(found);
+    }
+    search.repeats = true;
+    first_at(search, refused)
+}
+
+fn first_at<P: Progress>(
+    search: &mut Search<P>,
+    refused: u16,
+) -> Result<Option<ExploredPlan>, FlowFault> {
     let found = cheap(search, refused)?;
     if found.is_some() || !search.has_trials() {
         return Ok(found);
@@ -162,11 +175,7 @@ fn bettered<'r, P: Progress>(
         }
         _ => return Ok(None),
     };
-    let Some((explored, better)) = first_better(search, bytes, judged, plans)? else {
-        return Ok(None);
-    };
-    search.keep(explored)?;
-    Ok(Some(better))
+    first_better(search, bytes, judged, plans)
 }
 
 /// The same; an accepted plan loses the families that it does not need.
@@ -184,23 +193,71 @@ pub(crate) fn bound_and_lessen<'r, P: Progress>(
     }
 }
 
-/// The first of these plans whose answer is better.
+/// What the writer answers to the first of these plans whose answer is better. The search goes on with that plan.
 fn first_better<'r, P: Progress>(
     search: &mut Search<P>,
     bytes: &'r [u8],
     judged: &Judged<'r>,
     plans: Vec<Plan>,
-) -> Result<Option<(ExploredPlan, Judged<'r>)>, FlowFault>
-    ensures { IfOk result (λ found. IfSome found (λ both. both.1 ≡ bytes.now)) }
+) -> Result<Option<Judged<'r>>, FlowFault>
+    ensures { IfOk result (λ found. IfSome found (λ better. better ≡ bytes.now)) }
 {
     for plan in plans {
-        if let Some(explored) = search.try_plan(plan)? {
-            let other = judge(search.alloc, search.context, bytes, &explored)?;
-            if other.is_better_than(judged) {
-                return Ok(Some((explored, other)));
-            }
+        let better = if search.explored.plan.adds_loops(&plan) {
+            with_loops(search, bytes, judged, plan)?
+        } else {
+            with_other(search, bytes, judged, plan)?
+        };
+        if better.is_some() {
+            return Ok(better);
         }
     }
+    Ok(None)
+}
+
+/// What the writer answers to a plan, if that is better.
+fn with_other<'r, P: Progress>(
+    search: &mut Search<P>,
+    bytes: &'r [u8],
+    judged: &Judged<'r>,
+    plan: Plan,
+) -> Result<Option<Judged<'r>>, FlowFault>
+    ensures { IfOk result (λ found. IfSome found (λ better. better ≡ bytes.now)) }
+{
+    let Some(explored) = search.try_plan(plan)? else {
+        return Ok(None);
+    };
+    let other = judge(search.alloc, search.context, bytes, &explored)?;
+    if !other.is_better_than(judged) {
+        return Ok(None);
+    }
+    search.keep(explored)?;
+    Ok(Some(other))
+}
+
+/// The same for a plan with bounds of more loops. Its rows are the same, and need the facts that they needed before.
+fn with_loops<'r, P: Progress>(
+    search: &mut Search<P>,
+    bytes: &'r [u8],
+    judged: &Judged<'r>,
+    plan: Plan,
+) -> Result<Option<Judged<'r>>, FlowFault>
+    ensures { IfOk result (λ found. IfSome found (λ better. better ≡ bytes.now)) }
+{
+    let Some(before) = search.try_bounds(plan)? else {
+        return Ok(None);
+    };
+    let other = judge_with(
+        search.alloc,
+        search.context,
+        bytes,
+        &search.explored,
+        judged.guide(),
+    )?;
+    if other.is_better_than(judged) {
+        return Ok(Some(other));
+    }
+    search.set_bounds(before)?;
     Ok(None)
 }
 
@@ -216,46 +273,62 @@ fn lessen<'r, P: Progress>(
 {
     let mut judged = judged;
     for place in (0..search.explored.plan.findings.len()).rev() {
-        if let Some(other) = left_out(search, bytes, place)? {
+        let found = if search.explored.plan.is_loop(place) {
+            without_loop(search, bytes, &judged, place)?
+        } else {
+            without_family(search, bytes, place)?
+        };
+        if let Some(other) = found {
             judged = other;
         }
     }
     Ok(judged)
 }
 
-/// The answer without the family at a place, where the plan is accepted without it; the search then keeps that plan.
-fn left_out<'r, P: Progress>(
+/// What the writer answers without the family at a place, if it accepts. The search then goes on without it.
+fn without_family<'r, P: Progress>(
     search: &mut Search<P>,
     bytes: &'r [u8],
     place: usize,
 ) -> Result<Option<Judged<'r>>, FlowFault>
-    ensures { IfOk result (λ found. IfSome found (λ judged. judged ≡ bytes.now)) }
+    ensures { IfOk result (λ found. IfSome found (λ other. other ≡ bytes.now)) }
 {
-    let Some((explored, judged)) = accepted_without(search, bytes, place)? else {
-        return Ok(None);
-    };
-    search.keep(explored)?;
-    Ok(Some(judged))
-}
-
-/// The plan without the family at a place, and its answer, where that accepts.
-fn accepted_without<'r, P: Progress>(
-    search: &Search<P>,
-    bytes: &'r [u8],
-    place: usize,
-) -> Result<Option<(ExploredPlan, Judged<'r>)>, FlowFault>
-    ensures { IfOk result (λ found. IfSome found (λ both. both.1 ≡ bytes.now)) }
-{
-    let plan = search.explored.plan.without(search.alloc, place)?;
-    let Some(explored) = ExploredPlan::of(search.alloc, search.context, plan)? else {
+    let explored = search
+        .explored
+        .without(search.alloc, search.context, place)?;
+    let Some(explored) = explored else {
         return Ok(None);
     };
     if search.explored.is_worse(&explored) {
         return Ok(None);
     }
-    let judged = judge(search.alloc, search.context, bytes, &explored)?;
-    if judged.answer().is_err() {
+    let other = judge(search.alloc, search.context, bytes, &explored)?;
+    if other.answer().is_err() {
         return Ok(None);
     }
-    Ok(Some((explored, judged)))
+    search.keep(explored)?;
+    Ok(Some(other))
+}
+
+/// The same for the bound of a loop. The rows are the same without it.
+fn without_loop<'r, P: Progress>(
+    search: &mut Search<P>,
+    bytes: &'r [u8],
+    judged: &Judged<'r>,
+    place: usize,
+) -> Result<Option<Judged<'r>>, FlowFault>
+    ensures { IfOk result (λ found. IfSome found (λ other. other ≡ bytes.now)) }
+{
+    let plan = search.explored.plan.without(search.alloc, place)?;
+    let before = search
+        .explored
+        .exchange_bounds(search.alloc, search.context, plan)?;
+    if judged.is_accepted_with(search.alloc, &search.explored.said)? {
+        let other = judge(search.alloc, search.context, bytes, &search.explored)?;
+        if other.answer().is_ok() {
+            return Ok(Some(other));
+        }
+    }
+    search.set_bounds(before)?;
+    Ok(None)
 }

@@ -24,6 +24,9 @@ const TRIES: u32 = 6;
 /// How many steps a run from one value takes at most.
 const STEPS: u32 = 400;
 
+/// How many steps a run from the end of a split takes at most.
+const STEPS_AFTER: u32 = 100;
+
 /// How many places at which the parts meet again are tried as the end of a split.
 const ENDS: usize = 6;
 
@@ -51,6 +54,7 @@ pub struct Splitting<'p> {
 
 /// A plan with this split that takes the refusals at an address away. Without an end the parts stay apart the longest:
 /// where that does not help, no end is tried. Otherwise it ends where the parts come together first, if that helps too.
+/// Only what the split distinguishes is explored again; where the search repeats its moves, all is.
 pub fn with_split<P: Progress>(
     search: &mut Search<P>,
     refused: u16,
@@ -68,17 +72,103 @@ pub fn with_split<P: Progress>(
     let rest = (parts.len() as u64)
         .wrapping_mul(16)
         .wrapping_add(code_of(register));
-    if !search.is_new((1, refused, at, rest))? {
+    let kind = if search.repeats { 7 } else { 1 };
+    if !search.is_new((kind, refused, at, rest))? {
         return Ok(None);
     }
-    let Some(open) = split_until(search, refused, splitting, at)? else {
+    if search.repeats {
+        return with_far_end(search, refused, splitting);
+    }
+    match near_split(search, refused, splitting, at)? {
+        Some(open) if search.explored.is_bettered_by(&open, refused) => {
+            with_near_end(search, refused, splitting, &open)
+        }
+        _ => Ok(None),
+    }
+}
+
+/// The first end with which a split helps, or the split without an end. `open` is the split without an end where only
+/// what it distinguishes was explored again. The ends are tried in the same way; what helps so is explored as a whole.
+fn with_near_end<P: Progress>(
+    search: &mut Search<P>,
+    refused: u16,
+    splitting: Splitting,
+    open: &ExploredPlan,
+) -> Result<Option<ExploredPlan>, FlowFault> {
+    let ends = ends_of(search, open, refused, splitting)?;
+    for end in hopeful_first(search, open, splitting, &ends)? {
+        let Some(near) = near_split(search, refused, splitting, end)? else {
+            continue;
+        };
+        if !open.is_worse(&near) && search.explored.is_bettered_by(&near, refused) {
+            let found = whole_split(search, refused, splitting, end)?;
+            if found.is_some() {
+                return Ok(found);
+            }
+        }
+    }
+    whole_split(search, refused, splitting, splitting.at)
+}
+
+/// The plan with a split up to an address, where only what the split distinguishes is explored again.
+fn near_split<P: Progress>(
+    search: &mut Search<P>,
+    refused: u16,
+    splitting: Splitting,
+    until: u16,
+) -> Result<Option<ExploredPlan>, FlowFault> {
+    let Splitting {
+        at,
+        register,
+        parts,
+        ..
+    } = splitting;
+    let split = split_of(search.alloc, at, register, parts, until)?;
+    search.try_split(split, refused)
+}
+
+/// The plan with a split up to an address, explored as a whole, if it helps. It was tried before, and is no trial.
+fn whole_split<P: Progress>(
+    search: &Search<P>,
+    refused: u16,
+    splitting: Splitting,
+    until: u16,
+) -> Result<Option<ExploredPlan>, FlowFault> {
+    let Splitting {
+        at,
+        register,
+        parts,
+        ..
+    } = splitting;
+    let split = split_of(search.alloc, at, register, parts, until)?;
+    let plan = search
+        .explored
+        .plan
+        .with(search.alloc, Family::Split(split), refused)?;
+    let found = search
+        .explored
+        .with_plan(search.alloc, search.context, plan)?;
+    match found {
+        Some(explored) if search.explored.is_bettered_by(&explored, refused) => Ok(Some(explored)),
+        _ => Ok(None),
+    }
+}
+
+/// The same as `with_near_end`, where each plan is explored as a whole.
+fn with_far_end<P: Progress>(
+    search: &mut Search<P>,
+    refused: u16,
+    splitting: Splitting,
+) -> Result<Option<ExploredPlan>, FlowFault> {
+    let Some(open) = split_until(search, refused, splitting, splitting.at)? else {
         return Ok(None);
     };
     if !search.explored.is_cleared_by(&open, refused) {
         return Ok(None);
     }
     let is_open_better = search.explored.is_bettered_by(&open, refused);
-    for end in ends_of(search, &open, refused, splitting)? {
+    let ends = ends_of(search, &open, refused, splitting)?;
+    for end in hopeful_first(search, &open, splitting, &ends)? {
         if let Some(explored) = split_until(search, refused, splitting, end)? {
             let is_no_worse = !is_open_better || !open.is_worse(&explored);
             if is_no_worse && search.explored.is_bettered_by(&explored, refused) {
@@ -150,6 +240,77 @@ fn ends_of<P: Progress>(
         }
     }
     Ok(once)
+}
+
+/// These ends in another order: first those after which a run from the states that meet there comes to no row that is
+/// newly refused. Each part keeps its order.
+fn hopeful_first<P: Progress>(
+    search: &Search<P>,
+    open: &ExploredPlan,
+    splitting: Splitting,
+    ends: &[u16],
+) -> Result<Vec<u16>, FlowFault> {
+    let mut order = Vec::new(search.alloc);
+    let mut others = Vec::new(search.alloc);
+    for end in ends {
+        if is_refused_after(search, open, splitting, *end)? {
+            others.push(*end)?;
+        } else {
+            order.push(*end)?;
+        }
+    }
+    for end in others {
+        order.push(end)?;
+    }
+    Ok(order)
+}
+
+/// Whether a run from the joined states of an open split at an address comes to a row that is newly refused.
+fn is_refused_after<P: Progress>(
+    search: &Search<P>,
+    open: &ExploredPlan,
+    splitting: Splitting,
+    end: u16,
+) -> Result<bool, FlowFault> {
+    let Splitting { proc, at, .. } = splitting;
+    let Some(task) = search.context.task(&open.said) else {
+        return Ok(false);
+    };
+    let mut run = LocalRun::new(search.alloc, &task, &open.list, proc);
+    for row in open.rows_of(search.alloc, Some(proc), end)? {
+        run.arrive(end, &row.state)?;
+    }
+    for _ in 0..STEPS_AFTER {
+        let Some(address) = run.take_waiting() else {
+            return Ok(false);
+        };
+        if address == at {
+            continue;
+        }
+        if let Some(state) = run.state(address) {
+            if is_newly_refused(search, open, proc, address, state)? {
+                return Ok(true);
+            }
+        }
+        for (to, state) in run.sent(search.alloc, address)? {
+            run.arrive(to, &state)?;
+        }
+    }
+    Ok(false)
+}
+
+/// Whether a state is refused at an address of a procedure where nothing was refused.
+fn is_newly_refused<P: Progress>(
+    search: &Search<P>,
+    open: &ExploredPlan,
+    proc: u32,
+    address: u16,
+    state: &AbsState,
+) -> Result<bool, FlowFault> {
+    if open.refuses_at(proc, address) {
+        return Ok(false);
+    }
+    open.refuses(search.alloc, search.context, proc, address, state)
 }
 
 /// How many parts each address of a procedure has.
@@ -299,7 +460,7 @@ fn comes_to<P: Progress>(
 ) -> Result<Passing, FlowFault> {
     let alloc = search.alloc;
     if at == refused {
-        return Ok(passing_at(search, proc, refused, state));
+        return passing_at(search, proc, refused, state);
     }
     let Some(task) = search.context.task(&search.explored.said) else {
         return Ok(Passing::Refused);
@@ -309,10 +470,10 @@ fn comes_to<P: Progress>(
     if !run.run_to(alloc, refused, STEPS)? {
         return Ok(Passing::Refused);
     }
-    Ok(match run.state(refused) {
+    match run.state(refused) {
         Some(state) => passing_at(search, proc, refused, state),
-        None => Passing::Missed,
-    })
+        None => Ok(Passing::Missed),
+    }
 }
 
 fn passing_at<P: Progress>(
@@ -320,15 +481,15 @@ fn passing_at<P: Progress>(
     proc: u32,
     refused: u16,
     state: &AbsState,
-) -> Passing {
-    if search
+) -> Result<Passing, FlowFault> {
+    let is_refused = search
         .explored
-        .refuses(search.alloc, search.context, proc, refused, state)
-    {
+        .refuses(search.alloc, search.context, proc, refused, state)?;
+    Ok(if is_refused {
         Passing::Refused
     } else {
         Passing::Passed
-    }
+    })
 }
 
 /// A part for each value.

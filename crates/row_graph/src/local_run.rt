@@ -2,7 +2,7 @@
 
 use abs_state::AbsState;
 use abs_step::NextKind;
-use analysis::{FlowFault, Task, joined, judged_row, sub_of};
+use analysis::{FlowFault, Task, joined, sub_of};
 use board_fetch::fetch;
 use inferred_rows::ContextPoint;
 use inferring::Worklist;
@@ -120,8 +120,8 @@ pub(crate) fn send(
     sent: &mut Vec<(u16, AbsState)>,
 ) -> Result<(), FlowFault> {
     let place = ContextPoint::at(proc, address).plain();
-    let judged = judged_row(alloc, task, place, list.is_timed(proc), state);
-    let Some(nexts) = &judged.nexts else {
+    let judged = list.judged_at(alloc, task, place, state)?;
+    let Some(nexts) = &judged.as_ref().nexts else {
         return Ok(());
     };
     for next in nexts.as_slice() {
@@ -133,12 +133,8 @@ pub(crate) fn send(
                 };
                 let after = address.wrapping_add(u16::from(len));
                 let callee = sub_of(next.address);
-                for (_, row) in list.rows().range(
-                    ContextPoint::first_of(callee)..=ContextPoint::last_of(callee),
-                ) {
-                    if let Some(exit) = &row.exit {
-                        sent.push((after, next.state.after_call(exit)))?;
-                    }
+                for exit in list.exits_of(alloc, callee)? {
+                    sent.push((after, next.state.after_call(&exit)))?;
                 }
             }
             NextKind::Exit => {}

@@ -4,7 +4,7 @@ use crate::local_run::{LocalRun, send};
 use crate::natural_loop::NaturalLoop;
 use abs_state::AbsState;
 use abs_step::NextKind;
-use analysis::{FlowFault, Task, joined, judged_row};
+use analysis::{FlowFault, Task, joined};
 use inferred_rows::ContextPoint;
 use inferring::Worklist;
 use std::alloc::Global;
@@ -108,9 +108,8 @@ fn entering(
     for caller in list.callers_of(alloc, proc)? {
         if let Some(row) = list.row(caller) {
             let point = ContextPoint::of(caller);
-            let timed = list.is_timed(point.proc);
-            let judged = judged_row(alloc, task, point.plain(), timed, &row.state);
-            if let Some(nexts) = &judged.nexts {
+            let judged = list.judged_at(alloc, task, point.plain(), &row.state)?;
+            if let Some(nexts) = &judged.as_ref().nexts {
                 for next in nexts.as_slice() {
                     if next.kind == NextKind::Call && next.address == of.head {
                         join_into(&mut found, &next.state.callee(), cells);

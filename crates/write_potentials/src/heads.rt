@@ -134,9 +134,11 @@ fn head_of(
     Ok(Head {
         row,
         turn,
+        bare_turn: turn,
         longest_turn,
         has_own_turns: own.is_some(),
         is_zero: false,
+        waits: false,
     })
 }
 

@@ -11,6 +11,9 @@ use write_requests::Requests;
 /// The least constant of a potential.
 const LOWEST: i32 = -1_000_000_000;
 
+/// Of so many loops at most turns with loops within them are found.
+const NESTED: usize = 16;
+
 /// A constant above those of most potentials. With it a row pays for everything but its loop's own turns.
 const HIGH: i32 = 250_000_000;
 
@@ -20,12 +23,16 @@ pub(crate) struct Head {
     pub(crate) row: u16,
     /// The multiple of its counter that a turn costs.
     pub(crate) turn: Linear,
+    /// The same without the turns of loops within it.
+    pub(crate) bare_turn: Linear,
     /// The multiple for the longest turn of the group, which may pass other loops' rows.
     pub(crate) longest_turn: Linear,
     /// Whether it has own turns, which pass no other loop's row.
     pub(crate) has_own_turns: bool,
     /// Whether its constant is 0, because none pays.
     pub(crate) is_zero: bool,
+    /// Whether what a turn costs is still to be found: until then its constant is the least one.
+    pub(crate) waits: bool,
 }
 
 /// The rows of a group: the loops' rows, and the others, each after those others to which it links.
@@ -178,71 +185,73 @@ impl<'a> Solving<'a> {
         self.settle(group, Choice::WithTerms).unwrap_or(false)
     }
 
-    /// Makes the potentials of a group with loops within loops. Where the constant of an outer loop's row grows from
-    /// round to round, a turn of it costs so much more, and the rounds start again. The result is whether they come to
-    /// rest.
+    /// Makes the potentials of a group with loops within loops: first what a turn of each costs. The result is whether
+    /// they come to rest. If not, the turns are as before.
     fn comes_to_rest_nested(&mut self, group: &mut Group) -> bool {
-        for _ in 0..group.heads.len().saturating_mul(3).saturating_add(3) {
-            if self.comes_to_rest(group) {
-                return true;
-            }
-            if !self.raise_turn(group) {
-                return false;
-            }
+        if self.finds_turns(group) && self.comes_to_rest(group) {
+            return true;
         }
+        restore_turns(&mut group.heads);
         false
     }
 
-    /// Raises the cost of a turn of the innermost outer loop whose constant grows in one of the next rounds, by as much
-    /// as it grows. What a loop's row needs comes to it through the rows of the other loops, so a round for each suffices.
-    fn raise_turn(&mut self, group: &mut Group) -> bool {
+    /// Finds what a turn of each loop costs, with the turns of the loops within it. A loop waits until these are found.
+    /// The result is whether all are.
+    fn finds_turns(&mut self, group: &mut Group) -> bool {
+        if group.heads.len() > NESTED {
+            return false;
+        }
+        for head in &mut group.heads {
+            head.waits = true;
+        }
         for _ in 0..group.heads.len() {
-            if self.make_each(&group.others, Choice::WithTerms).is_err() {
+            let Some((place, turn)) = self.next_turn(group) else {
                 return false;
-            }
-            if let Some((place, turn)) = self.grown_turn(&group.heads) {
-                if let Some(head) = group.heads.get_mut(place) {
-                    head.turn = turn;
-                    return true;
-                }
-            }
-            if self.raise(&group.heads).is_err() {
-                return false;
+            };
+            if let Some(head) = group.heads.get_mut(place) {
+                head.turn = turn;
+                head.waits = false;
             }
         }
-        false
+        true
     }
 
-    /// The place of the innermost outer loop's row whose constant grows in this round, and its turn with the growth.
-    fn grown_turn(&self, heads: &[Head]) -> Option<(usize, Linear)> {
-        let mut least = i32::MAX;
-        let mut best = None;
-        for (place, head) in heads.iter().enumerate() {
-            if let Some((cost, turn)) = self.turn_with_growth(head) {
-                if cost < least {
-                    least = cost;
-                    best = Some((place, turn));
+    /// The first waiting loop, by its place, of which each loop within it waits no more, and the multiple of its counter
+    /// that a turn costs.
+    fn next_turn(&mut self, group: &Group) -> Option<(usize, Linear)> {
+        for place in 0..group.heads.len() {
+            let head = group.heads.get(place).copied()?;
+            if head.waits {
+                if let Some(turn) = self.turn_of(group, &head) {
+                    return Some((place, turn));
                 }
             }
         }
-        best
+        None
     }
 
-    /// The cost of a turn of an outer loop whose row's constant grows in this round, with the growth, and the multiple
-    /// of its counter.
-    fn turn_with_growth(&self, head: &Head) -> Option<(i32, Linear)> {
-        if head.has_own_turns || head.is_zero {
+    /// The multiple of a loop's counter that a turn of it costs: what its row needs beyond a high constant to come back to
+    /// itself. None if each turn passes a row of a loop that waits.
+    fn turn_of(&mut self, group: &Group, head: &Head) -> Option<Linear> {
+        self.begin(&group.heads);
+        self.keep(head.row, Linear::of_constant(HIGH)?);
+        if !self.settle(group, Choice::WithTerms).ok()? {
             return None;
         }
-        let before = self.potential(usize::from(head.row)).constant();
-        let more = self.least_of(head).ok()?.constant().checked_sub(before)?;
-        if more <= 0 {
+        let requests = self.all.get(usize::from(head.row))?;
+        let payer = self.payer(head.row, requests)?;
+        let needed = payer.least_with(&Linear::zero(), &self.known).ok()?;
+        let cost = needed.constant().checked_sub(HIGH)?;
+        if cost <= 0 {
             return None;
         }
         let term = head.turn.terms().first().copied()?;
-        let cost = term.coefficient.checked_abs()?.checked_add(more)?;
-        let signed = if term.coefficient < 0 { -cost } else { cost };
-        Some((cost, multiple_of(term.variable, signed)?))
+        let signed = if term.coefficient < 0 {
+            cost.checked_neg()?
+        } else {
+            cost
+        };
+        multiple_of(term.variable, signed)
     }
 
     /// Gives the loops' rows their lowest potentials, or the constant 0 to those that are to have it.
@@ -250,6 +259,8 @@ impl<'a> Solving<'a> {
         for head in heads {
             let lowest = if head.is_zero {
                 head.turn
+            } else if head.waits {
+                Linear::of_constant(LOWEST).unwrap_or(Linear::zero())
             } else {
                 with_constant(&head.turn, LOWEST).unwrap_or(head.turn)
             };
@@ -276,10 +287,10 @@ impl<'a> Solving<'a> {
         Ok(())
     }
 
-    /// Makes the potentials of loops' rows. The result is whether one changed.
+    /// Makes the potentials of loops' rows that do not wait. The result is whether one changed.
     fn raise(&mut self, heads: &[Head]) -> Result<bool, Unpaid> {
         let mut changed = false;
-        for head in heads {
+        for head in heads.iter().filter(|head| !head.waits) {
             let potential = self.least_of(head)?;
             if self.keep(head.row, potential) {
                 changed = true;
@@ -356,6 +367,14 @@ fn give_first_up(heads: &mut [Head]) {
     };
     if let Some(place) = first {
         set_zero(heads, place);
+    }
+}
+
+/// Gives each of these rows the turn without those of loops within it.
+fn restore_turns(heads: &mut [Head]) {
+    for head in heads {
+        head.turn = head.bare_turn;
+        head.waits = false;
     }
 }
 

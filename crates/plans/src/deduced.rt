@@ -6,7 +6,6 @@ use analysis::FlowFault;
 use annotations::Given;
 use board_fetch::fetch;
 use cert_lines::BoardMap;
-use inferring::Worklist;
 use std::alloc::Global;
 use std::collections::BTreeSet;
 use z80_decode::{Instr, Register16};

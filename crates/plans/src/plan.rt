@@ -145,6 +145,25 @@ impl Plan {
         Ok(Plan { findings })
     }
 
+    /// Whether another plan, which was made of this one by adding families, has only bounds of loops more.
+    pub fn adds_loops(&self, other: &Plan) -> bool {
+        let before = self.findings.len();
+        other.findings.len() > before
+            && other
+                .findings
+                .iter()
+                .skip(before)
+                .all(|finding| matches!(&finding.family, Family::Loop(_)))
+    }
+
+    /// Whether the family at a place is the bound of a loop.
+    pub fn is_loop(&self, place: usize) -> bool {
+        match self.findings.get(place) {
+            Some(finding) => matches!(&finding.family, Family::Loop(_)),
+            None => false,
+        }
+    }
+
     /// A copy without the families of cells.
     ///
     /// # Errors
