@@ -5,7 +5,7 @@ use abs_state::AbsState;
 use analysis::{FlowFault, Task};
 use annotations::Annotations;
 use inferred_rows::{ContextPoint, Guide, InferredRow, JudgedRows, Manner};
-use inferring::{RowEdge, Setting, Span, Watch, Worklist};
+use inferring::{RowEdge, Setting, SplitReach, Watch, Worklist};
 use plans::Plan;
 use std::alloc::Global;
 use std::collections::BTreeMap;
@@ -151,7 +151,7 @@ impl ExploredPlan {
         context: &SearchContext,
         plan: Plan,
         edges: &[RowEdge],
-        span: Span,
+        reach: SplitReach,
         watched: u16,
     ) -> Result<Option<ExploredPlan>, FlowFault> {
         let said = plan.annotations(alloc, context.base())?;
@@ -166,7 +166,7 @@ impl ExploredPlan {
             context.visits(),
             &self.list,
             edges,
-            span,
+            reach,
             Watch::Address(watched),
         );
         let list = match found {

@@ -6,7 +6,7 @@ use crate::search_context::SearchContext;
 use analysis::FlowFault;
 use annotations::SplitNote;
 use board_fetch::fetch;
-use inferring::{RowEdge, Span};
+use inferring::{RowEdge, SplitReach};
 use plans::{Family, Plan};
 use row_graph::{FlowGraph, NaturalLoop, loops_of};
 use std::alloc::Global;
@@ -135,7 +135,7 @@ impl<'s, P: Progress> Search<'s, P> {
         }
         self.progress.tell(self.left, self.explored.refused.len());
         self.left = self.left.saturating_sub(1);
-        let span = Span {
+        let reach = SplitReach {
             at: split.at,
             until: split.until,
         };
@@ -143,7 +143,7 @@ impl<'s, P: Progress> Search<'s, P> {
             .explored
             .plan
             .with(self.alloc, Family::Split(split), wanted_at)?;
-        self.explored.with_split(self.alloc, self.context, plan, &self.edges, span, wanted_at)
+        self.explored.with_split(self.alloc, self.context, plan, &self.edges, reach, wanted_at)
     }
 
     /// Takes a plan that differs in the bounds of loops alone, as a trial. The result is the plan before; None if no

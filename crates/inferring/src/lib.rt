@@ -10,5 +10,5 @@ mod resuming;
 mod worklist;
 
 pub use arriving::{Arriving, ArrivingKind};
-pub use resuming::Span;
+pub use resuming::SplitReach;
 pub use worklist::{RowEdge, Setting, Watch, Worklist};

@@ -11,7 +11,7 @@ use std::collections::BTreeSet;
 
 /// Where an added split begins and ends. If these are the same, it has no end.
 #[derive(Clone, Copy)]
-pub struct Span {
+pub struct SplitReach {
     pub at: u16,
     pub until: u16,
 }
@@ -32,10 +32,10 @@ impl Worklist {
         visits: u32,
         before: &Worklist,
         edges: &[RowEdge],
-        span: Span,
+        reach: SplitReach,
         watched: Watch,
     ) -> Result<Worklist, FlowFault> {
-        let lost = lost_rows(alloc, before, edges, span)?;
+        let lost = lost_rows(alloc, before, edges, reach)?;
         let judged = before.judged_rows().shared(setting.task)?;
         let mut list = Worklist::empty(alloc, setting, judged)?;
         list.watched = watched;
@@ -103,12 +103,12 @@ fn lost_rows(
     alloc: Global,
     before: &Worklist,
     edges: &[RowEdge],
-    span: Span,
+    reach: SplitReach,
 ) -> Result<BTreeSet<u64>, FlowFault> {
     let mut lost = BTreeSet::new(alloc);
     let mut todo = Vec::new(alloc);
     for (number, _) in before.rows.iter() {
-        if ContextPoint::of(*number).address == span.at {
+        if ContextPoint::of(*number).address == reach.at {
             lost.insert(*number)?;
             todo.push(*number)?;
         }
@@ -118,7 +118,7 @@ fn lost_rows(
             break;
         };
         for edge in edges_from(edges, number) {
-            let is_end = span.until != span.at && ContextPoint::of(edge.to).address == span.until;
+            let is_end = reach.until != reach.at && ContextPoint::of(edge.to).address == reach.until;
             if edge.kind != ArrivingKind::Call && !is_end && lost.insert(edge.to)? {
                 todo.push(edge.to)?;
             }
