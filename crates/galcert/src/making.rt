@@ -43,7 +43,7 @@ pub fn check_files<'a>(rt: &'a HostRuntime, matches: &ArgMatches<'a>) -> u8 {
         report(rt, "ANNOT is missing; --infer finds annotations without it");
         return ExitStatus::Usage.code();
     }
-    let (Some(trials), Some(limits)) = (trials_of(rt, matches), limits(rt, matches)) else {
+    let (Some(trials), Some(limits)) = (trials_of(rt, matches), limits_of(rt, matches)) else {
         return ExitStatus::Usage.code();
     };
     if let Some(clash) = clash_of(rt, matches, &INPUTS, Some(CERT_FILE)) {

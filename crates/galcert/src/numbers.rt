@@ -41,7 +41,7 @@ pub struct Limits {
 }
 
 /// The limits that are said. If a word is out of form, it is reported.
-pub fn limits(rt: &HostRuntime, matches: &ArgMatches) -> Option<Limits> {
+pub fn limits_of(rt: &HostRuntime, matches: &ArgMatches) -> Option<Limits> {
     Some(Limits {
         stack: number_of(rt, matches, MAX_STACK, u32::MAX)?,
         nmi: number_of(rt, matches, MAX_NMI, u32::MAX)?,

@@ -15,7 +15,7 @@ use watched_sinks::Watched;
 
 /// `galcert verify`. The result is the exit status.
 pub fn verify_files<'a>(rt: &'a HostRuntime, matches: &ArgMatches<'a>) -> u8 {
-    let Some(limits) = limits(rt, matches) else {
+    let Some(limits) = limits_of(rt, matches) else {
         return ExitStatus::Usage.code();
     };
     if let Some(clash) = clash_of(rt, matches, &["ROM", "CERT", SYMBOLS, LISTING], None) {
