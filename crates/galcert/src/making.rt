@@ -3,7 +3,7 @@
 use crate::devices::{Input, Out, clash_of, input, output, stderr, stdout};
 use crate::ending::{Used, end, report, report_clash};
 use crate::naming::{has_names, has_reports, names, optional, tell_refused};
-use crate::numbers::{Limits, limits, number_of};
+use crate::numbers::{Limits, limits_of, number_of};
 use crate::reporter::Reporter;
 use clap::ArgMatches;
 use command_parts::ExitStatus;

@@ -3,7 +3,7 @@
 use crate::devices::{Out, clash_of, input, stderr, stdout};
 use crate::ending::{Used, end, report, report_clash};
 use crate::naming::{has_names, names, tell_refused};
-use crate::numbers::limits;
+use crate::numbers::limits_of;
 use clap::ArgMatches;
 use command_parts::ExitStatus;
 use command_words::{LISTING, QUIET, SYMBOLS, word};
