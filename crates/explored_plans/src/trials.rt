@@ -8,7 +8,7 @@ use analysis::FlowFault;
 use board_fetch::fetch;
 use row_graph::{FlowGraph, NaturalLoop, loops_of};
 use std::alloc::Global;
-use std::collections::BTreeMap;
+use std::collections::BTreeSet;
 use std::mem::replace;
 use z80_decode::Instr;
 
@@ -25,10 +25,7 @@ pub struct Search<'s, P: Progress> {
     pub graph: FlowGraph,
     /// How many trials are left.
     pub left: u32,
-    /// Whether moves that were tried with fewer findings are tried again.
-    pub repeats: bool,
-    /// What was tried, each with the number of findings that the plan had then.
-    tried: BTreeMap<Attempt, usize>,
+    tried: BTreeSet<Attempt>,
     progress: &'s mut P,
 }
 
@@ -56,8 +53,7 @@ impl<'s, P: Progress> Search<'s, P> {
             explored,
             graph,
             left: trials,
-            repeats: false,
-            tried: BTreeMap::new(alloc),
+            tried: BTreeSet::new(alloc),
             progress,
         })
     }
@@ -86,17 +82,9 @@ impl<'s, P: Progress> Search<'s, P> {
         self.graph = before.graph;
     }
 
-    /// Whether a move is new; from now on it is not. Where the search repeats moves, one that was tried on a plan with
-    /// another number of findings is new too.
+    /// Whether a move is new; from now on it is not.
     pub fn is_new(&mut self, attempt: Attempt) -> Result<bool, FlowFault> {
-        let findings = self.explored.plan.findings.len();
-        match self.tried.get(&attempt).copied() {
-            Some(before) if !self.repeats || before == findings => Ok(false),
-            _ => {
-                self.tried.insert(attempt, findings)?;
-                Ok(true)
-            }
-        }
+        Ok(self.tried.insert(attempt)?)
     }
 
     pub fn has_trials(&self) -> bool {

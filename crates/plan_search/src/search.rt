@@ -34,17 +34,6 @@ pub(crate) fn clear<P: Progress>(search: &mut Search<P>) -> Result<(), FlowFault
 /// The first move that helps: what is cheap first, then cells, then what costs trials. Rows that lead nowhere come
 /// before others, since more code is reached from them.
 fn helping<P: Progress>(search: &mut Search<P>) -> Result<Option<ExploredPlan>, FlowFault> {
-    search.repeats = false;
-    let found = first_helping(search)?;
-    if found.is_some() || !search.has_trials() {
-        return Ok(found);
-    }
-    search.repeats = true;
-    first_helping(search)
-}
-
-/// The first new move that helps; None if none does.
-fn first_helping<P: Progress>(search: &mut Search<P>) -> Result<Option<ExploredPlan>, FlowFault> {
     let refused = in_order(search)?;
     for address in refused.as_slice() {
         let found = cheap(search, *address)?;

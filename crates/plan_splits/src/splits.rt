@@ -49,8 +49,8 @@ pub struct Splitting<'p> {
     pub ends: &'p [u16],
 }
 
-/// A plan with this split that takes the refusals at an address away. Without an end the parts stay apart the longest:
-/// where that does not help, no end is tried. Otherwise it ends where the parts come together first, if that helps too.
+/// A plan with this split that takes the refusals at an address away. Of the ends that do, the one with the fewest
+/// rows. Without an end the parts stay apart the longest: where that does not help, no end is tried.
 pub fn with_split<P: Progress>(
     search: &mut Search<P>,
     refused: u16,
@@ -65,8 +65,9 @@ pub fn with_split<P: Progress>(
     if parts.len() < 2 || search.explored.plan.has_split(search.context.base(), at) {
         return Ok(None);
     }
-    let rest = (parts.len() as u64)
-        .wrapping_mul(16)
+    let rest = (search.explored.plan.findings.len() as u64)
+        .wrapping_mul(0x1_0000)
+        .wrapping_add((parts.len() as u64).wrapping_mul(16))
         .wrapping_add(code_of(register));
     if !search.is_new((1, refused, at, rest))? {
         return Ok(None);
@@ -77,16 +78,29 @@ pub fn with_split<P: Progress>(
     if !search.explored.is_cleared_by(&open, refused) {
         return Ok(None);
     }
-    let is_open_better = search.explored.is_bettered_by(&open, refused);
-    for end in ends_of(search, &open, refused, splitting)? {
+    let ends = ends_of(search, &open, refused, splitting)?;
+    let mut best = None;
+    let mut least = usize::MAX;
+    if search.explored.is_bettered_by(&open, refused) {
+        least = open.list.rows().len();
+        best = Some(open);
+    }
+    for end in ends {
         if let Some(explored) = split_until(search, refused, splitting, end)? {
-            let is_no_worse = !is_open_better || !open.is_worse(&explored);
-            if is_no_worse && search.explored.is_bettered_by(&explored, refused) {
-                return Ok(Some(explored));
+            let rows = explored.list.rows().len();
+            if rows < least && search.explored.is_bettered_by(&explored, refused) {
+                let is_no_worse = match &best {
+                    Some(best) => !best.is_worse(&explored),
+                    None => true,
+                };
+                if is_no_worse {
+                    least = rows;
+                    best = Some(explored);
+                }
             }
         }
     }
-    Ok(is_open_better.then_some(open))
+    Ok(best)
 }
 
 /// The plan with a split up to an address.
@@ -106,8 +120,8 @@ fn split_until<P: Progress>(
     search.try_family(Family::Split(split), refused)
 }
 
-/// The addresses that are tried as the end of a split: those given, the one after the refused row if it is reached, and
-/// those after it where the most parts come together, the nearest first.
+/// The addresses that are tried as the end of a split: those given, the one after the refused row, and those after
+/// it where the most parts come together.
 fn ends_of<P: Progress>(
     search: &Search<P>,
     open: &ExploredPlan,
@@ -119,10 +133,7 @@ fn ends_of<P: Progress>(
         ends.push(*end)?;
     }
     if let Ok((_, len)) = fetch(search.context.rom(), refused) {
-        let behind = refused.wrapping_add(u16::from(len));
-        if !open.rows_at(behind).is_empty() {
-            ends.push(behind)?;
-        }
+        ends.push(refused.wrapping_add(u16::from(len)))?;
     }
     let graph = FlowGraph::of(search.alloc, &open.edges(search.alloc, search.context)?)?;
     let distances = graph.distances(search.alloc, splitting.proc, splitting.at)?;
