@@ -36,11 +36,7 @@ pub fn for_loop<P: Progress>(
 }
 
 /// The notes of a plan by which a loop is bounded: those of the loops around its address, or all; None if neither does.
-fn bounding(
-    case: &Case,
-    other: &ExploredPlan,
-    at: u16,
-) -> Result<Option<Annotations>, FlowFault> {
+fn bounding(case: &Case, other: &ExploredPlan, at: u16) -> Result<Option<Annotations>, FlowFault> {
     let own = loops_around(case, other, at)?;
     let said = merged(case.alloc, case.said, &own)?;
     if is_bounded(case.alloc, case.bytes, &said, at)? {
