@@ -15,9 +15,9 @@ import threading
 TAKEN = {"main": ["words"], "need": ["crate"], "rtlib.Crate.below": ["self"]}
 # Some kits remember the sums by themselves, by a function of this name. The others sum by this one.
 REMEMBERS, SUMS = "stamp_once", {"rtlib.Crate.stamp": ["self"]}
-# The share of the memory that `rt` sets aside for a check, which the check takes. By that memory `rt ci` decides how many
-# checks run side by side. `rt` sets 3.4 GB aside for `cert_lines`, which took 1.8, and 6.1 for `plan_search`, which took
-# 4.7 (2026-11-28): so two or three checks ran where four could.
+# The share of the memory that `rt` sets aside for a check, which this module sets aside. By that memory `rt ci` decides how
+# many checks run side by side. Most checks take a third to two thirds of what `rt` sets aside, `named_commands` four fifths
+# (2026-11-28, over libraries with statements alone). With all of it two or three checks ran where four could.
 SHARE = 0.6
 
 

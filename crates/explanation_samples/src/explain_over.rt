@@ -56,12 +56,12 @@ pub fn explain_with_listing(
     infers: bool,
     out: Taken,
 ) -> Explained {
-    let has_listing = !listing.is_empty();
+    let (has_symbols, has_listing) = (!symbols.is_empty(), !listing.is_empty());
     let (mut rom, mut second) = (Bytes::whole(rom), Bytes::whole(second));
     let (mut symbols, mut listing) = (Bytes::whole(symbols), Bytes::whole(listing));
     let mut out = out;
     let files = NameFiles {
-        symbols: Some("game.sym"),
+        symbols: has_symbols.then_some("game.sym"),
         listing: has_listing.then_some("game.lst"),
     };
     let names = match read_names(alloc, files, &mut symbols, &mut listing, &mut out) {

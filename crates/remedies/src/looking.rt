@@ -305,12 +305,7 @@ impl Remedies {
         let mut facts = facts;
         let mut added = added;
         for kind in first_of_kinds(case.alloc, &facts)? {
-            let mut fewer: Vec<FactNote> = Vec::new(case.alloc);
-            for fact in facts.as_slice() {
-                if !is_of_kind(fact, &kind) {
-                    fewer.push(*fact)?;
-                }
-            }
+            let fewer = without_kind(case.alloc, &facts, &kind)?;
             if fewer.is_empty() {
                 continue;
             }
@@ -322,13 +317,22 @@ impl Remedies {
         if facts.len() > FEW {
             return Ok(Remedy::Notes(added));
         }
+        self.without_each(case, address, notes, facts, added)
+    }
+
+    /// The same without each fact that is not needed, the last ones first.
+    fn without_each(
+        &mut self,
+        case: &Case,
+        address: u16,
+        notes: &Annotations,
+        facts: Vec<FactNote>,
+        added: Annotations,
+    ) -> Result<Remedy, FlowFault> {
+        let mut facts = facts;
+        let mut added = added;
         for place in (0..facts.len()).rev() {
-            let mut fewer: Vec<FactNote> = Vec::new(case.alloc);
-            for (at, fact) in facts.iter().enumerate() {
-                if at != place {
-                    fewer.push(*fact)?;
-                }
-            }
+            let fewer = without_place(case.alloc, &facts, place)?;
             if let Some(less) = self.if_facts_help(case, address, notes, &fewer)? {
                 facts = fewer;
                 added = less;
@@ -336,6 +340,36 @@ impl Remedies {
         }
         Ok(Remedy::Notes(added))
     }
+}
+
+/// The facts that are not of the kind of another one.
+fn without_kind(
+    alloc: Global,
+    facts: &[FactNote],
+    kind: &FactNote,
+) -> Result<Vec<FactNote>, FlowFault> {
+    let mut fewer: Vec<FactNote> = Vec::new(alloc);
+    for fact in facts {
+        if !is_of_kind(fact, kind) {
+            fewer.push(*fact)?;
+        }
+    }
+    Ok(fewer)
+}
+
+/// The facts but the one at a place.
+fn without_place(
+    alloc: Global,
+    facts: &[FactNote],
+    place: usize,
+) -> Result<Vec<FactNote>, FlowFault> {
+    let mut fewer: Vec<FactNote> = Vec::new(alloc);
+    for (at, fact) in facts.iter().enumerate() {
+        if at != place {
+            fewer.push(*fact)?;
+        }
+    }
+    Ok(fewer)
 }
 
 /// Whether two facts are over the same variables, with the same coefficients.

@@ -5,7 +5,8 @@ use crate::looking::{Remedy, has_plain_form};
 use crate::merging::{add_loop, added_of, merged, only_loops};
 use crate::tried::is_bounded;
 use analysis::FlowFault;
-use explored_plans::{Family, Progress, Search};
+use annotations::Annotations;
+use explored_plans::{ExploredPlan, Family, Progress, Search};
 use plan_loops::{with_counters, with_other_bounds};
 
 /// The counter of a loop that is unbounded at an address.
@@ -23,33 +24,8 @@ pub fn for_loop<P: Progress>(
         let Some(other) = search.try_plan(plan)? else {
             continue;
         };
-        let added = added_of(case.alloc, case.said, &other.said)?;
-        let mut own = Vec::new(case.alloc);
-        for finding in other.plan.findings.as_slice() {
-            if let Family::Loop(note) = &finding.family {
-                if case.is_around(note.at, at)? && !note.rises {
-                    add_loop(&mut own, note)?;
-                }
-            }
-        }
-        let own = only_loops(case.alloc, case.said, own);
-        if is_bounded(
-            case.alloc,
-            case.bytes,
-            &merged(case.alloc, case.said, &own)?,
-            at,
-        )? {
-            return Ok(Remedy::Notes(own));
-        }
-        if has_plain_form(&other)
-            && is_bounded(
-                case.alloc,
-                case.bytes,
-                &merged(case.alloc, case.said, &added)?,
-                at,
-            )?
-        {
-            return Ok(Remedy::Notes(added));
+        if let Some(notes) = bounding(case, &other, at)? {
+            return Ok(Remedy::Notes(notes));
         }
         is_found = true;
     }
@@ -57,6 +33,38 @@ pub fn for_loop<P: Progress>(
         Remedy::Unknown if is_found => Ok(Remedy::Unknown),
         remedy => Ok(remedy),
     }
+}
+
+/// The notes of a plan by which a loop is bounded: those of the loops around its address, or all; None if neither does.
+fn bounding(case: &Case, other: &ExploredPlan, at: u16) -> Result<Option<Annotations>, FlowFault> {
+    let own = loops_around(case, other, at)?;
+    let said = merged(case.alloc, case.said, &own)?;
+    if is_bounded(case.alloc, case.bytes, &said, at)? {
+        return Ok(Some(own));
+    }
+    if !has_plain_form(other) {
+        return Ok(None);
+    }
+    let added = added_of(case.alloc, case.said, &other.said)?;
+    let said = merged(case.alloc, case.said, &added)?;
+    if is_bounded(case.alloc, case.bytes, &said, at)? {
+        Ok(Some(added))
+    } else {
+        Ok(None)
+    }
+}
+
+/// What a plan says of the loops around an address.
+fn loops_around(case: &Case, other: &ExploredPlan, at: u16) -> Result<Annotations, FlowFault> {
+    let mut own = Vec::new(case.alloc);
+    for finding in other.plan.findings.as_slice() {
+        if let Family::Loop(note) = &finding.family {
+            if case.is_around(note.at, at)? && !note.rises {
+                add_loop(&mut own, note)?;
+            }
+        }
+    }
+    Ok(only_loops(case.alloc, case.said, own))
 }
 
 /// Another bound of a loop around an address, for its time.
