@@ -118,7 +118,7 @@ fn fitted<'r, P: Progress>(
         return Err(FlowFault::Limit);
     };
     let mut search = Search::of(alloc, &context, explored, left, progress)?;
-    let Answered { low, judged, stuck } = answered(&mut search, bytes, base, is_last)?;
+    let SearchEnd { low, judged, stuck } = answered(&mut search, bytes, base, is_last)?;
     let Search { explored, left, .. } = search;
     Ok(Fitting {
         explored,
@@ -131,7 +131,7 @@ fn fitted<'r, P: Progress>(
 
 /// What a search comes to, beside its plan: fields as in `Fitting`.
 #[derive(Drop)]
-struct Answered<'r> {
+struct SearchEnd<'r> {
     low: u16,
     judged: Option<Judged<'r>>,
     stuck: Vec<u16>,
@@ -143,7 +143,7 @@ fn answered<'r, P: Progress>(
     bytes: &'r [u8],
     base: &Base,
     is_last: bool,
-) -> Result<Answered<'r>, FlowFault>
+) -> Result<SearchEnd<'r>, FlowFault>
     ensures { IfOk result (λ answered. IfSome answered.judged (λ judged. judged ≡ bytes.now)) }
 {
     clear(search)?;
@@ -154,7 +154,7 @@ fn answered<'r, P: Progress>(
         None
     };
     let stuck = search.explored.refused_addresses(search.alloc)?;
-    Ok(Answered { low, judged, stuck })
+    Ok(SearchEnd { low, judged, stuck })
 }
 
 /// The low end of the stack region that leaves room for this many bytes, one word at least.
