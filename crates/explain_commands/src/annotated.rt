@@ -9,7 +9,7 @@ use analysis::{FlowFault, Task};
 use annotations::{Annotations, Given};
 use cert_writer::{WriterFault, certify};
 use explanation_texts::{add_block, add_head, add_recursion, add_remedy, add_unbounded};
-use explanations::{Explored, Refusal, refusals_of};
+use explanations::{Explored, Refusal, refusals_of, unshown_rows};
 use explored_plans::{Base, ExploredPlan, Plan, Progress, Search, SearchContext};
 use inferred_rows::Guide;
 use inferring::Worklist;
@@ -231,7 +231,9 @@ fn add_refusals<P: Progress>(
     asked: &Asked,
 ) -> Result<(), FlowFault> {
     let alloc = case.alloc;
-    let refusals = refusals_of(alloc, case.explored, first_of(asked.fault))?;
+    let facts = case.said.facts();
+    let unshown = unshown_rows(alloc, case.explored, facts, facts)?;
+    let refusals = refusals_of(alloc, case.explored, first_of(asked.fault), &unshown)?;
     for (count, refusal) in refusals.iter().enumerate() {
         if count >= asked.question.most {
             let more = refusals.len().saturating_sub(count);

@@ -121,6 +121,30 @@ pub const PROGRAMS: &[Program] = &[
         first: "accepted",
     },
     Program {
+        name: "Habit 4: A loop from 4000 or from 4010.",
+        rom: b"\x31\x00\x44\x21\x00\x40\x3A\x00\x60\x1F\x38\x03\x21\x10\x40\x06\x03\x34\x23\x10\xFC\x18\xEC",
+        said: "low = 0x4380\ntop = 0x4400\n",
+        first: "refused 0011 7 WriteUnmapped",
+    },
+    Program {
+        name: "Habit 4, accepted.",
+        rom: b"\x31\x00\x44\x21\x00\x40\x3A\x00\x60\x1F\x38\x03\x21\x10\x40\x06\x03\x34\x2C\x10\xFC\x18\xEC",
+        said: "low = 0x4380\ntop = 0x4400\n",
+        first: "accepted",
+    },
+    Program {
+        name: "Habit 4: A text that ends at a mark.",
+        rom: b"\x31\x00\x44\x21\xE6\x52\x11\x00\x41\x01\xE0\xFF\x1A\xFE\x3F\x28\x05\x77\x13\x09\x18\xF6\x18\xFE",
+        said: "low = 0x4380\ntop = 0x4400\n",
+        first: "refused 0011 7 WriteUnmapped",
+    },
+    Program {
+        name: "Habit 4, accepted.",
+        rom: b"\x31\x00\x44\x21\xE6\x52\x11\x00\x41\x01\xE0\xFF\x7C\xE6\x03\xC6\x50\x67\x1A\xFE\x3F\x28\x05\x77\x13\x09\x18\xF0\x18\xFE",
+        said: "low = 0x4380\ntop = 0x4400\n",
+        first: "accepted",
+    },
+    Program {
         name: "Habit 5: `BIT 7,A` does not bound A.",
         rom: b"\x31\x00\x44\xCD\x08\x00\x18\xFB\x3A\x00\x40\xCB\x7F\xC0\x6F\x26\x43\x36\x01\xC9",
         said: "low = 0x4380\ntop = 0x4400\n",
@@ -145,6 +169,18 @@ pub const PROGRAMS: &[Program] = &[
         first: "accepted",
     },
     Program {
+        name: "Habit 5: A procedure that moves IX on, called as often as a byte of RAM says.",
+        rom: b"\x31\x00\x44\xDD\x21\x81\x53\x3A\x00\x40\x47\x78\xCD\x13\x00\x10\xFA\x18\xFE\xDD\x77\x00\xD5\x11\xE0\xFF\xDD\x19\xD1\xC9",
+        said: "low = 0x4380\ntop = 0x4400\n",
+        first: "refused 0013 7 WriteUnmapped",
+    },
+    Program {
+        name: "Habit 5, accepted.",
+        rom: b"\x31\x00\x44\x21\x81\x53\x3A\x00\x40\x47\x78\xCD\x12\x00\x10\xFA\x18\xFE\x4F\x7C\xE6\x03\xC6\x50\x67\x71\xD5\x11\xE0\xFF\x19\xD1\xC9",
+        said: "low = 0x4380\ntop = 0x4400\n",
+        first: "accepted",
+    },
+    Program {
         name: "Habit 6: The carry goes to H by a jump.",
         rom: b"\x31\x00\x44\x3A\x00\x40\xE6\x01\x87\x21\x16\x00\x85\x6F\x30\x01\x24\x7E\x23\x66\x6F\xE9\x03\x00\x03\x00",
         said: "low = 0x4380\ntop = 0x4400\n",
@@ -153,6 +189,30 @@ pub const PROGRAMS: &[Program] = &[
     Program {
         name: "Habit 6, accepted.",
         rom: b"\x31\x00\x44\x3A\x00\x40\xE6\x01\x87\x5F\x16\x00\x21\x15\x00\x19\x7E\x23\x66\x6F\xE9\x03\x00\x03\x00",
+        said: "",
+        first: "accepted",
+    },
+    Program {
+        name: "Habit 6: An index without a bound.",
+        rom: b"\x31\x00\x44\x3A\x00\x40\x87\x5F\x16\x00\x21\x13\x00\x19\x7E\x23\x66\x6F\xE9\x03\x00\x03\x00\x03\x00",
+        said: "low = 0x4380\ntop = 0x4400\n",
+        first: "refused 0012 12 NotCovered",
+    },
+    Program {
+        name: "Habit 6, accepted.",
+        rom: b"\x31\x00\x44\x3A\x00\x40\xFE\x03\x30\xF9\x87\x5F\x16\x00\x21\x17\x00\x19\x7E\x23\x66\x6F\xE9\x03\x00\x03\x00\x03\x00",
+        said: "",
+        first: "accepted",
+    },
+    Program {
+        name: "Habit 6: A routine that was chosen and chooses again.",
+        rom: b"\x31\x00\x44\xCD\x08\x00\x18\xFB\x3A\x00\x40\xFE\x02\xD0\xCD\x23\x00\x15\x00\x22\x00\x3A\x01\x40\xFE\x02\xD0\xCD\x23\x00\x22\x00\x22\x00\xC9\x87\xE1\x5F\x16\x00\x19\x5E\x23\x56\xEB\xE9",
+        said: "",
+        first: "refused 002D 12 NotCovered",
+    },
+    Program {
+        name: "Habit 6, accepted.",
+        rom: b"\x31\x00\x44\xCD\x08\x00\x18\xFB\x3A\x00\x40\xFE\x02\xD0\xCD\x27\x00\x15\x00\x26\x00\xCD\x19\x00\xC9\x3A\x01\x40\xFE\x02\xD0\xCD\x27\x00\x26\x00\x26\x00\xC9\x87\xE1\x5F\x16\x00\x19\x5E\x23\x56\xEB\xE9",
         said: "",
         first: "accepted",
     },

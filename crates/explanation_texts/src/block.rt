@@ -1,6 +1,6 @@
 // The lines about one refusal.
 
-use crate::habits::habit_of;
+use crate::habits::{Doing, habit_of};
 use crate::known::{add_known, add_near};
 use crate::loops::add_time;
 use crate::remedy::add_remedy;
@@ -17,6 +17,7 @@ use refusal_texts::{
     jump_pair, proc_of_next, rows_at,
 };
 use remedies::Remedy;
+use std::alloc::Global;
 
 /// The name and the number of a reason in brackets: `[6 WriteRom]`.
 fn reason_text(with: &Wording, reason: Reason) -> Result<String, FlowFault> {
@@ -152,6 +153,35 @@ fn variable_of(explored: &Explored, refusal: &Refusal) -> Option<Variable> {
     }
 }
 
+/// What a refused row does, as far as the habit depends on it.
+fn doing_of(
+    alloc: Global,
+    explored: &Explored,
+    row: u64,
+    situation: &Situation,
+) -> Result<Doing, FlowFault> {
+    let point = ContextPoint::of(row);
+    let around = explored.loop_around(alloc, point.proc, point.address)?;
+    Ok(Doing {
+        in_loop: around.is_some(),
+        jumps: jumps_at(explored, row),
+        pops: situation.state.shape.is_empty(),
+        lacks: !explored.lacking(alloc, row)?.is_empty(),
+    })
+}
+
+/// Whether a row is a computed jump, or has no instruction and is reached by one.
+fn jumps_at(explored: &Explored, row: u64) -> bool {
+    let address = ContextPoint::of(row).address;
+    if explored.instr_at(address).is_some() {
+        return pair_of_jump(explored, address).is_some();
+    }
+    explored
+        .incoming(row)
+        .iter()
+        .any(|edge| pair_of_jump(explored, ContextPoint::of(edge.from).address).is_some())
+}
+
 /// Adds the lines about one refused row: where, what, whence, what is known, the annotations in reach, and a remedy.
 ///
 /// # Errors
@@ -166,9 +196,12 @@ pub fn add_block(
 ) -> Result<(), FlowFault> {
     let alloc = with.alloc;
     add_head(text, with, refusal)?;
-    let mut in_loop = false;
-    let jumps = pair_of_jump(explored, refusal.address).is_some();
-    let mut pops = false;
+    let mut doing = Doing {
+        in_loop: false,
+        jumps: pair_of_jump(explored, refusal.address).is_some(),
+        pops: false,
+        lacks: false,
+    };
     let mut astray = false;
     if let Some(row) = refusal.row {
         if let Some(situation) = Situation::at(alloc, explored, row) {
@@ -184,11 +217,7 @@ pub fn add_block(
             }
             add_known(text, with, &situation)?;
             add_near(text, with, explored, row)?;
-            let proc = ContextPoint::of(row).proc;
-            in_loop = explored
-                .loop_around(alloc, proc, refusal.address)?
-                .is_some();
-            pops = situation.state.shape.is_empty();
+            doing = doing_of(alloc, explored, row, &situation)?;
             astray = is_astray(&situation, refusal.reason);
         }
     }
@@ -198,7 +227,7 @@ pub fn add_block(
             "try: no annotation helps; write to an address that is allowed: docs/HABITS.md, 3 \"Keep code and data apart\"",
         )?;
     } else {
-        let habit = habit_of(refusal.reason, in_loop, jumps, pops);
+        let habit = habit_of(refusal.reason, doing);
         add_remedy(text, with, remedy, habit)?;
     }
     let number = refusal.reason.number();

@@ -35,7 +35,8 @@ fn row_at(list: &Worklist, address: u16) -> Option<u64> {
 }
 
 /// The refused rows of an analysis, one for each address, by their places. The one that the writer reports comes first.
-/// A row that only sends a state which is in no row is left out: that follows from another refusal.
+/// A row that only sends a state which is in no row is left out: that follows from another refusal. `unshown` has the
+/// rows, rising, that lead to a fact which does not follow.
 ///
 /// # Errors
 ///
@@ -44,6 +45,7 @@ pub fn refusals_of(
     alloc: Global,
     explored: &Explored,
     first: Option<(u16, Reason)>,
+    unshown: &[u64],
 ) -> Result<Vec<Refusal>, FlowFault> {
     let list = explored.list;
     let mut found: Vec<Refusal> = Vec::new(alloc);
@@ -64,6 +66,7 @@ pub fn refusals_of(
             Some(reason) => reason,
             None if row.drops && !explored.lacking(alloc, *number)?.is_empty() =>
                 Reason::NotCovered,
+            None if unshown.binary_search(number).is_ok() => Reason::NotCovered,
             None => continue,
         };
         let address = ContextPoint::of(*number).address;

@@ -5,6 +5,8 @@ mod case;
 mod looking;
 mod loops;
 mod merging;
+mod moves;
+mod parts;
 mod tried;
 
 pub use case::Case;

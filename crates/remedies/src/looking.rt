@@ -2,17 +2,20 @@
 
 use crate::case::Case;
 use crate::loops::for_time;
-use crate::merging::{added_of, merged, only_facts, with_budget, without_facts};
-use crate::tried::is_gone;
+use crate::merging::{
+    added_of, clash, merged, only_facts, only_split, with_budget, with_split_instead, without_facts,
+};
+use crate::moves::helping_on;
+use crate::parts::widened_split;
+use crate::tried::{Asked, is_gone};
 use abs_step::Reason;
 use address_map::{Region, Rom};
 use analysis::FlowFault;
 use annotations::{Annotations, FactNote};
-use explanations::Refusal;
+use explanations::{Refusal, falling_with, unshown_after};
 use explored_plans::{ExploredPlan, Family, Progress, Search, exploring};
 use fact_closure::{FactSearch, needed_facts};
 use inferred_rows::{ContextPoint, Guide};
-use plan_search::helping_at;
 use std::alloc::Global;
 use t_states::MAX_BUDGET;
 
@@ -34,8 +37,12 @@ pub enum Remedy {
     Stack(Region),
     /// An NMI routine, with this budget.
     Budget(u16),
-    /// The facts of this address are left out.
-    WithoutFacts(u16),
+    /// The facts of these addresses are left out.
+    WithoutFacts(Vec<u16>),
+    /// A split in the place of the one at its address.
+    Instead(Annotations),
+    /// The notes of the remedies before this one.
+    Above,
     /// `check --infer` with the same annotations.
     Infer,
     /// None is known.
@@ -53,6 +60,8 @@ pub struct Remedies {
     is_spent: bool,
     /// The facts that the rows of the search need, once they are known.
     facts: Option<Vec<FactNote>>,
+    /// The notes of all remedies so far.
+    notes: Option<Annotations>,
 }
 
 impl Remedies {
@@ -62,6 +71,7 @@ impl Remedies {
             left: analyses,
             is_spent: false,
             facts: None,
+            notes: None,
         }
     }
 
@@ -92,13 +102,38 @@ impl Remedies {
         refusal: &Refusal,
     ) -> Result<Remedy, FlowFault> {
         self.is_spent = false;
-        let remedy = self.looked_for(case, search, refusal)?;
-        let is_none = matches!(&remedy, Remedy::Unknown | Remedy::Infer);
-        Ok(if is_none && self.is_spent {
-            Remedy::Untried
-        } else {
-            remedy
-        })
+        if self.is_gone_by_those_before(case, refusal)? {
+            return Ok(Remedy::Above);
+        }
+        match self.looked_for(case, search, refusal)? {
+            Remedy::Unknown | Remedy::Infer if self.is_spent => Ok(Remedy::Untried),
+            Remedy::Notes(notes) => self.with_those_before(case, notes),
+            remedy => Ok(remedy),
+        }
+    }
+
+    /// Whether a refusal goes with the notes of the remedies before this one.
+    fn is_gone_by_those_before(
+        &mut self,
+        case: &Case,
+        refusal: &Refusal,
+    ) -> Result<bool, FlowFault> {
+        let said = match &self.notes {
+            Some(notes) if refusal.row.is_some() => merged(case.alloc, case.said, notes)?,
+            _ => return Ok(false),
+        };
+        self.is_gone_with(case, &said, refusal.address)
+    }
+
+    /// These notes as a remedy, if they go together with those of the remedies before this one.
+    fn with_those_before(&mut self, case: &Case, notes: Annotations) -> Result<Remedy, FlowFault> {
+        let all = match &self.notes {
+            Some(before) if clash(before, &notes) => return Ok(Remedy::Untried),
+            Some(before) => merged(case.alloc, before, &notes)?,
+            None => merged(case.alloc, &notes, &notes)?,
+        };
+        self.notes = Some(all);
+        Ok(Remedy::Notes(notes))
     }
 
     fn looked_for<P: Progress>(
@@ -126,7 +161,7 @@ impl Remedies {
                 Remedy::Unknown => self.found(case, search, refusal),
                 remedy => Ok(remedy),
             },
-            Reason::NotCovered => match self.without_facts_after(case, refusal)? {
+            Reason::NotCovered => match self.otherwise_covered(case, refusal)? {
                 Remedy::Unknown => self.found(case, search, refusal),
                 remedy => Ok(remedy),
             },
@@ -156,15 +191,56 @@ impl Remedies {
         }
         self.left = self.left.saturating_sub(1);
         let map = said.board().map(rom.len());
-        is_gone(
-            case.alloc,
-            case.bytes,
-            &rom,
-            &map,
-            said,
+        let asked = Asked {
             address,
-            case.visits,
-        )
+            before: case.said.facts(),
+            visits: case.visits,
+        };
+        is_gone(case.alloc, case.bytes, &rom, &map, said, asked)
+    }
+
+    /// Other facts or another split where a row leads, if the refusal goes then.
+    fn otherwise_covered(&mut self, case: &Case, refusal: &Refusal) -> Result<Remedy, FlowFault> {
+        let remedy = self.without_unshown(case, refusal)?;
+        if !matches!(&remedy, Remedy::Unknown) {
+            return Ok(remedy);
+        }
+        match self.without_facts_after(case, refusal)? {
+            Remedy::Unknown => self.with_parts(case, refusal),
+            remedy => Ok(remedy),
+        }
+    }
+
+    /// The annotations without the facts that do not follow where a row leads, and without those that follow only from
+    /// these, if the refusal goes then.
+    fn without_unshown(&mut self, case: &Case, refusal: &Refusal) -> Result<Remedy, FlowFault> {
+        let gone = unshown_facts(case, refusal)?;
+        if gone.is_empty() {
+            return Ok(Remedy::Unknown);
+        }
+        let said = without_facts(case.alloc, case.said, &gone)?;
+        if self.is_gone_with(case, &said, refusal.address)? {
+            Ok(Remedy::WithoutFacts(gone))
+        } else {
+            Ok(Remedy::Unknown)
+        }
+    }
+
+    /// The split to which a row leads with the parts that it lacks, if the refusal goes then.
+    fn with_parts(&mut self, case: &Case, refusal: &Refusal) -> Result<Remedy, FlowFault> {
+        let Some(number) = refusal.row else {
+            return Ok(Remedy::Unknown);
+        };
+        for (at, range) in case.explored.lacking(case.alloc, number)? {
+            let Some(split) = widened_split(case.alloc, case.said, at, range)? else {
+                continue;
+            };
+            let said = with_split_instead(case.alloc, case.said, &split)?;
+            if self.is_gone_with(case, &said, refusal.address)? {
+                return Ok(Remedy::Instead(only_split(case.alloc, case.said, split)?));
+            }
+        }
+        Ok(Remedy::Unknown)
     }
 
     /// The annotations without the facts to which a row leads, if the refusal goes then.
@@ -179,9 +255,11 @@ impl Remedies {
             if edge.from != number || !has_fact {
                 continue;
             }
-            let said = without_facts(case.alloc, case.said, to)?;
+            let mut gone = Vec::new(case.alloc);
+            gone.push(to)?;
+            let said = without_facts(case.alloc, case.said, &gone)?;
             if self.is_gone_with(case, &said, refusal.address)? {
-                return Ok(Remedy::WithoutFacts(to));
+                return Ok(Remedy::WithoutFacts(gone));
             }
         }
         Ok(Remedy::Unknown)
@@ -208,11 +286,11 @@ impl Remedies {
             return Ok(Remedy::Unknown);
         }
         let left = search.left;
-        self.is_spent = left == 0;
         search.left = left.min(TRIALS);
-        let found = helping_at(search, address)?;
+        let found = helping_on(search, address)?;
         let taken = left.min(TRIALS).saturating_sub(search.left);
         search.left = left.saturating_sub(taken);
+        self.is_spent = search.left == 0;
         let Some(other) = found else {
             return Ok(Remedy::Unknown);
         };
@@ -336,6 +414,21 @@ impl Remedies {
         }
         Ok(Remedy::Notes(added))
     }
+}
+
+/// The addresses of the facts that do not follow where a row leads, and of those that follow only from these, rising.
+fn unshown_facts(case: &Case, refusal: &Refusal) -> Result<Vec<u16>, FlowFault> {
+    let mut gone: Vec<u16> = Vec::new(case.alloc);
+    let Some(number) = refusal.row else {
+        return Ok(gone);
+    };
+    let facts = case.said.facts();
+    for first in unshown_after(case.alloc, case.explored, facts, number)? {
+        gone.extend_from_slice(&falling_with(case.alloc, case.explored, facts, first)?)?;
+    }
+    gone.sort_unstable();
+    gone.dedup();
+    Ok(gone)
 }
 
 /// Whether two facts are over the same variables, with the same coefficients.

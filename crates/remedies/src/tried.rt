@@ -4,13 +4,12 @@ ghost use Rattle.std.specs.Prelude.{◌≡◌, length};
 
 use abs_step::Reason;
 use address_map::{Map, Rom};
-use analysis::{Flow, FlowFault, ProgramPoint, Task, facts_at, names_slots_below};
-use annotations::Annotations;
+use analysis::{Flow, FlowFault, ProgramPoint, Task};
+use annotations::{Annotations, FactNote};
 use cert_writer::{WriterFault, certify};
-use explanations::{Explored, all_follow};
+use explanations::{Explored, unshown_rows};
 use inferred_rows::{ContextPoint, Guide, Manner};
 use inferring::{Setting, Worklist};
-use loop_bounds::Linear;
 use std::alloc::Global;
 
 /// An analysis that goes on after refusals and keeps no relations, as `check` sees a ROM.
@@ -45,34 +44,79 @@ fn is_refused_at(flow: &Flow, address: u16) -> bool {
         && row.reason.is_some())
 }
 
-/// Whether each annotated fact follows at each step to its address.
-fn are_shown(alloc: Global, explored: &Explored, said: &Annotations) -> Result<bool, FlowFault> {
-    for edge in explored.edges() {
-        let (from, to) = (ContextPoint::of(edge.from), ContextPoint::of(edge.to));
-        let asked = facts_at(said.facts(), to.address);
-        if asked.is_empty() {
-            continue;
-        }
-        let (Some(before), Some(after)) = (explored.row(edge.from), explored.row(edge.to)) else {
-            continue;
-        };
-        let mut wanted: Vec<Linear> = Vec::new(alloc);
-        for note in asked {
-            if names_slots_below(&note.fact, after.state.shape.len()) {
-                wanted.push(note.fact)?;
-            }
-        }
-        let mut given: Vec<Linear> = Vec::new(alloc);
-        for note in facts_at(said.facts(), from.address) {
-            if names_slots_below(&note.fact, before.state.shape.len()) {
-                given.push(note.fact)?;
-            }
-        }
-        if !all_follow(&given, &before.state, &edge.effect, &wanted) {
-            return Ok(false);
+/// Which annotated facts follow at each step to their addresses.
+#[derive(Clone, Copy, PartialEq, Eq)]
+enum Shown {
+    All,
+    /// Those that are added, and not all that stood there before.
+    Added,
+    /// Not even those, or the asked address is refused.
+    Few,
+}
+
+/// What is asked of annotations that are tried.
+#[derive(Clone, Copy)]
+pub(crate) struct Asked<'a> {
+    /// The address that is to be refused no more.
+    pub(crate) address: u16,
+    /// The facts that stood there before; the others are added.
+    pub(crate) before: &'a [FactNote],
+    /// The most visits of rows in one analysis.
+    pub(crate) visits: u32,
+}
+
+/// Whether a list has a fact.
+pub(crate) fn has_fact(facts: &[FactNote], fact: &FactNote) -> bool {
+    facts
+        .iter()
+        .any(|other| other.at == fact.at && other.fact == fact.fact)
+}
+
+/// Which annotated facts follow, where each that was not there before follows.
+fn shown_facts(
+    alloc: Global,
+    explored: &Explored,
+    said: &Annotations,
+    before: &[FactNote],
+) -> Result<Shown, FlowFault> {
+    let mut added: Vec<FactNote> = Vec::new(alloc);
+    for note in said.facts() {
+        if !has_fact(before, note) {
+            added.push(*note)?;
         }
     }
-    Ok(true)
+    if !unshown_rows(alloc, explored, said.facts(), &added)?.is_empty() {
+        return Ok(Shown::Few);
+    }
+    if unshown_rows(alloc, explored, said.facts(), said.facts())?.is_empty() {
+        Ok(Shown::All)
+    } else {
+        Ok(Shown::Added)
+    }
+}
+
+/// Which annotated facts follow, in an analysis that goes on after refusals.
+fn shown_with<'s>(
+    alloc: Global,
+    task: &'s Task<'s>,
+    said: &Annotations,
+    asked: Asked,
+) -> Result<Shown, FlowFault> {
+    let guide = Guide::none(alloc);
+    let setting = plain_setting(task, &guide);
+    let list = match Worklist::run(alloc, setting, asked.visits) {
+        Ok(list) => list,
+        Err(FlowFault::Limit) => return Ok(Shown::Few),
+        Err(FlowFault::NoMemory) => return Err(FlowFault::NoMemory),
+    };
+    if !is_clean_at(&list, asked.address) {
+        return Ok(Shown::Few);
+    }
+    if said.facts().is_empty() {
+        return Ok(Shown::All);
+    }
+    let explored = Explored::of(alloc, setting, &list)?;
+    shown_facts(alloc, &explored, said, asked.before)
 }
 
 /// Whether an address is refused no more with these annotations. The map is for a ROM of this length.
@@ -86,48 +130,47 @@ pub(crate) fn is_gone(
     rom: &Rom,
     map: &Map,
     said: &Annotations,
-    address: u16,
-    visits: u32,
+    asked: Asked,
 ) -> Result<bool, FlowFault>
     requires { map.now.rom_len ≡ length rom.now }
 {
     let Some(task) = Task::of(rom, map, said) else {
         return Ok(false);
     };
-    let guide = Guide::none(alloc);
-    let setting = plain_setting(&task, &guide);
-    let list = match Worklist::run(alloc, setting, visits) {
-        Ok(list) => list,
-        Err(FlowFault::Limit) => return Ok(false),
-        Err(FlowFault::NoMemory) => return Err(FlowFault::NoMemory),
-    };
-    if !is_clean_at(&list, address) {
+    let shown = shown_with(alloc, &task, said, asked)?;
+    if shown == Shown::Few {
         return Ok(false);
-    }
-    if !said.facts().is_empty() {
-        let explored = Explored::of(alloc, setting, &list)?;
-        if !are_shown(alloc, &explored, said)? {
-            return Ok(false);
-        }
     }
     let flow = match Flow::run(alloc, &task) {
         Ok(flow) => flow,
         Err(FlowFault::Limit) => return Ok(false),
         Err(FlowFault::NoMemory) => return Err(FlowFault::NoMemory),
     };
-    if is_refused_at(&flow, address) {
+    if is_refused_at(&flow, asked.address) {
         return Ok(false);
     }
     if flow.first_refused().is_some() {
         return Ok(true);
     }
-    Ok(match certify(alloc, bytes, said) {
+    is_written_otherwise(alloc, bytes, said, asked.address, shown)
+}
+
+/// Whether the writer neither refuses an address, nor a row from which a fact that is added does not follow.
+fn is_written_otherwise(
+    alloc: Global,
+    bytes: &[u8],
+    said: &Annotations,
+    address: u16,
+    shown: Shown,
+) -> Result<bool, FlowFault> {
+    match certify(alloc, bytes, said) {
         Err(WriterFault::Refused(refused)) => {
-            refused.address != address && refused.reason != Reason::NotCovered
+            let may_be = refused.reason != Reason::NotCovered || shown == Shown::Added;
+            Ok(refused.address != address && may_be)
         }
-        Err(WriterFault::NoMemory) => return Err(FlowFault::NoMemory),
-        Ok(_) | Err(_) => true,
-    })
+        Err(WriterFault::NoMemory) => Err(FlowFault::NoMemory),
+        Ok(_) | Err(_) => Ok(true),
+    }
 }
 
 /// Whether the answer of `check` with these annotations is another one than a reason at an address.
