@@ -175,7 +175,7 @@ fn told<P: Progress>(
     let analyses = analyses_of(case.explored.list.rows().len());
     let trials = analyses / 3;
     let mut search = Search::of(alloc, &context, plan, trials, progress)?;
-    let mut remedies = Remedies::new(analyses);
+    let mut remedies = Remedies::new(alloc, analyses);
     let mut text = String::new(alloc);
     add_fault(&mut text, with, case, &mut search, asked.fault)?;
     add_refusals(&mut text, with, case, &mut search, &mut remedies, asked)?;
@@ -232,7 +232,7 @@ fn add_refusals<P: Progress>(
 ) -> Result<(), FlowFault> {
     let alloc = case.alloc;
     let facts = case.said.facts();
-    let unshown = unshown_rows(alloc, case.explored, facts, facts)?;
+    let unshown = unshown_rows(alloc, case.explored.steps(), facts, facts)?;
     let refusals = refusals_of(alloc, case.explored, first_of(asked.fault), &unshown)?;
     for (count, refusal) in refusals.iter().enumerate() {
         if count >= asked.question.most {

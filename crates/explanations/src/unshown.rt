@@ -1,13 +1,19 @@
 // Steps to annotated facts that do not follow there.
 
-use crate::explored::Explored;
 use crate::situation::all_follow;
 use analysis::{FlowFault, facts_at, names_slots_below};
 use annotations::FactNote;
 use inferred_rows::ContextPoint;
-use inferring::RowEdge;
+use inferring::{RowEdge, Worklist};
 use loop_bounds::Linear;
 use std::alloc::Global;
+
+/// The rows of an analysis, and the steps between them.
+#[derive(Clone, Copy)]
+pub struct Steps<'s> {
+    pub list: &'s Worklist,
+    pub edges: &'s [RowEdge],
+}
 
 /// The rows from which a step leads to one of the wanted facts that does not follow there from the given ones, rising.
 /// Both lists are sorted by address.
@@ -17,7 +23,7 @@ use std::alloc::Global;
 /// `NoMemory` where memory was refused.
 pub fn unshown_rows(
     alloc: Global,
-    explored: &Explored,
+    steps: Steps,
     given: &[FactNote],
     wanted: &[FactNote],
 ) -> Result<Vec<u64>, FlowFault> {
@@ -25,8 +31,8 @@ pub fn unshown_rows(
     if wanted.is_empty() {
         return Ok(rows);
     }
-    for edge in explored.edges() {
-        if !is_shown(alloc, explored, edge, given, wanted)? {
+    for edge in steps.edges {
+        if !is_shown(alloc, steps, edge, given, wanted)? {
             rows.push(edge.from)?;
         }
     }
@@ -42,13 +48,13 @@ pub fn unshown_rows(
 /// `NoMemory` where memory was refused.
 pub fn unshown_after(
     alloc: Global,
-    explored: &Explored,
+    steps: Steps,
     given: &[FactNote],
     row: u64,
 ) -> Result<Vec<u16>, FlowFault> {
     let mut found = Vec::new(alloc);
-    for edge in explored.edges() {
-        if edge.from == row && !is_shown(alloc, explored, edge, given, given)? {
+    for edge in steps.edges {
+        if edge.from == row && !is_shown(alloc, steps, edge, given, given)? {
             found.push(ContextPoint::of(edge.to).address)?;
         }
     }
@@ -64,7 +70,7 @@ pub fn unshown_after(
 /// `NoMemory` where memory was refused.
 pub fn falling_with(
     alloc: Global,
-    explored: &Explored,
+    steps: Steps,
     given: &[FactNote],
     first: u16,
 ) -> Result<Vec<u16>, FlowFault> {
@@ -72,7 +78,7 @@ pub fn falling_with(
     gone.push(first)?;
     for _ in 0..given.len() {
         let before = gone.len();
-        add_falling(alloc, explored, given, &mut gone)?;
+        add_falling(alloc, steps, given, &mut gone)?;
         if gone.len() == before {
             break;
         }
@@ -84,14 +90,14 @@ pub fn falling_with(
 /// Adds the addresses whose facts do not follow at a step from an address whose facts are gone.
 fn add_falling(
     alloc: Global,
-    explored: &Explored,
+    steps: Steps,
     given: &[FactNote],
     gone: &mut Vec<u16>,
 ) -> Result<(), FlowFault> {
-    for edge in explored.edges() {
+    for edge in steps.edges {
         let (from, to) = (ContextPoint::of(edge.from), ContextPoint::of(edge.to));
         let may_fall = gone.contains(&from.address) && !gone.contains(&to.address);
-        if may_fall && !is_shown(alloc, explored, edge, &[], given)? {
+        if may_fall && !is_shown(alloc, steps, edge, &[], given)? {
             gone.push(to.address)?;
         }
     }
@@ -101,7 +107,7 @@ fn add_falling(
 /// Whether each wanted fact of the address to which a step leads follows from the given ones before the step.
 fn is_shown(
     alloc: Global,
-    explored: &Explored,
+    steps: Steps,
     edge: &RowEdge,
     given: &[FactNote],
     wanted: &[FactNote],
@@ -111,7 +117,7 @@ fn is_shown(
     if asked.is_empty() {
         return Ok(true);
     }
-    let (Some(before), Some(after)) = (explored.row(edge.from), explored.row(edge.to)) else {
+    let (Some(before), Some(after)) = (steps.list.row(edge.from), steps.list.row(edge.to)) else {
         return Ok(true);
     };
     let asked = facts_for(alloc, asked, after.state.shape.len())?;

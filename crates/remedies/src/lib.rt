@@ -2,6 +2,7 @@
 #![tactic(auto)]
 
 mod case;
+mod facts;
 mod looking;
 mod loops;
 mod merging;

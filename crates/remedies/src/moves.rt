@@ -18,9 +18,11 @@ pub(crate) fn helping_on<P: Progress>(
     address: u16,
 ) -> Result<Option<ExploredPlan>, FlowFault> {
     for _ in 0..MOVES {
-        match helping_at(search, address)? {
-            Some(other) if is_dead_end(&search.explored, &other, address) => {}
-            found => return Ok(found),
+        let Some(other) = helping_at(search, address)? else {
+            return Ok(None);
+        };
+        if !is_dead_end(&search.explored, &other, address) {
+            return Ok(Some(other));
         }
     }
     Ok(None)
