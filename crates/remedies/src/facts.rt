@@ -155,12 +155,15 @@ pub(crate) fn with_facts(
     let around = case
         .explored
         .loop_around(case.alloc, proc, refusal.address)?;
+    let mut tried = 0usize;
     for choice in 0..CHOICES {
         let given = remedies.said_so_far(case).facts();
         let chosen = chosen_facts(&wanted, given, proc, around.as_ref(), choice)?;
-        if chosen.is_empty() {
+        // Each choice has all facts of those before it.
+        if chosen.len() == tried {
             continue;
         }
+        tried = chosen.len();
         if let Some(added) = wanted.if_helpful(remedies, &chosen)? {
             return Ok(Remedy::Notes(wanted.lessened(remedies, chosen, added)?));
         }
