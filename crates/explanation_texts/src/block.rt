@@ -7,10 +7,10 @@ use crate::remedy::add_remedy;
 use crate::whence::add_whence;
 use abs_step::{NextKind, Reason};
 use analysis::FlowFault;
-use explanations::{Explored, Refusal, Situation};
+use explanations::{Explored, Refusal, Situation, origins_of};
 use inferred_rows::{ContextPoint, pointer_of};
 use intervals::RegPair;
-use loop_bounds::Variable;
+use loop_bounds::{Part, SlotNumber, Variable};
 use refusal_texts::{
     Wording, add_computed, add_decode, add_halt, add_io, add_lacking, add_line, add_misfit,
     add_reached, add_saved, add_sp_write, add_uncovered, add_unset, add_write, facts_of, is_astray,
@@ -167,7 +167,33 @@ fn doing_of(
         jumps: jumps_at(explored, row),
         pops: situation.state.shape.is_empty(),
         lacks: !explored.lacking(alloc, row)?.is_empty(),
+        is_inline: pops_inline_call(alloc, explored, row, situation)?,
     })
+}
+
+/// Whether the word on top of the stack is the return address of an inline call.
+fn pops_inline_call(
+    alloc: Global,
+    explored: &Explored,
+    row: u64,
+    situation: &Situation,
+) -> Result<bool, FlowFault> {
+    let slots = situation.state.shape.len();
+    if slots == 0 || slots > 64 {
+        return Ok(false);
+    }
+    let Some(number) = SlotNumber::new((slots - 1) as u8) else {
+        return Ok(false);
+    };
+    let top = Variable::Slot(number, Part::Word);
+    let found = origins_of(alloc, explored, row, top)?;
+    Ok(found.iter().any(|origin| {
+        explored
+            .task
+            .said()
+            .inlines()
+            .contains(&origin.at)
+    }))
 }
 
 /// Whether a row is a computed jump, or has no instruction and is reached by one.
@@ -201,6 +227,7 @@ pub fn add_block(
         jumps: pair_of_jump(explored, refusal.address).is_some(),
         pops: false,
         lacks: false,
+        is_inline: false,
     };
     let mut astray = false;
     if let Some(row) = refusal.row {

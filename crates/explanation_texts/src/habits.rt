@@ -13,6 +13,8 @@ pub(crate) struct Doing {
     pub(crate) pops: bool,
     /// It sends a state to a split that has no part for it.
     pub(crate) lacks: bool,
+    /// It returns from a procedure whose calls are inline, to one of several.
+    pub(crate) is_inline: bool,
 }
 
 const BOUND: (u8, &str) = (5, "Bound an index where it is used");
@@ -43,6 +45,7 @@ pub(crate) fn habit_of(reason: Reason, doing: Doing) -> Option<(u8, &'static str
         }
         Reason::NotCovered if doing.jumps => Some(TABLE),
         Reason::NotCovered => Some(if doing.lacks { BOUND } else { NUMBER }),
+        Reason::StackShape if doing.is_inline => Some(BOUND),
         Reason::StackShape => Some(if doing.pops { RETURN } else { NUMBER }),
         Reason::SpWrite | Reason::Rank => Some(RETURN),
         Reason::Time | Reason::Budget => Some((9, "Count down in the NMI routine")),
