@@ -179,10 +179,10 @@ fn pops_inline_call(
     situation: &Situation,
 ) -> Result<bool, FlowFault> {
     let slots = situation.state.shape.len();
-    if slots == 0 || slots > 64 {
+    if slots == 0 {
         return Ok(false);
     }
-    let Some(number) = SlotNumber::new((slots - 1) as u8) else {
+    let Some(number) = SlotNumber::new(slots.saturating_sub(1).min(63) as u8) else {
         return Ok(false);
     };
     let top = Variable::Slot(number, Part::Word);
