@@ -1,6 +1,6 @@
 // Explains what `check --infer` answers to a ROM.
 
-ghost use Rattle.std.specs.Prelude.{◌≡◌, IfOk, IfSome};
+ghost use Rattle.std.specs.Prelude.{◌≡◌, IfOk, IfSome, length};
 
 use crate::annotated::{COUNT_DOWN, Question, RECURSION};
 use crate::limits::{add_too_large, first_of, is_about_whole};
@@ -67,7 +67,7 @@ fn told(
     told_rom(alloc, &rom, &map, found, question, fault)
 }
 
-/// Why a ROM is refused on its map.
+/// Why a ROM is refused on its map, which is for a ROM of this length.
 fn told_rom<'x>(
     alloc: Global,
     rom: &'x Rom<'x>,
@@ -75,7 +75,9 @@ fn told_rom<'x>(
     found: &'x Inference<'_, '_>,
     question: Question<'x>,
     fault: &WriterFault,
-) -> Result<String, FlowFault> {
+) -> Result<String, FlowFault>
+    requires { map.now.rom_len ≡ length rom.now }
+{
     let mut text = String::new(alloc);
     let with = Wording {
         alloc,
