@@ -3,6 +3,7 @@
 ghost use Rattle.std.specs.Prelude.{◌≡◌, IfOk, IfSome, length};
 
 use crate::limits::{add_too_large, bounds_of, first_of, is_about_whole};
+use crate::outdated::{Outdated, given_by, outdated_in};
 use abs_step::Reason;
 use address_map::{Map, Rom};
 use analysis::{FlowFault, Task};
@@ -89,7 +90,45 @@ fn refused<P: Progress>(
         question,
         fault,
     };
-    refused_rom(alloc, bytes, &rom, &map, said, &asked, progress)
+    let with = Wording {
+        alloc,
+        rom: &rom,
+        names: question.names,
+    };
+    match outdated_in(&rom, &map, said, &with, VISITS)? {
+        Some(outdated) => refused_without(alloc, bytes, &rom, &map, outdated, question, progress),
+        None => refused_rom(alloc, bytes, &rom, &map, said, &asked, progress),
+    }
+}
+
+/// Why a ROM is refused with outdated splits, and what is refused without them. The map is for a ROM of this length.
+fn refused_without<P: Progress>(
+    alloc: Global,
+    bytes: &[u8],
+    rom: &Rom,
+    map: &Map,
+    outdated: Outdated,
+    question: Question,
+    progress: &mut P,
+) -> Result<String, FlowFault>
+    requires { map.now.rom_len ≡ length rom.now }
+{
+    let Outdated { text, left } = outdated;
+    let mut text = text;
+    let fault = match certify(alloc, bytes, &left) {
+        Ok(_) => return Ok(text),
+        Err(WriterFault::NoMemory) => return Err(FlowFault::NoMemory),
+        Err(fault) => fault,
+    };
+    let given = given_by(alloc, &left)?;
+    let asked = Asked {
+        given: &given,
+        question,
+        fault: &fault,
+    };
+    let rest = refused_rom(alloc, bytes, rom, map, &left, &asked, progress)?;
+    text.push_str(rest.as_str())?;
+    Ok(text)
 }
 
 /// What is said of a ROM that has no bytes, or too many.

@@ -13,5 +13,5 @@ mod tried;
 pub use case::Case;
 pub use looking::{Remedies, Remedy};
 pub use loops::for_loop;
-pub use merging::with_region;
+pub use merging::{with_region, without_splits};
 pub use tried::plain_setting;

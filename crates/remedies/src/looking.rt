@@ -13,7 +13,7 @@ use abs_step::Reason;
 use address_map::{Region, Rom};
 use analysis::FlowFault;
 use annotations::Annotations;
-use explanations::{Refusal, falling_with, unshown_after};
+use explanations::{Refusal, Situation, falling_with, unshown_after};
 use explored_plans::{ExploredPlan, Family, Progress, Search};
 use inferred_rows::ContextPoint;
 use std::alloc::Global;
@@ -162,6 +162,9 @@ impl Remedies {
                 Remedy::Unknown => self.found(case, search, refusal),
                 remedy => Ok(remedy),
             },
+            Reason::WriteRom | Reason::WriteUnmapped if writes_one_address(case, refusal) => {
+                Ok(Remedy::Unknown)
+            }
             Reason::WriteRom
             | Reason::WriteUnmapped
             | Reason::StackShape
@@ -351,6 +354,21 @@ fn or_infer(remedy: Remedy) -> Remedy {
     match remedy {
         Remedy::Unknown => Remedy::Infer,
         remedy => remedy,
+    }
+}
+
+/// Whether each write of a row goes to one address, which no annotation changes.
+fn writes_one_address(case: &Case, refusal: &Refusal) -> bool {
+    let Some(row) = refusal.row else {
+        return false;
+    };
+    match Situation::at(case.alloc, case.explored, row) {
+        Some(situation) => situation
+            .judged
+            .writes
+            .iter()
+            .all(|write| write.at.value().is_some()),
+        None => false,
     }
 }
 

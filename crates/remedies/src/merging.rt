@@ -172,6 +172,21 @@ pub(crate) fn with_split_instead(
     Ok(with_notes(said, notes))
 }
 
+/// Annotations without the splits at some addresses.
+///
+/// # Errors
+///
+/// `NoMemory` where memory was refused.
+pub fn without_splits(
+    alloc: Global,
+    said: &Annotations,
+    gone: &[u16],
+) -> Result<Annotations, FlowFault> {
+    let mut notes = notes_of(alloc, said)?;
+    notes.splits.retain(|split| !gone.contains(&split.at));
+    Ok(with_notes(said, notes))
+}
+
 /// Whether two annotations have a split, a loop or a cell at one address.
 pub(crate) fn clash(one: &Annotations, other: &Annotations) -> bool {
     one.splits()
