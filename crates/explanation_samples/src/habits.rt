@@ -133,6 +133,18 @@ pub const PROGRAMS: &[Program] = &[
         first: "accepted",
     },
     Program {
+        name: "Habit 4: A loop that copies six times by LDIR.",
+        rom: b"\x31\x00\x44\x11\x00\x42\x06\x06\xC5\x21\x16\x00\x01\x10\x00\xED\xB0\xC1\x10\xF4\x18\xFE\x00\x00\x00\x00\x00\x00\x00\x00\x00\x00\x00\x00\x00\x00\x00\x00",
+        said: "low = 0x4380\ntop = 0x4400\n",
+        first: "refused 000F 7 WriteUnmapped",
+    },
+    Program {
+        name: "Habit 4, accepted.",
+        rom: b"\x31\x00\x44\xDD\x21\x00\x42\x11\x10\x00\x06\x06\xDD\x36\x00\x01\xDD\x36\x0F\x00\xDD\x19\x10\xF4\x18\xFE",
+        said: "",
+        first: "accepted",
+    },
+    Program {
         name: "Habit 4: A text that ends at a mark.",
         rom: b"\x31\x00\x44\x21\xE6\x52\x11\x00\x41\x01\xE0\xFF\x1A\xFE\x3F\x28\x05\x77\x13\x09\x18\xF6\x18\xFE",
         said: "low = 0x4380\ntop = 0x4400\n",

@@ -18,6 +18,10 @@ use refusal_texts::{
 };
 use remedies::Remedy;
 use std::alloc::Global;
+use z80_decode::{Instr, Memory, Place};
+
+/// The address after the ROM.
+const ROM_END: u16 = 0x4000;
 
 /// The name and the number of a reason in brackets: `[6 WriteRom]`.
 fn reason_text(with: &Wording, reason: Reason) -> Result<String, FlowFault> {
@@ -143,13 +147,42 @@ fn variable_of(explored: &Explored, refusal: &Refusal) -> Option<Variable> {
         | Reason::NmiMissing
         | Reason::CellRange
         | Reason::CellUnarmed => pointer_of(&instr),
-        Reason::NotCovered => match jump_pair(&instr)? {
-            RegPair::Hl => Some(Variable::Hl),
-            RegPair::Ix => Some(Variable::Ix),
-            RegPair::Iy => Some(Variable::Iy),
-            _ => None,
-        },
+        Reason::NotCovered => pair_jumped_by(&instr),
         _ => None,
+    }
+}
+
+/// The pair through which an instruction jumps, as a variable.
+fn pair_jumped_by(instr: &Instr) -> Option<Variable> {
+    match jump_pair(instr)? {
+        RegPair::Hl => Some(Variable::Hl),
+        RegPair::Ix => Some(Variable::Ix),
+        RegPair::Iy => Some(Variable::Iy),
+        _ => None,
+    }
+}
+
+/// Whether a row jumps through a pair that comes from RAM.
+fn jumps_by_ram(alloc: Global, explored: &Explored, row: u64) -> Result<bool, FlowFault> {
+    let Some(instr) = explored.instr_at(ContextPoint::of(row).address) else {
+        return Ok(false);
+    };
+    let Some(variable) = pair_jumped_by(&instr) else {
+        return Ok(false);
+    };
+    let found = origins_of(alloc, explored, row, variable)?;
+    Ok(found.iter().any(|origin| match explored.instr_at(origin.at) {
+        Some(instr) => reads_ram(&instr),
+        None => false,
+    }))
+}
+
+/// Whether an instruction loads from an address above the ROM, or by an index register.
+fn reads_ram(instr: &Instr) -> bool {
+    match instr {
+        Instr::LoadRegister(_, Place::Memory(Memory::At(_, _))) => true,
+        Instr::LoadPairDirect(_, address) => *address >= ROM_END,
+        _ => false,
     }
 }
 
@@ -165,6 +198,7 @@ fn doing_of(
     Ok(Doing {
         in_loop: around.is_some(),
         jumps: jumps_at(explored, row),
+        reads_ram: jumps_by_ram(alloc, explored, row)?,
         pops: situation.state.shape.is_empty(),
         lacks: !explored.lacking(alloc, row)?.is_empty(),
         is_inline: pops_inline_call(alloc, explored, row, situation)?,
@@ -225,6 +259,7 @@ pub fn add_block(
     let mut doing = Doing {
         in_loop: false,
         jumps: pair_of_jump(explored, refusal.address).is_some(),
+        reads_ram: false,
         pops: false,
         lacks: false,
         is_inline: false,

@@ -9,6 +9,8 @@ pub(crate) struct Doing {
     pub(crate) in_loop: bool,
     /// It is a computed jump, or is reached by one.
     pub(crate) jumps: bool,
+    /// It jumps to a word that is read from RAM.
+    pub(crate) reads_ram: bool,
     /// It takes a return address.
     pub(crate) pops: bool,
     /// It sends a state to a split that has no part for it.
@@ -43,6 +45,7 @@ pub(crate) fn habit_of(reason: Reason, doing: Doing) -> Option<(u8, &'static str
                 BOUND
             })
         }
+        Reason::NotCovered if doing.reads_ram => Some(NUMBER),
         Reason::NotCovered if doing.jumps => Some(TABLE),
         Reason::NotCovered => Some(if doing.lacks { BOUND } else { NUMBER }),
         Reason::StackShape if doing.is_inline => Some(BOUND),
