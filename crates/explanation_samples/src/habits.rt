@@ -217,6 +217,18 @@ pub const PROGRAMS: &[Program] = &[
         first: "accepted",
     },
     Program {
+        name: "Habit 6: An index of four values for two entries.",
+        rom: b"\x31\x00\x44\x3A\x00\x40\xE6\x03\x87\x5F\x16\x00\x21\x15\x00\x19\x7E\x23\x66\x6F\xE9\x03\x00\x03\x00\x54\x45\x03\x00",
+        said: "low = 0x4380\ntop = 0x4400\n[[split]]\nat = 0x0008\nregister = \"A\"\nparts = [[0, 0], [1, 1], [2, 2], [3, 3]]\nuntil = 0x0003\n",
+        first: "refused 4554 4 Decode Truncated",
+    },
+    Program {
+        name: "Habit 6, accepted.",
+        rom: b"\x31\x00\x44\x3A\x00\x40\xE6\x01\x87\x5F\x16\x00\x21\x15\x00\x19\x7E\x23\x66\x6F\xE9\x03\x00\x03\x00\x54\x45\x03\x00",
+        said: "",
+        first: "accepted",
+    },
+    Program {
         name: "Habit 6: A routine that was chosen and chooses again.",
         rom: b"\x31\x00\x44\xCD\x08\x00\x18\xFB\x3A\x00\x40\xFE\x02\xD0\xCD\x23\x00\x15\x00\x22\x00\x3A\x01\x40\xFE\x02\xD0\xCD\x23\x00\x22\x00\x22\x00\xC9\x87\xE1\x5F\x16\x00\x19\x5E\x23\x56\xEB\xE9",
         said: "",
