@@ -461,6 +461,12 @@ recursion\n\
         text: "\
 too large\n\
 \x20 5 facts at 0003 of at most 4: say fewer there\n\
-\x20 see: docs/ANNOTATIONS.md, \"What is refused\", for each limit\n",
+\x20 see: docs/ANNOTATIONS.md, \"What is refused\", for each limit\n\
+0000  LD SP,4400h  [12 NotCovered]\n\
+\x20 goes to 0003, whose fact B = 0 does not follow: before the step no fact; B 00..FF\n\
+\x20 known: nothing of the registers that matter\n\
+\x20 annotations in reach: fact at 0003: B = 0, fact at 0003: 2*B = 0, fact at 0003: 3*B = 0, fact at 0003: 4*B = 0, fact at 0003: 5*B = 0\n\
+\x20 try: leave out the fact at 0003\n\
+\x20 see: galcert explain 12\n",
     },
 ];
