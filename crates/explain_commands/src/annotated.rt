@@ -3,13 +3,14 @@
 ghost use Rattle.std.specs.Prelude.{◌≡◌, IfOk, IfSome, length};
 
 use crate::limits::{add_too_large, bounds_of, first_of, is_about_whole};
+use crate::outdated::{Outdated, given_by, outdated_in};
 use abs_step::Reason;
 use address_map::{Map, Rom};
 use analysis::{FlowFault, Task};
 use annotations::{Annotations, Given};
 use cert_writer::{WriterFault, certify};
 use explanation_texts::{add_block, add_head, add_recursion, add_remedy, add_unbounded};
-use explanations::{Explored, Refusal, refusals_of};
+use explanations::{Explored, Refusal, refusals_of, unshown_rows};
 use explored_plans::{Base, ExploredPlan, Plan, Progress, Search, SearchContext};
 use inferred_rows::Guide;
 use inferring::Worklist;
@@ -89,7 +90,45 @@ fn refused<P: Progress>(
         question,
         fault,
     };
-    refused_rom(alloc, bytes, &rom, &map, said, &asked, progress)
+    let with = Wording {
+        alloc,
+        rom: &rom,
+        names: question.names,
+    };
+    match outdated_in(&rom, &map, said, &with, VISITS)? {
+        Some(outdated) => refused_without(alloc, bytes, &rom, &map, outdated, question, progress),
+        None => refused_rom(alloc, bytes, &rom, &map, said, &asked, progress),
+    }
+}
+
+/// Why a ROM is refused with outdated splits, and what is refused without them. The map is for a ROM of this length.
+fn refused_without<P: Progress>(
+    alloc: Global,
+    bytes: &[u8],
+    rom: &Rom,
+    map: &Map,
+    outdated: Outdated,
+    question: Question,
+    progress: &mut P,
+) -> Result<String, FlowFault>
+    requires { map.now.rom_len ≡ length rom.now }
+{
+    let Outdated { text, left } = outdated;
+    let mut text = text;
+    let fault = match certify(alloc, bytes, &left) {
+        Ok(_) => return Ok(text),
+        Err(WriterFault::NoMemory) => return Err(FlowFault::NoMemory),
+        Err(fault) => fault,
+    };
+    let given = given_by(alloc, &left)?;
+    let asked = Asked {
+        given: &given,
+        question,
+        fault: &fault,
+    };
+    let rest = refused_rom(alloc, bytes, rom, map, &left, &asked, progress)?;
+    text.push_str(rest.as_str())?;
+    Ok(text)
 }
 
 /// What is said of a ROM that has no bytes, or too many.
@@ -175,7 +214,7 @@ fn told<P: Progress>(
     let analyses = analyses_of(case.explored.list.rows().len());
     let trials = analyses / 3;
     let mut search = Search::of(alloc, &context, plan, trials, progress)?;
-    let mut remedies = Remedies::new(analyses);
+    let mut remedies = Remedies::new(alloc, analyses);
     let mut text = String::new(alloc);
     add_fault(&mut text, with, case, &mut search, asked.fault)?;
     add_refusals(&mut text, with, case, &mut search, &mut remedies, asked)?;
@@ -231,7 +270,9 @@ fn add_refusals<P: Progress>(
     asked: &Asked,
 ) -> Result<(), FlowFault> {
     let alloc = case.alloc;
-    let refusals = refusals_of(alloc, case.explored, first_of(asked.fault))?;
+    let facts = case.said.facts();
+    let unshown = unshown_rows(alloc, case.explored.steps(), facts, facts)?;
+    let refusals = refusals_of(alloc, case.explored, first_of(asked.fault), &unshown)?;
     for (count, refusal) in refusals.iter().enumerate() {
         if count >= asked.question.most {
             let more = refusals.len().saturating_sub(count);

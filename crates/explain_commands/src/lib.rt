@@ -5,6 +5,7 @@ mod annotated;
 mod certified;
 mod explaining;
 mod limits;
+mod outdated;
 mod paging;
 mod searching;
 mod uncovered;

@@ -51,6 +51,8 @@ pub(crate) fn bounds_of(
         Remedy::Budget(time) => bounds.time = Some(u32::from(*time)),
         Remedy::Notes(_)
         | Remedy::WithoutFacts(_)
+        | Remedy::Instead(_)
+        | Remedy::Above
         | Remedy::Infer
         | Remedy::Unknown
         | Remedy::Untried => {}

@@ -121,7 +121,7 @@ fn add_refusals(
     question: Question,
 ) -> Result<(), FlowFault> {
     let alloc = with.alloc;
-    let refusals = refusals_of(alloc, explored, first_of(fault))?;
+    let refusals = refusals_of(alloc, explored, first_of(fault), &[])?;
     for (count, refusal) in refusals.iter().enumerate() {
         if count >= question.most {
             let more = refusals.len().saturating_sub(count);

@@ -54,6 +54,19 @@ pub const SAMPLES: &[Sample] = &[
 \x20 see: galcert explain 4\n",
     },
     Sample {
+        name: "4: a table that is too short for its index",
+        rom: b"\x31\x00\x44\x3A\x00\x40\xE6\x03\x87\x5F\x16\x00\x21\x15\x00\x19\x7E\x23\x66\x6F\xE9\x03\x00\x03\x00\x54\x45\x03\x00",
+        said: "low = 0x4380\ntop = 0x4400\n[[split]]\nat = 0x0008\nregister = \"A\"\nparts = [[0, 0], [1, 1], [2, 2], [3, 3]]\nuntil = 0x0003\n",
+        text: "\
+4554  no instruction  [4 Decode]\n\
+\x20 the ROM ends before it: it has 29 bytes\n\
+\x20 reached from JP (HL) at 0014\n\
+\x20 known: nothing of the registers that matter\n\
+\x20 annotations in reach: split at 0008 by A\n\
+\x20 try: no annotation is known; rewrite it: docs/HABITS.md, 6 \"Add the index to the table in one step\"\n\
+\x20 see: galcert explain 4\n",
+    },
+    Sample {
         name: "5: IN A,(n)",
         rom: b"\x31\x00\x44\xDB\x00\x32\x00\x40\x18\xF9",
         said: "low = 0x4380\ntop = 0x4400\n",
@@ -220,6 +233,35 @@ pub const SAMPLES: &[Sample] = &[
 \x20 known: BC 0001..0004, DE 4010..4013, BC + DE = 4014\n\
 \x20 annotations in reach: fact at 000C: BC + DE = 4014, fact at 000E: BC + DE = 4014\n\
 \x20 try: leave out the fact at 000E\n\
+\x20 see: galcert explain 12\n",
+    },
+    Sample {
+        name: "12: facts of a loop that two callers begin",
+        rom: b"\x31\x00\x44\x21\x00\x41\x06\x60\xCD\x15\x00\x21\x00\x42\x06\x20\xCD\x15\x00\x18\xFE\x77\x23\x10\xFC\xC9",
+        said: "low = 0x4380\ntop = 0x4400\n[[fact]]\nat = 0x0015\nsum = [[\"B\", 1], [\"HL\", 1]]\nis = 0x4160\n[[fact]]\nat = 0x0016\nsum = [[\"B\", 1], [\"HL\", 1]]\nis = 0x4160\n[[fact]]\nat = 0x0017\nsum = [[\"B\", 1], [\"HL\", 1]]\nis = 0x4161\n",
+        text: "\
+0010  CALL 0015h  [12 NotCovered]\n\
+\x20 goes to 0015, whose fact B + HL = 4160 does not follow: before the step no fact; B 20, HL 4200\n\
+\x20 known: B 20\n\
+\x20 annotations in reach: none\n\
+\x20 try: leave out the facts at 0015, 0016, 0017\n\
+\x20 see: galcert explain 12\n",
+    },
+    Sample {
+        name: "12: a split that lacks parts",
+        rom: b"\x31\x00\x44\x3A\x00\x40\xE6\x03\x87\x5F\x16\x00\x21\x15\x00\x19\x7E\x23\x66\x6F\xE9\x03\x00\x03\x00\x03\x00\x03\x00",
+        said: "low = 0x4380\ntop = 0x4400\n[[split]]\nat = 0x0008\nregister = \"A\"\nparts = [[0, 0], [1, 1]]\nuntil = 0x0003\n",
+        text: "\
+0006  AND 03h  [12 NotCovered]\n\
+\x20 goes to 0008, where A may be 00..03, and the split there has no part for some of these\n\
+\x20 known: nothing of the registers that matter\n\
+\x20 annotations in reach: split at 0008 by A\n\
+\x20 try: put in the place of the split at the same address\n\
+\x20   [[split]]\n\
+\x20   at = 0x0008\n\
+\x20   register = \"A\"\n\
+\x20   parts = [[0, 0], [1, 1], [2, 2], [3, 3]]\n\
+\x20   until = 0x0003\n\
 \x20 see: galcert explain 12\n",
     },
     Sample {
@@ -419,6 +461,12 @@ recursion\n\
         text: "\
 too large\n\
 \x20 5 facts at 0003 of at most 4: say fewer there\n\
-\x20 see: docs/ANNOTATIONS.md, \"What is refused\", for each limit\n",
+\x20 see: docs/ANNOTATIONS.md, \"What is refused\", for each limit\n\
+0000  LD SP,4400h  [12 NotCovered]\n\
+\x20 goes to 0003, whose fact B = 0 does not follow: before the step no fact; B 00..FF\n\
+\x20 known: nothing of the registers that matter\n\
+\x20 annotations in reach: fact at 0003: B = 0, fact at 0003: 2*B = 0, fact at 0003: 3*B = 0, fact at 0003: 4*B = 0, fact at 0003: 5*B = 0\n\
+\x20 try: leave out the fact at 0003\n\
+\x20 see: galcert explain 12\n",
     },
 ];

@@ -3,8 +3,11 @@
 use explanation_samples::{PROGRAMS, Program, SAMPLES, Sample, explain_whole};
 use std::alloc::{AllocError, Global};
 
-/// What stands before the address of a fact that is to be left out.
-const LEFT_OUT: &str = "try: leave out the fact at ";
+/// What stands before the addresses of facts that are to be left out.
+const LEFT_OUT: &str = "try: leave out the fact";
+
+/// What stands before a split that is to stand in the place of another one.
+const INSTEAD: &str = "try: put in the place of the split at the same address";
 
 /// Annotations without the facts of an address.
 fn without_fact(alloc: Global, said: &str, at: &str) -> Result<String, AllocError> {
@@ -20,13 +23,27 @@ fn without_fact(alloc: Global, said: &str, at: &str) -> Result<String, AllocErro
     Ok(left)
 }
 
-/// Annotations with the remedies of a text: notes are added at the end, keys replace those that stand there, and a fact
-/// is left out.
+/// Annotations without the facts that a line lists after `at`.
+fn without_facts(alloc: Global, said: &str, line: &str) -> Result<String, AllocError> {
+    let mut left = String::from_str(alloc, said)?;
+    if let Some((_, places)) = line.split_once(" at ") {
+        for at in places.split(", ") {
+            left = without_fact(alloc, left.as_str(), at)?;
+        }
+    }
+    Ok(left)
+}
+
+/// Annotations with the remedies of a text: notes are added at the end, keys replace those that stand there, a split
+/// replaces the only one, and facts are left out.
 fn with_remedies(alloc: Global, said: &str, text: &str) -> Result<String, AllocError> {
     if let Some((_, after)) = text.split_once(LEFT_OUT) {
-        let at = after.lines().next().unwrap_or("");
-        return without_fact(alloc, said, at);
+        return without_facts(alloc, said, after.lines().next().unwrap_or(""));
     }
+    let said = match said.split_once("[[split]]") {
+        Some((before, _)) if text.contains(INSTEAD) => before,
+        _ => said,
+    };
     let mut keys = String::new(alloc);
     let mut notes = String::new(alloc);
     let mut adds = false;
@@ -36,7 +53,7 @@ fn with_remedies(alloc: Global, said: &str, text: &str) -> Result<String, AllocE
             pasted.push_str(line)?;
             pasted.push_str("\n")?;
         } else {
-            adds = line == "  try: add to the annotations";
+            adds = line == "  try: add to the annotations" || line.ends_with(INSTEAD);
         }
     }
     let mut all = String::new(alloc);
@@ -66,6 +83,7 @@ fn names_key_of(line: &str, pasted: &str) -> bool {
 fn has_remedy(sample: &Sample) -> bool {
     sample.text.contains("try: add to the annotations")
         || sample.text.contains("try: set in the annotations")
+        || sample.text.contains(INSTEAD)
         || sample.text.contains(LEFT_OUT)
 }
 

@@ -1,22 +1,27 @@
 // The lines about one refusal.
 
-use crate::habits::habit_of;
+use crate::habits::{Doing, habit_of};
 use crate::known::{add_known, add_near};
 use crate::loops::add_time;
 use crate::remedy::add_remedy;
 use crate::whence::add_whence;
 use abs_step::{NextKind, Reason};
 use analysis::FlowFault;
-use explanations::{Explored, Refusal, Situation};
+use explanations::{Explored, Refusal, Situation, origins_of};
 use inferred_rows::{ContextPoint, pointer_of};
 use intervals::RegPair;
-use loop_bounds::Variable;
+use loop_bounds::{Part, SlotNumber, Variable};
 use refusal_texts::{
     Wording, add_computed, add_decode, add_halt, add_io, add_lacking, add_line, add_misfit,
     add_reached, add_saved, add_sp_write, add_uncovered, add_unset, add_write, facts_of, is_astray,
     jump_pair, proc_of_next, rows_at,
 };
 use remedies::Remedy;
+use std::alloc::Global;
+use z80_decode::{Instr, Memory, Place};
+
+/// The address after the ROM.
+const ROM_END: u16 = 0x4000;
 
 /// The name and the number of a reason in brackets: `[6 WriteRom]`.
 fn reason_text(with: &Wording, reason: Reason) -> Result<String, FlowFault> {
@@ -142,14 +147,99 @@ fn variable_of(explored: &Explored, refusal: &Refusal) -> Option<Variable> {
         | Reason::NmiMissing
         | Reason::CellRange
         | Reason::CellUnarmed => pointer_of(&instr),
-        Reason::NotCovered => match jump_pair(&instr)? {
-            RegPair::Hl => Some(Variable::Hl),
-            RegPair::Ix => Some(Variable::Ix),
-            RegPair::Iy => Some(Variable::Iy),
-            _ => None,
-        },
+        Reason::NotCovered => pair_jumped_by(&instr),
         _ => None,
     }
+}
+
+/// The pair through which an instruction jumps, as a variable.
+fn pair_jumped_by(instr: &Instr) -> Option<Variable> {
+    match jump_pair(instr)? {
+        RegPair::Hl => Some(Variable::Hl),
+        RegPair::Ix => Some(Variable::Ix),
+        RegPair::Iy => Some(Variable::Iy),
+        _ => None,
+    }
+}
+
+/// Whether a row jumps through a pair that comes from RAM.
+fn jumps_by_ram(alloc: Global, explored: &Explored, row: u64) -> Result<bool, FlowFault> {
+    let Some(instr) = explored.instr_at(ContextPoint::of(row).address) else {
+        return Ok(false);
+    };
+    let Some(variable) = pair_jumped_by(&instr) else {
+        return Ok(false);
+    };
+    let found = origins_of(alloc, explored, row, variable)?;
+    Ok(found.iter().any(|origin| match explored.instr_at(origin.at) {
+        Some(instr) => reads_ram(&instr),
+        None => false,
+    }))
+}
+
+/// Whether an instruction loads from an address above the ROM, or by an index register.
+fn reads_ram(instr: &Instr) -> bool {
+    match instr {
+        Instr::LoadRegister(_, Place::Memory(Memory::At(_, _))) => true,
+        Instr::LoadPairDirect(_, address) => *address >= ROM_END,
+        _ => false,
+    }
+}
+
+/// What a refused row does, as far as the habit depends on it.
+fn doing_of(
+    alloc: Global,
+    explored: &Explored,
+    row: u64,
+    situation: &Situation,
+) -> Result<Doing, FlowFault> {
+    let point = ContextPoint::of(row);
+    let around = explored.loop_around(alloc, point.proc, point.address)?;
+    Ok(Doing {
+        in_loop: around.is_some(),
+        jumps: jumps_at(explored, row),
+        reads_ram: jumps_by_ram(alloc, explored, row)?,
+        pops: situation.state.shape.is_empty(),
+        lacks: !explored.lacking(alloc, row)?.is_empty(),
+        is_inline: pops_inline_call(alloc, explored, row, situation)?,
+    })
+}
+
+/// Whether the word on top of the stack is the return address of an inline call.
+fn pops_inline_call(
+    alloc: Global,
+    explored: &Explored,
+    row: u64,
+    situation: &Situation,
+) -> Result<bool, FlowFault> {
+    let slots = situation.state.shape.len();
+    if slots == 0 {
+        return Ok(false);
+    }
+    let Some(number) = SlotNumber::new(slots.saturating_sub(1).min(63) as u8) else {
+        return Ok(false);
+    };
+    let top = Variable::Slot(number, Part::Word);
+    let found = origins_of(alloc, explored, row, top)?;
+    Ok(found.iter().any(|origin| {
+        explored
+            .task
+            .said()
+            .inlines()
+            .contains(&origin.at)
+    }))
+}
+
+/// Whether a row is a computed jump, or has no instruction and is reached by one.
+fn jumps_at(explored: &Explored, row: u64) -> bool {
+    let address = ContextPoint::of(row).address;
+    if explored.instr_at(address).is_some() {
+        return pair_of_jump(explored, address).is_some();
+    }
+    explored
+        .incoming(row)
+        .iter()
+        .any(|edge| pair_of_jump(explored, ContextPoint::of(edge.from).address).is_some())
 }
 
 /// Adds the lines about one refused row: where, what, whence, what is known, the annotations in reach, and a remedy.
@@ -166,9 +256,14 @@ pub fn add_block(
 ) -> Result<(), FlowFault> {
     let alloc = with.alloc;
     add_head(text, with, refusal)?;
-    let mut in_loop = false;
-    let jumps = pair_of_jump(explored, refusal.address).is_some();
-    let mut pops = false;
+    let mut doing = Doing {
+        in_loop: false,
+        jumps: pair_of_jump(explored, refusal.address).is_some(),
+        reads_ram: false,
+        pops: false,
+        lacks: false,
+        is_inline: false,
+    };
     let mut astray = false;
     if let Some(row) = refusal.row {
         if let Some(situation) = Situation::at(alloc, explored, row) {
@@ -184,11 +279,7 @@ pub fn add_block(
             }
             add_known(text, with, &situation)?;
             add_near(text, with, explored, row)?;
-            let proc = ContextPoint::of(row).proc;
-            in_loop = explored
-                .loop_around(alloc, proc, refusal.address)?
-                .is_some();
-            pops = situation.state.shape.is_empty();
+            doing = doing_of(alloc, explored, row, &situation)?;
             astray = is_astray(&situation, refusal.reason);
         }
     }
@@ -198,7 +289,7 @@ pub fn add_block(
             "try: no annotation helps; write to an address that is allowed: docs/HABITS.md, 3 \"Keep code and data apart\"",
         )?;
     } else {
-        let habit = habit_of(refusal.reason, in_loop, jumps, pops);
+        let habit = habit_of(refusal.reason, doing);
         add_remedy(text, with, remedy, habit)?;
     }
     let number = refusal.reason.number();

@@ -1,6 +1,7 @@
 // The lines of a remedy.
 
 use analysis::FlowFault;
+use annotations::Annotations;
 use refusal_texts::{Wording, add_line};
 use remedies::Remedy;
 use suggestions::lines_of_notes;
@@ -21,12 +22,11 @@ pub fn add_remedy(
     match remedy {
         Remedy::Notes(notes) => {
             add_line(text, "try: add to the annotations")?;
-            for line in lines_of_notes(alloc, &with.names.symbols, notes)?.lines() {
-                text.push_str("    ")?;
-                text.push_str(line)?;
-                text.push_str("\n")?;
-            }
-            Ok(())
+            add_notes(text, with, notes)
+        }
+        Remedy::Instead(notes) => {
+            add_line(text, "try: put in the place of the split at the same address")?;
+            add_notes(text, with, notes)
         }
         Remedy::Stack(region) => {
             add_line(text, "try: set in the annotations")?;
@@ -41,30 +41,60 @@ pub fn add_remedy(
             text.push_str(format!(in alloc; "    nmi = true\n    budget = {budget}\n")?.as_str())?;
             Ok(())
         }
-        Remedy::WithoutFacts(at) => {
-            let place = with.place(*at)?;
-            add_line(
-                text,
-                format!(in alloc; "try: leave out the fact at {place}")?.as_str(),
-            )
-        }
-        Remedy::Infer => add_line(
-            text,
-            "try: the same command with --infer, which needs no annotation for it",
-        ),
+        Remedy::WithoutFacts(gone) => add_left_out(text, with, gone),
+        Remedy::Above => add_line(text, "try: what is to be added above takes this away too"),
+        Remedy::Infer => add_inferring(text, with, habit),
         Remedy::Untried => add_line(
             text,
             "try: mend what stands above, and explain again: no more was tried",
         ),
-        Remedy::Unknown => match habit {
-            Some((number, title)) => add_line(
-                text,
-                format!(in alloc;
-                    "try: no annotation is known; rewrite it: docs/HABITS.md, {number} \"{title}\""
-                )?.as_str(),
-            ),
-            None => add_line(text, "try: no annotation is known"),
-        },
+        Remedy::Unknown => add_habit(text, with, habit),
+    }
+}
+
+/// Adds notes as a text that can be pasted.
+fn add_notes(text: &mut String, with: &Wording, notes: &Annotations) -> Result<(), FlowFault> {
+    for line in lines_of_notes(with.alloc, &with.names.symbols, notes)?.lines() {
+        text.push_str("    ")?;
+        text.push_str(line)?;
+        text.push_str("\n")?;
+    }
+    Ok(())
+}
+
+/// Adds the addresses whose facts are to be left out.
+fn add_left_out(text: &mut String, with: &Wording, gone: &[u16]) -> Result<(), FlowFault> {
+    text.push_str(if gone.len() == 1 {
+        "  try: leave out the fact at "
+    } else {
+        "  try: leave out the facts at "
+    })?;
+    for (count, at) in gone.iter().enumerate() {
+        text.push_str(if count == 0 { "" } else { ", " })?;
+        text.push_str(with.place(*at)?.as_str())?;
+    }
+    text.push_str("\n")?;
+    Ok(())
+}
+
+/// Adds that `--infer` needs no annotation, and a habit that needs none either.
+fn add_inferring(
+    text: &mut String,
+    with: &Wording,
+    habit: Option<(u8, &str)>,
+) -> Result<(), FlowFault> {
+    let alloc = with.alloc;
+    match habit {
+        Some((number, title)) => add_line(
+            text,
+            format!(in alloc;
+                "try: the same command with --infer, which needs no annotation for it; or rewrite it: docs/HABITS.md, {number} \"{title}\""
+            )?.as_str(),
+        ),
+        None => add_line(
+            text,
+            "try: the same command with --infer, which needs no annotation for it",
+        ),
     }
 }
 

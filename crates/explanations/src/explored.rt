@@ -1,5 +1,6 @@
 // The rows of an exploring analysis, with the steps that come to each.
 
+use crate::unshown::Steps;
 use abs_state::AbsState;
 use analysis::{FlowFault, Task};
 use board_fetch::fetch;
@@ -57,6 +58,14 @@ impl<'e> Explored<'e> {
     /// All steps, by the rows to which they come.
     pub fn edges(&self) -> &[RowEdge] {
         self.incoming.as_slice()
+    }
+
+    /// The rows, and the steps between them.
+    pub fn steps(&self) -> Steps<'_> {
+        Steps {
+            list: self.list,
+            edges: self.incoming.as_slice(),
+        }
     }
 
     /// The instruction at an address.

@@ -140,16 +140,16 @@ pub fn add_uncovered(
         )?;
         return Ok(true);
     }
+    for fact in row.facts.as_slice() {
+        if !all_follow(facts, &situation.state, &next.effect, [*fact].as_slice()) {
+            add_fact(text, with, to.as_str(), fact, &situation.state, facts)?;
+            return Ok(true);
+        }
+    }
     for pair in PAIRS {
         let (is, wanted) = (arriving.pairs.pair(pair), row.state.pairs.pair(pair));
         if !wanted.covers(&is) {
             add_pair(text, with, to.as_str(), pair, is, wanted)?;
-            return Ok(true);
-        }
-    }
-    for fact in row.facts.as_slice() {
-        if !all_follow(facts, &situation.state, &next.effect, [*fact].as_slice()) {
-            add_fact(text, with, to.as_str(), fact, &situation.state, facts)?;
             return Ok(true);
         }
     }

@@ -114,9 +114,11 @@ impl<'r> Case<'r> {
         if !self.said.facts().iter().any(|note| note.at == at) {
             return Ok(Remedy::Unknown);
         }
-        let said = without_facts(self.alloc, self.said, at)?;
+        let mut gone = Vec::new(self.alloc);
+        gone.push(at)?;
+        let said = without_facts(self.alloc, self.said, &gone)?;
         if answers_otherwise(self.alloc, self.bytes, &said, at, refusal.reason)? {
-            Ok(Remedy::WithoutFacts(at))
+            Ok(Remedy::WithoutFacts(gone))
         } else {
             Ok(Remedy::Unknown)
         }

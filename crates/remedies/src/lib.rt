@@ -2,13 +2,16 @@
 #![tactic(auto)]
 
 mod case;
+mod facts;
 mod looking;
 mod loops;
 mod merging;
+mod moves;
+mod parts;
 mod tried;
 
 pub use case::Case;
 pub use looking::{Remedies, Remedy};
 pub use loops::for_loop;
-pub use merging::with_region;
+pub use merging::{with_region, without_splits};
 pub use tried::plain_setting;

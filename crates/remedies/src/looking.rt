@@ -1,26 +1,23 @@
 // Remedies: annotations that were tried, and take a refusal away.
 
 use crate::case::Case;
+use crate::facts::{NeededFacts, with_facts};
 use crate::loops::for_time;
-use crate::merging::{added_of, merged, only_facts, with_budget, without_facts};
-use crate::tried::is_gone;
+use crate::merging::{
+    added_of, clash, merged, only_facts, only_split, with_budget, with_split_instead, without_facts,
+};
+use crate::moves::helping_on;
+use crate::parts::widened_split;
+use crate::tried::{Asked, clean_with};
 use abs_step::Reason;
 use address_map::{Region, Rom};
 use analysis::FlowFault;
-use annotations::{Annotations, FactNote};
-use explanations::Refusal;
-use explored_plans::{ExploredPlan, Family, Progress, Search, exploring};
-use fact_closure::{FactSearch, needed_facts};
-use inferred_rows::{ContextPoint, Guide};
-use plan_search::helping_at;
+use annotations::Annotations;
+use explanations::{Refusal, Situation, falling_with, unshown_after};
+use explored_plans::{ExploredPlan, Family, Progress, Search};
+use inferred_rows::ContextPoint;
 use std::alloc::Global;
 use t_states::MAX_BUDGET;
-
-/// The most facts of an address.
-const FACTS: usize = 4;
-
-/// The most facts of a remedy of which it is tried whether each is needed.
-const FEW: usize = 8;
 
 /// The most trials for one refusal.
 const TRIALS: u32 = 40;
@@ -34,8 +31,12 @@ pub enum Remedy {
     Stack(Region),
     /// An NMI routine, with this budget.
     Budget(u16),
-    /// The facts of this address are left out.
-    WithoutFacts(u16),
+    /// The facts of these addresses are left out.
+    WithoutFacts(Vec<u16>),
+    /// A split in the place of the one at its address.
+    Instead(Annotations),
+    /// The notes of the remedies before this one.
+    Above,
     /// `check --infer` with the same annotations.
     Infer,
     /// None is known.
@@ -52,35 +53,29 @@ pub struct Remedies {
     /// Whether one more was wanted.
     is_spent: bool,
     /// The facts that the rows of the search need, once they are known.
-    facts: Option<Vec<FactNote>>,
+    needed: Option<NeededFacts>,
+    /// The annotations with the notes of all remedies so far, where there are any.
+    so_far: Option<Annotations>,
+    /// The addresses that are not refused with these, rising.
+    clean: Vec<u16>,
+    /// Those of the last analysis in which further notes took a refusal away.
+    last_clean: Vec<u16>,
 }
 
 impl Remedies {
     /// Nothing was tried yet. At most `analyses` are made, beside the trials of the search.
-    pub fn new(analyses: u32) -> Remedies {
+    pub fn new(alloc: Global, analyses: u32) -> Remedies {
         Remedies {
             left: analyses,
             is_spent: false,
-            facts: None,
+            needed: None,
+            so_far: None,
+            clean: Vec::new(alloc),
+            last_clean: Vec::new(alloc),
         }
     }
 
-    /// The facts that the rows of the search need.
-    fn needed<P: Progress>(
-        &mut self,
-        case: &Case,
-        search: &Search<P>,
-    ) -> Result<Vec<FactNote>, FlowFault> {
-        if let Some(facts) = &self.facts {
-            return Ok(Vec::from_slice(case.alloc, facts.as_slice())?);
-        }
-        let facts = facts_of(case.alloc, search, &search.explored)?;
-        let copy = Vec::from_slice(case.alloc, facts.as_slice())?;
-        self.facts = Some(facts);
-        Ok(copy)
-    }
-
-    /// A remedy against a refusal.
+    /// A remedy against a refusal. It was tried together with the notes of the remedies before it.
     ///
     /// # Errors
     ///
@@ -92,13 +87,50 @@ impl Remedies {
         refusal: &Refusal,
     ) -> Result<Remedy, FlowFault> {
         self.is_spent = false;
-        let remedy = self.looked_for(case, search, refusal)?;
-        let is_none = matches!(&remedy, Remedy::Unknown | Remedy::Infer);
-        Ok(if is_none && self.is_spent {
-            Remedy::Untried
-        } else {
-            remedy
-        })
+        if refusal.row.is_some() && self.clean.binary_search(&refusal.address).is_ok() {
+            return Ok(Remedy::Above);
+        }
+        match self.looked_for(case, search, refusal)? {
+            Remedy::Unknown | Remedy::Infer if self.is_spent => Ok(Remedy::Untried),
+            Remedy::Notes(notes) => self.kept(case, notes),
+            remedy => Ok(remedy),
+        }
+    }
+
+    /// These notes as a remedy, which the next remedies go together with.
+    fn kept(&mut self, case: &Case, notes: Annotations) -> Result<Remedy, FlowFault> {
+        self.so_far = Some(merged(case.alloc, self.said_so_far(case), &notes)?);
+        self.clean = Vec::from_slice(case.alloc, self.last_clean.as_slice())?;
+        Ok(Remedy::Notes(notes))
+    }
+
+    /// The annotations with the notes of all remedies so far.
+    pub(crate) fn said_so_far<'c>(&'c self, case: &'c Case) -> &'c Annotations {
+        match &self.so_far {
+            Some(said) => said,
+            None => case.said,
+        }
+    }
+
+    /// Whether an address is refused no more with these notes and those of all remedies so far.
+    pub(crate) fn is_gone_by(
+        &mut self,
+        case: &Case,
+        notes: &Annotations,
+        address: u16,
+    ) -> Result<bool, FlowFault> {
+        let before = self.said_so_far(case);
+        if clash(before, notes) {
+            return Ok(false);
+        }
+        let said = merged(case.alloc, before, notes)?;
+        match self.clean_with(case, &said, address)? {
+            Some(addresses) => {
+                self.last_clean = addresses;
+                Ok(true)
+            }
+            None => Ok(false),
+        }
     }
 
     fn looked_for<P: Progress>(
@@ -126,10 +158,13 @@ impl Remedies {
                 Remedy::Unknown => self.found(case, search, refusal),
                 remedy => Ok(remedy),
             },
-            Reason::NotCovered => match self.without_facts_after(case, refusal)? {
+            Reason::NotCovered => match self.otherwise_covered(case, refusal)? {
                 Remedy::Unknown => self.found(case, search, refusal),
                 remedy => Ok(remedy),
             },
+            Reason::WriteRom | Reason::WriteUnmapped if writes_one_address(case, refusal) => {
+                Ok(Remedy::Unknown)
+            }
             Reason::WriteRom
             | Reason::WriteUnmapped
             | Reason::StackShape
@@ -147,24 +182,76 @@ impl Remedies {
         said: &Annotations,
         address: u16,
     ) -> Result<bool, FlowFault> {
+        Ok(self.clean_with(case, said, address)?.is_some())
+    }
+
+    /// The addresses that are not refused with these annotations, rising; None if this address is refused, or no
+    /// analysis is left.
+    fn clean_with(
+        &mut self,
+        case: &Case,
+        said: &Annotations,
+        address: u16,
+    ) -> Result<Option<Vec<u16>>, FlowFault> {
         let Some(rom) = Rom::of(case.bytes) else {
-            return Ok(false);
+            return Ok(None);
         };
         if self.left == 0 {
             self.is_spent = true;
-            return Ok(false);
+            return Ok(None);
         }
         self.left = self.left.saturating_sub(1);
         let map = said.board().map(rom.len());
-        is_gone(
-            case.alloc,
-            case.bytes,
-            &rom,
-            &map,
-            said,
+        let asked = Asked {
             address,
-            case.visits,
-        )
+            before: self.said_so_far(case).facts(),
+            visits: case.visits,
+        };
+        clean_with(case.alloc, case.bytes, &rom, &map, said, asked)
+    }
+
+    /// Other facts or another split where a row leads, if the refusal goes then.
+    fn otherwise_covered(&mut self, case: &Case, refusal: &Refusal) -> Result<Remedy, FlowFault> {
+        let remedy = self.without_unshown(case, refusal)?;
+        if !matches!(&remedy, Remedy::Unknown) {
+            return Ok(remedy);
+        }
+        match self.without_facts_after(case, refusal)? {
+            Remedy::Unknown => self.with_parts(case, refusal),
+            remedy => Ok(remedy),
+        }
+    }
+
+    /// The annotations without the facts that do not follow where a row leads, and without those that follow only from
+    /// these, if the refusal goes then.
+    fn without_unshown(&mut self, case: &Case, refusal: &Refusal) -> Result<Remedy, FlowFault> {
+        let gone = unshown_facts(case, refusal)?;
+        if gone.is_empty() {
+            return Ok(Remedy::Unknown);
+        }
+        let said = without_facts(case.alloc, case.said, &gone)?;
+        if self.is_gone_with(case, &said, refusal.address)? {
+            Ok(Remedy::WithoutFacts(gone))
+        } else {
+            Ok(Remedy::Unknown)
+        }
+    }
+
+    /// The split to which a row leads with the parts that it lacks, if the refusal goes then.
+    fn with_parts(&mut self, case: &Case, refusal: &Refusal) -> Result<Remedy, FlowFault> {
+        let Some(number) = refusal.row else {
+            return Ok(Remedy::Unknown);
+        };
+        for (at, range) in case.explored.lacking(case.alloc, number)? {
+            let Some(split) = widened_split(case.alloc, case.said, at, range)? else {
+                continue;
+            };
+            let said = with_split_instead(case.alloc, case.said, &split)?;
+            if self.is_gone_with(case, &said, refusal.address)? {
+                return Ok(Remedy::Instead(only_split(case.alloc, case.said, split)?));
+            }
+        }
+        Ok(Remedy::Unknown)
     }
 
     /// The annotations without the facts to which a row leads, if the refusal goes then.
@@ -179,9 +266,11 @@ impl Remedies {
             if edge.from != number || !has_fact {
                 continue;
             }
-            let said = without_facts(case.alloc, case.said, to)?;
+            let mut gone = Vec::new(case.alloc);
+            gone.push(to)?;
+            let said = without_facts(case.alloc, case.said, &gone)?;
             if self.is_gone_with(case, &said, refusal.address)? {
-                return Ok(Remedy::WithoutFacts(to));
+                return Ok(Remedy::WithoutFacts(gone));
             }
         }
         Ok(Remedy::Unknown)
@@ -194,199 +283,113 @@ impl Remedies {
         search: &mut Search<P>,
         refusal: &Refusal,
     ) -> Result<Remedy, FlowFault> {
-        let address = refusal.address;
-        let has_rows = !search.explored.rows_at(address).is_empty();
-        if has_rows && search.explored.refusals_at(address).0 == 0 {
-            let facts = self.needed(case, search)?;
-            let none = only_facts(case.alloc, case.said, Vec::new(case.alloc));
-            return match self.with_facts(case, refusal, &none, facts)? {
-                Remedy::Unknown => Ok(Remedy::Infer),
-                remedy => Ok(remedy),
-            };
-        }
-        if !has_rows {
+        if search.explored.rows_at(refusal.address).is_empty() {
             return Ok(Remedy::Unknown);
         }
+        if search.explored.refusals_at(refusal.address).0 == 0 {
+            return self.with_needed(case, search, refusal);
+        }
+        match self.moved(search, refusal.address)? {
+            Some(other) if has_plain_form(&other) => self.with_move(case, search, refusal, &other),
+            Some(_) => Ok(Remedy::Infer),
+            None => Ok(Remedy::Unknown),
+        }
+    }
+
+    /// Facts that the rows of the search need, if they take a refusal away; else only an inferring run has them.
+    fn with_needed<P: Progress>(
+        &mut self,
+        case: &Case,
+        search: &Search<P>,
+        refusal: &Refusal,
+    ) -> Result<Remedy, FlowFault> {
+        let needed = match self.needed.take() {
+            Some(needed) => needed,
+            None => NeededFacts::of(case.alloc, search, &search.explored)?,
+        };
+        let none = only_facts(case.alloc, case.said, Vec::new(case.alloc));
+        let remedy = with_facts(self, case, refusal, &none, &search.explored, &needed)?;
+        self.needed = Some(needed);
+        Ok(or_infer(remedy))
+    }
+
+    /// The first move of a search that takes the refusals of an address away.
+    fn moved<P: Progress>(
+        &mut self,
+        search: &mut Search<P>,
+        address: u16,
+    ) -> Result<Option<ExploredPlan>, FlowFault> {
         let left = search.left;
-        self.is_spent = left == 0;
         search.left = left.min(TRIALS);
-        let found = helping_at(search, address)?;
+        let found = helping_on(search, address)?;
         let taken = left.min(TRIALS).saturating_sub(search.left);
         search.left = left.saturating_sub(taken);
-        let Some(other) = found else {
-            return Ok(Remedy::Unknown);
-        };
-        if !has_plain_form(&other) {
-            return Ok(Remedy::Infer);
-        }
-        let added = added_of(case.alloc, case.said, &other.said)?;
-        let said = merged(case.alloc, case.said, &added)?;
-        if self.is_gone_with(case, &said, address)? {
-            return Ok(Remedy::Notes(added));
-        }
-        let facts = facts_of(case.alloc, search, &other)?;
-        match self.with_facts(case, refusal, &added, facts)? {
-            Remedy::Unknown => Ok(Remedy::Infer),
-            remedy => Ok(remedy),
-        }
+        self.is_spent = search.left == 0;
+        Ok(found)
     }
 
-    /// Notes and as few of these facts as take a refusal away: those of the address, of the loop around it, of the
-    /// procedure, or all.
-    fn with_facts(
+    /// The notes of a move, with facts if these are needed.
+    fn with_move<P: Progress>(
         &mut self,
         case: &Case,
+        search: &Search<P>,
         refusal: &Refusal,
-        notes: &Annotations,
-        facts: Vec<FactNote>,
+        other: &ExploredPlan,
     ) -> Result<Remedy, FlowFault> {
-        let address = refusal.address;
-        let proc = match refusal.row {
-            Some(number) => ContextPoint::of(number).proc,
-            None => analysis::MAIN,
-        };
-        let explored = case.explored;
-        let around = explored.loop_around(case.alloc, proc, address)?;
-        for round in 0..4u8 {
-            let mut chosen: Vec<FactNote> = Vec::new(case.alloc);
-            for fact in facts.as_slice() {
-                let is_near = match round {
-                    0 => fact.at == address,
-                    1 => match &around {
-                        Some(found) => found.contains(fact.at),
-                        None => false,
-                    },
-                    2 => !explored.rows_at(case.alloc, proc, fact.at)?.is_empty(),
-                    _ => true,
-                };
-                let count = chosen.iter().filter(|other| other.at == fact.at).count();
-                if is_near && count < FACTS {
-                    chosen.push(*fact)?;
-                }
-            }
-            if chosen.is_empty() {
-                continue;
-            }
-            if let Some(added) = self.if_facts_help(case, address, notes, &chosen)? {
-                return self.lessened(case, address, notes, chosen, added);
-            }
+        let added = added_of(case.alloc, case.said, &other.said)?;
+        if clash(self.said_so_far(case), &added) {
+            return Ok(Remedy::Untried);
         }
-        Ok(Remedy::Unknown)
-    }
-
-    /// Notes and facts together, if an address is refused no more with them.
-    fn if_facts_help(
-        &mut self,
-        case: &Case,
-        address: u16,
-        notes: &Annotations,
-        facts: &[FactNote],
-    ) -> Result<Option<Annotations>, FlowFault> {
-        let own = only_facts(case.alloc, case.said, Vec::from_slice(case.alloc, facts)?);
-        let added = merged(case.alloc, notes, &own)?;
-        let said = merged(case.alloc, case.said, &added)?;
-        if self.is_gone_with(case, &said, address)? {
-            Ok(Some(added))
-        } else {
-            Ok(None)
-        }
-    }
-
-    /// The same without facts that are not needed: without all those over the same variables, and where the facts are
-    /// few also without each.
-    fn lessened(
-        &mut self,
-        case: &Case,
-        address: u16,
-        notes: &Annotations,
-        facts: Vec<FactNote>,
-        added: Annotations,
-    ) -> Result<Remedy, FlowFault> {
-        let mut facts = facts;
-        let mut added = added;
-        for kind in first_of_kinds(case.alloc, &facts)? {
-            let fewer = without_kind(case.alloc, &facts, &kind)?;
-            if fewer.is_empty() {
-                continue;
-            }
-            if let Some(less) = self.if_facts_help(case, address, notes, &fewer)? {
-                facts = fewer;
-                added = less;
-            }
-        }
-        if facts.len() > FEW {
+        if self.is_gone_by(case, &added, refusal.address)? {
             return Ok(Remedy::Notes(added));
         }
-        self.without_each(case, address, notes, facts, added)
-    }
-
-    /// The same without each fact that is not needed, the last ones first.
-    fn without_each(
-        &mut self,
-        case: &Case,
-        address: u16,
-        notes: &Annotations,
-        facts: Vec<FactNote>,
-        added: Annotations,
-    ) -> Result<Remedy, FlowFault> {
-        let mut facts = facts;
-        let mut added = added;
-        for place in (0..facts.len()).rev() {
-            let fewer = without_place(case.alloc, &facts, place)?;
-            if let Some(less) = self.if_facts_help(case, address, notes, &fewer)? {
-                facts = fewer;
-                added = less;
-            }
-        }
-        Ok(Remedy::Notes(added))
+        let needed = NeededFacts::of(case.alloc, search, other)?;
+        let remedy = with_facts(self, case, refusal, &added, other, &needed)?;
+        Ok(or_infer(remedy))
     }
 }
 
-/// The facts that are not of the kind of another one.
-fn without_kind(
-    alloc: Global,
-    facts: &[FactNote],
-    kind: &FactNote,
-) -> Result<Vec<FactNote>, FlowFault> {
-    let mut fewer: Vec<FactNote> = Vec::new(alloc);
-    for fact in facts {
-        if !is_of_kind(fact, kind) {
-            fewer.push(*fact)?;
-        }
+/// The remedy, or an inferring run where it is unknown.
+fn or_infer(remedy: Remedy) -> Remedy {
+    match remedy {
+        Remedy::Unknown => Remedy::Infer,
+        remedy => remedy,
     }
-    Ok(fewer)
 }
 
-/// The facts but the one at a place.
-fn without_place(
-    alloc: Global,
-    facts: &[FactNote],
-    place: usize,
-) -> Result<Vec<FactNote>, FlowFault> {
-    let mut fewer: Vec<FactNote> = Vec::new(alloc);
-    for (at, fact) in facts.iter().enumerate() {
-        if at != place {
-            fewer.push(*fact)?;
-        }
+/// Whether each write of a row goes to one address, which no annotation changes.
+fn writes_one_address(case: &Case, refusal: &Refusal) -> bool {
+    let Some(row) = refusal.row else {
+        return false;
+    };
+    match Situation::at(case.alloc, case.explored, row) {
+        Some(situation) => situation
+            .judged
+            .writes
+            .iter()
+            .all(|write| write.at.value().is_some()),
+        None => false,
     }
-    Ok(fewer)
 }
 
-/// Whether two facts are over the same variables, with the same coefficients.
-fn is_of_kind(one: &FactNote, other: &FactNote) -> bool {
-    one.fact.terms() == other.fact.terms()
-}
-
-/// Of the facts of each kind the first.
-fn first_of_kinds(alloc: Global, facts: &[FactNote]) -> Result<Vec<FactNote>, FlowFault> {
-    let mut kinds: Vec<FactNote> = Vec::new(alloc);
-    for fact in facts {
-        let is_new = kinds.iter().all(|other| !is_of_kind(fact, other));
-        if is_new && kinds.len() < FEW {
-            kinds.push(*fact)?;
-        }
+/// The addresses of the facts that do not follow where a row leads, and of those that follow only from these, rising.
+fn unshown_facts(case: &Case, refusal: &Refusal) -> Result<Vec<u16>, FlowFault> {
+    let mut gone: Vec<u16> = Vec::new(case.alloc);
+    let Some(number) = refusal.row else {
+        return Ok(gone);
+    };
+    let facts = case.said.facts();
+    for first in unshown_after(case.alloc, case.explored.steps(), facts, number)? {
+        gone.extend_from_slice(&falling_with(
+            case.alloc,
+            case.explored.steps(),
+            facts,
+            first,
+        )?)?;
     }
-    Ok(kinds)
+    gone.sort_unstable();
+    gone.dedup();
+    Ok(gone)
 }
 
 /// Whether plain `check` reads what was found.
@@ -400,36 +403,4 @@ pub(crate) fn has_plain_form(explored: &ExploredPlan) -> bool {
             Family::Loop(note) => !note.rises,
             Family::Inlines(_) | Family::Split(_) | Family::Cells(_) => true,
         })
-}
-
-/// The facts that rows of an analysis need, by rising address, each once.
-fn facts_of<P: Progress>(
-    alloc: Global,
-    search: &Search<P>,
-    explored: &ExploredPlan,
-) -> Result<Vec<FactNote>, FlowFault> {
-    let mut facts: Vec<FactNote> = Vec::new(alloc);
-    let Some(task) = search.context.task(&explored.said) else {
-        return Ok(facts);
-    };
-    let wanted = FactSearch {
-        setting: exploring(&task, &explored.guide),
-        related: &explored.list,
-        visits: search.context.visits(),
-    };
-    let guide: Guide = needed_facts(alloc, &wanted)?;
-    for (number, own) in guide.facts.iter() {
-        let at = ContextPoint::of(*number).address;
-        for fact in own.as_slice() {
-            if !facts.iter().any(|note| note.at == at && note.fact == *fact) {
-                facts.push(FactNote {
-                    at,
-                    fact: *fact,
-                    part: None,
-                })?;
-            }
-        }
-    }
-    facts.sort_by_key(|note| note.at)?;
-    Ok(facts)
 }

@@ -9,7 +9,7 @@ use annotations::Annotations;
 use explored_plans::{ExploredPlan, Family, Progress, Search};
 use plan_loops::{with_counters, with_other_bounds};
 
-/// The counter of a loop that is unbounded at an address.
+/// The counters of loops, that of a loop which is unbounded at an address among them.
 ///
 /// # Errors
 ///
@@ -24,8 +24,9 @@ pub fn for_loop<P: Progress>(
         let Some(other) = search.try_plan(plan)? else {
             continue;
         };
-        if let Some(notes) = bounding(case, &other, at)? {
-            return Ok(Remedy::Notes(notes));
+        let remedy = counted(case, &other, at)?;
+        if !matches!(&remedy, Remedy::Unknown) {
+            return Ok(remedy);
         }
         is_found = true;
     }
@@ -35,31 +36,44 @@ pub fn for_loop<P: Progress>(
     }
 }
 
-/// The notes of a plan by which a loop is bounded: those of the loops around its address, or all; None if neither does.
-fn bounding(case: &Case, other: &ExploredPlan, at: u16) -> Result<Option<Annotations>, FlowFault> {
-    let own = loops_around(case, other, at)?;
-    let said = merged(case.alloc, case.said, &own)?;
-    if is_bounded(case.alloc, case.bytes, &said, at)? {
-        return Ok(Some(own));
+/// The counters that a plan has, as a remedy: all that go down, those of the loops around an address, or all notes of the
+/// plan.
+fn counted(case: &Case, other: &ExploredPlan, at: u16) -> Result<Remedy, FlowFault> {
+    let all = falling_loops(case, other, None)?;
+    if is_bounded_with(case, &all, at)? {
+        return Ok(Remedy::Notes(all));
     }
-    if !has_plain_form(other) {
-        return Ok(None);
+    let own = falling_loops(case, other, Some(at))?;
+    if is_bounded_with(case, &own, at)? {
+        return Ok(Remedy::Notes(own));
     }
     let added = added_of(case.alloc, case.said, &other.said)?;
-    let said = merged(case.alloc, case.said, &added)?;
-    if is_bounded(case.alloc, case.bytes, &said, at)? {
-        Ok(Some(added))
-    } else {
-        Ok(None)
+    if has_plain_form(other) && is_bounded_with(case, &added, at)? {
+        return Ok(Remedy::Notes(added));
     }
+    Ok(Remedy::Unknown)
 }
 
-/// What a plan says of the loops around an address.
-fn loops_around(case: &Case, other: &ExploredPlan, at: u16) -> Result<Annotations, FlowFault> {
+/// Whether the loop at an address is bounded with further notes.
+fn is_bounded_with(case: &Case, notes: &Annotations, at: u16) -> Result<bool, FlowFault> {
+    let said = merged(case.alloc, case.said, notes)?;
+    is_bounded(case.alloc, case.bytes, &said, at)
+}
+
+/// The counters of a plan that go down: those of all loops, or of the loops around an address.
+fn falling_loops(
+    case: &Case,
+    other: &ExploredPlan,
+    around: Option<u16>,
+) -> Result<Annotations, FlowFault> {
     let mut own = Vec::new(case.alloc);
     for finding in other.plan.findings.as_slice() {
         if let Family::Loop(note) = &finding.family {
-            if case.is_around(note.at, at)? && !note.rises {
+            let is_asked = match around {
+                Some(at) => case.is_around(note.at, at)?,
+                None => true,
+            };
+            if is_asked && !note.rises {
                 add_loop(&mut own, note)?;
             }
         }

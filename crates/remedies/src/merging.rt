@@ -1,8 +1,9 @@
 // Annotations with notes added, or with another region or budget.
 
+use crate::tried::has_fact;
 use address_map::Region;
 use analysis::FlowFault;
-use annotations::{Annotations, FactNote, LoopNote, Notes};
+use annotations::{Annotations, FactNote, LoopNote, Notes, SplitNote};
 use explored_plans::copy_of_split;
 use loop_bounds::Variable;
 use std::alloc::Global;
@@ -48,7 +49,9 @@ pub(crate) fn merged(
     }
     notes.splits.sort_unstable_by_key(|split| split.at);
     for fact in added.facts() {
-        notes.facts.push(*fact)?;
+        if !has_fact(&notes.facts, fact) {
+            notes.facts.push(*fact)?;
+        }
     }
     notes.facts.sort_by_key(|note| note.at)?;
     for note in added.loops() {
@@ -121,21 +124,82 @@ pub(crate) fn only_loops(alloc: Global, said: &Annotations, loops: Vec<LoopNote>
     with_notes(said, notes)
 }
 
-/// Annotations without the facts of an address.
+/// Annotations without the facts of some addresses.
 pub(crate) fn without_facts(
     alloc: Global,
     said: &Annotations,
-    at: u16,
+    gone: &[u16],
 ) -> Result<Annotations, FlowFault> {
     let mut notes = notes_of(alloc, said)?;
     let mut facts = Vec::new(alloc);
     for fact in said.facts() {
-        if fact.at != at {
+        if !gone.contains(&fact.at) {
             facts.push(*fact)?;
         }
     }
     notes.facts = facts;
     Ok(with_notes(said, notes))
+}
+
+/// Only this split, as annotations.
+pub(crate) fn only_split(
+    alloc: Global,
+    said: &Annotations,
+    split: SplitNote,
+) -> Result<Annotations, FlowFault> {
+    let mut notes = no_notes(alloc);
+    notes.splits.push(split)?;
+    Ok(with_notes(said, notes))
+}
+
+/// Annotations with a split in the place of the one at its address.
+pub(crate) fn with_split_instead(
+    alloc: Global,
+    said: &Annotations,
+    split: &SplitNote,
+) -> Result<Annotations, FlowFault> {
+    let mut notes = notes_of(alloc, said)?;
+    let mut splits = Vec::new(alloc);
+    for other in said.splits() {
+        let kept = if other.at == split.at {
+            split
+        } else {
+            other
+        };
+        splits.push(copy_of_split(alloc, kept)?)?;
+    }
+    notes.splits = splits;
+    Ok(with_notes(said, notes))
+}
+
+/// Annotations without the splits at some addresses.
+///
+/// # Errors
+///
+/// `NoMemory` where memory was refused.
+pub fn without_splits(
+    alloc: Global,
+    said: &Annotations,
+    gone: &[u16],
+) -> Result<Annotations, FlowFault> {
+    let mut notes = notes_of(alloc, said)?;
+    notes.splits.retain(|split| !gone.contains(&split.at));
+    Ok(with_notes(said, notes))
+}
+
+/// Whether two annotations have a split, a loop or a cell at one address.
+pub(crate) fn clash(one: &Annotations, other: &Annotations) -> bool {
+    one.splits()
+        .iter()
+        .any(|split| other.splits().iter().any(|same| same.at == split.at))
+        || one
+            .loops()
+            .iter()
+            .any(|note| other.loops().iter().any(|same| same.at == note.at))
+        || one
+            .cells()
+            .iter()
+            .any(|cell| other.cells().iter().any(|same| same.at == cell.at))
 }
 
 /// Annotations with another region of the stack.

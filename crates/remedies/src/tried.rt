@@ -4,13 +4,12 @@ ghost use Rattle.std.specs.Prelude.{◌≡◌, length};
 
 use abs_step::Reason;
 use address_map::{Map, Rom};
-use analysis::{Flow, FlowFault, ProgramPoint, Task, facts_at, names_slots_below};
-use annotations::Annotations;
+use analysis::{Flow, FlowFault, ProgramPoint, Task};
+use annotations::{Annotations, FactNote};
 use cert_writer::{WriterFault, certify};
-use explanations::{Explored, all_follow};
+use explanations::{Steps, unshown_rows};
 use inferred_rows::{ContextPoint, Guide, Manner};
 use inferring::{Setting, Worklist};
-use loop_bounds::Linear;
 use std::alloc::Global;
 
 /// An analysis that goes on after refusals and keeps no relations, as `check` sees a ROM.
@@ -39,95 +38,195 @@ fn is_clean_at(list: &Worklist, address: u16) -> bool {
     is_there
 }
 
-/// Whether some row of the analysis of `check` at an address is refused.
-fn is_refused_at(flow: &Flow, address: u16) -> bool {
-    flow.rows().iter().any(|(number, row)| ProgramPoint::of(*number).address == address
-        && row.reason.is_some())
+/// What is asked of annotations that are tried.
+#[derive(Clone, Copy)]
+pub(crate) struct Asked<'a> {
+    /// The address that is to be refused no more.
+    pub(crate) address: u16,
+    /// The facts that stood there before; the others are added.
+    pub(crate) before: &'a [FactNote],
+    /// The most visits of rows in one analysis.
+    pub(crate) visits: u32,
 }
 
-/// Whether each annotated fact follows at each step to its address.
-fn are_shown(alloc: Global, explored: &Explored, said: &Annotations) -> Result<bool, FlowFault> {
-    for edge in explored.edges() {
-        let (from, to) = (ContextPoint::of(edge.from), ContextPoint::of(edge.to));
-        let asked = facts_at(said.facts(), to.address);
-        if asked.is_empty() {
-            continue;
-        }
-        let (Some(before), Some(after)) = (explored.row(edge.from), explored.row(edge.to)) else {
-            continue;
-        };
-        let mut wanted: Vec<Linear> = Vec::new(alloc);
-        for note in asked {
-            if names_slots_below(&note.fact, after.state.shape.len()) {
-                wanted.push(note.fact)?;
-            }
-        }
-        let mut given: Vec<Linear> = Vec::new(alloc);
-        for note in facts_at(said.facts(), from.address) {
-            if names_slots_below(&note.fact, before.state.shape.len()) {
-                given.push(note.fact)?;
-            }
-        }
-        if !all_follow(&given, &before.state, &edge.effect, &wanted) {
-            return Ok(false);
+/// What an analysis that goes on after refusals shows of annotations.
+#[derive(Drop)]
+struct Seen {
+    /// The addresses that are not refused, rising.
+    clean: Vec<u16>,
+    /// Whether each annotated fact follows at each step to its address.
+    is_shown: bool,
+}
+
+/// Whether a list has a fact.
+pub(crate) fn has_fact(facts: &[FactNote], fact: &FactNote) -> bool {
+    facts
+        .iter()
+        .any(|other| other.at == fact.at && other.fact == fact.fact)
+}
+
+/// The facts of annotations that were not there before.
+fn added_facts(
+    alloc: Global,
+    said: &Annotations,
+    before: &[FactNote],
+) -> Result<Vec<FactNote>, FlowFault> {
+    let mut added: Vec<FactNote> = Vec::new(alloc);
+    for note in said.facts() {
+        if !has_fact(before, note) {
+            added.push(*note)?;
         }
     }
-    Ok(true)
+    Ok(added)
 }
 
-/// Whether an address is refused no more with these annotations. The map is for a ROM of this length.
+/// The addresses without the bad ones, rising, each once.
+fn without_bad(addresses: Vec<u16>, bad: Vec<u16>) -> Vec<u16> {
+    let (mut left, mut bad) = (addresses, bad);
+    bad.sort_unstable();
+    left.retain(|at| bad.binary_search(at).is_err());
+    left.sort_unstable();
+    left.dedup();
+    left
+}
+
+/// The addresses of a list of rows of which none is refused, rising. `unshown` has rows, rising, from which a fact does
+/// not follow.
+fn clean_addresses(
+    alloc: Global,
+    list: &Worklist,
+    unshown: &[u64],
+) -> Result<Vec<u16>, FlowFault> {
+    let mut all: Vec<u16> = Vec::new(alloc);
+    let mut bad: Vec<u16> = Vec::new(alloc);
+    for (number, row) in list.rows().iter() {
+        let address = ContextPoint::of(*number).address;
+        let is_bad = row.reason.is_some() || row.drops || unshown.binary_search(number).is_ok();
+        if is_bad {
+            bad.push(address)?;
+        } else {
+            all.push(address)?;
+        }
+    }
+    Ok(without_bad(all, bad))
+}
+
+/// What an analysis that goes on after refusals shows of annotations; None if the asked address is refused, or a fact
+/// that is added does not follow.
+fn seen_with(
+    alloc: Global,
+    task: &Task,
+    said: &Annotations,
+    asked: Asked,
+) -> Result<Option<Seen>, FlowFault> {
+    let guide = Guide::none(alloc);
+    let setting = plain_setting(task, &guide);
+    let list = match Worklist::run(alloc, setting, asked.visits) {
+        Ok(list) => list,
+        Err(FlowFault::Limit) => return Ok(None),
+        Err(FlowFault::NoMemory) => return Err(FlowFault::NoMemory),
+    };
+    if !is_clean_at(&list, asked.address) {
+        return Ok(None);
+    }
+    if said.facts().is_empty() {
+        let clean = clean_addresses(alloc, &list, &[])?;
+        return Ok(Some(Seen {
+            clean,
+            is_shown: true,
+        }));
+    }
+    let edges = list.edges(alloc, setting)?;
+    let steps = Steps {
+        list: &list,
+        edges: edges.as_slice(),
+    };
+    seen_on(alloc, steps, said, asked.before)
+}
+
+/// The same for the steps of an analysis in which the asked address is not refused.
+fn seen_on(
+    alloc: Global,
+    steps: Steps,
+    said: &Annotations,
+    before: &[FactNote],
+) -> Result<Option<Seen>, FlowFault> {
+    let added = added_facts(alloc, said, before)?;
+    if !unshown_rows(alloc, steps, said.facts(), &added)?.is_empty() {
+        return Ok(None);
+    }
+    let unshown = unshown_rows(alloc, steps, said.facts(), said.facts())?;
+    let clean = clean_addresses(alloc, steps.list, &unshown)?;
+    Ok(Some(Seen {
+        clean,
+        is_shown: unshown.is_empty(),
+    }))
+}
+
+/// The addresses that are not refused with these annotations, rising; None if the asked address is refused. The map is
+/// for a ROM of this length.
 ///
 /// # Errors
 ///
 /// `NoMemory` where memory was refused.
-pub(crate) fn is_gone(
+pub(crate) fn clean_with(
     alloc: Global,
     bytes: &[u8],
     rom: &Rom,
     map: &Map,
     said: &Annotations,
-    address: u16,
-    visits: u32,
-) -> Result<bool, FlowFault>
+    asked: Asked,
+) -> Result<Option<Vec<u16>>, FlowFault>
     requires { map.now.rom_len ≡ length rom.now }
 {
     let Some(task) = Task::of(rom, map, said) else {
-        return Ok(false);
+        return Ok(None);
     };
-    let guide = Guide::none(alloc);
-    let setting = plain_setting(&task, &guide);
-    let list = match Worklist::run(alloc, setting, visits) {
-        Ok(list) => list,
-        Err(FlowFault::Limit) => return Ok(false),
-        Err(FlowFault::NoMemory) => return Err(FlowFault::NoMemory),
+    let Some(seen) = seen_with(alloc, &task, said, asked)? else {
+        return Ok(None);
     };
-    if !is_clean_at(&list, address) {
-        return Ok(false);
-    }
-    if !said.facts().is_empty() {
-        let explored = Explored::of(alloc, setting, &list)?;
-        if !are_shown(alloc, &explored, said)? {
-            return Ok(false);
-        }
-    }
     let flow = match Flow::run(alloc, &task) {
         Ok(flow) => flow,
-        Err(FlowFault::Limit) => return Ok(false),
+        Err(FlowFault::Limit) => return Ok(None),
         Err(FlowFault::NoMemory) => return Err(FlowFault::NoMemory),
     };
-    if is_refused_at(&flow, address) {
-        return Ok(false);
+    let bad = refused_addresses(alloc, &flow)?;
+    if bad.contains(&asked.address) {
+        return Ok(None);
     }
-    if flow.first_refused().is_some() {
-        return Ok(true);
+    if bad.is_empty() && !is_written_otherwise(alloc, bytes, said, asked.address, seen.is_shown)? {
+        return Ok(None);
     }
-    Ok(match certify(alloc, bytes, said) {
-        Err(WriterFault::Refused(refused)) => {
-            refused.address != address && refused.reason != Reason::NotCovered
+    Ok(Some(without_bad(seen.clean, bad)))
+}
+
+/// The addresses of the refused rows of the analysis of `check`.
+fn refused_addresses(alloc: Global, flow: &Flow) -> Result<Vec<u16>, FlowFault> {
+    let mut refused: Vec<u16> = Vec::new(alloc);
+    for (number, row) in flow.rows().iter() {
+        if row.reason.is_some() {
+            refused.push(ProgramPoint::of(*number).address)?;
         }
-        Err(WriterFault::NoMemory) => return Err(FlowFault::NoMemory),
-        Ok(_) | Err(_) => true,
-    })
+    }
+    Ok(refused)
+}
+
+/// Whether the writer neither refuses an address, nor, where all facts follow, a row that is not covered.
+fn is_written_otherwise(
+    alloc: Global,
+    bytes: &[u8],
+    said: &Annotations,
+    address: u16,
+    is_shown: bool,
+) -> Result<bool, FlowFault> {
+    match certify(alloc, bytes, said) {
+        Err(WriterFault::Refused(refused)) => {
+            let may_be = refused.reason != Reason::NotCovered || !is_shown;
+            Ok(refused.address != address && may_be)
+        }
+        Err(WriterFault::NoMemory) => Err(FlowFault::NoMemory),
+        Ok(_) | Err(_) => Ok(true),
+    }
 }
 
 /// Whether the answer of `check` with these annotations is another one than a reason at an address.
