@@ -83,7 +83,10 @@ fn is_outdated(explored: &Explored, at: u16) -> bool {
     let Some(split) = explored.task.split_at(at) else {
         return false;
     };
-    split.parts.iter().any(|part| !is_reached(explored, split, part))
+    split
+        .parts
+        .iter()
+        .any(|part| !is_reached(explored, split, part))
 }
 
 /// Whether a state that comes to a split is in a part of it.

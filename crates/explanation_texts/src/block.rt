@@ -171,10 +171,12 @@ fn jumps_by_ram(alloc: Global, explored: &Explored, row: u64) -> Result<bool, Fl
         return Ok(false);
     };
     let found = origins_of(alloc, explored, row, variable)?;
-    Ok(found.iter().any(|origin| match explored.instr_at(origin.at) {
-        Some(instr) => reads_ram(&instr),
-        None => false,
-    }))
+    Ok(
+        found.iter().any(|origin| match explored.instr_at(origin.at) {
+            Some(instr) => reads_ram(&instr),
+            None => false,
+        }),
+    )
 }
 
 /// Whether an instruction loads from an address above the ROM, or by an index register.
@@ -221,13 +223,7 @@ fn pops_inline_call(
     };
     let top = Variable::Slot(number, Part::Word);
     let found = origins_of(alloc, explored, row, top)?;
-    Ok(found.iter().any(|origin| {
-        explored
-            .task
-            .said()
-            .inlines()
-            .contains(&origin.at)
-    }))
+    Ok(found.iter().any(|origin| { explored.task.said().inlines().contains(&origin.at) }))
 }
 
 /// Whether a row is a computed jump, or has no instruction and is reached by one.
@@ -236,10 +232,10 @@ fn jumps_at(explored: &Explored, row: u64) -> bool {
     if explored.instr_at(address).is_some() {
         return pair_of_jump(explored, address).is_some();
     }
-    explored
-        .incoming(row)
-        .iter()
-        .any(|edge| pair_of_jump(explored, ContextPoint::of(edge.from).address).is_some())
+    explored.incoming(row).iter().any(|edge| pair_of_jump(
+        explored,
+        ContextPoint::of(edge.from).address,
+    ).is_some())
 }
 
 /// Adds the lines about one refused row: where, what, whence, what is known, the annotations in reach, and a remedy.

@@ -25,7 +25,10 @@ pub fn add_remedy(
             add_notes(text, with, notes)
         }
         Remedy::Instead(notes) => {
-            add_line(text, "try: put in the place of the split at the same address")?;
+            add_line(
+                text,
+                "try: put in the place of the split at the same address",
+            )?;
             add_notes(text, with, notes)
         }
         Remedy::Stack(region) => {

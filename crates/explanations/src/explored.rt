@@ -1,6 +1,6 @@
 // The rows of an exploring analysis, with the steps that come to each.
 
-use crate::unshown::Steps;
+use crate::unshown::RowSteps;
 use abs_state::AbsState;
 use analysis::{FlowFault, Task};
 use board_fetch::fetch;
@@ -61,8 +61,8 @@ impl<'e> Explored<'e> {
     }
 
     /// The rows, and the steps between them.
-    pub fn steps(&self) -> Steps<'_> {
-        Steps {
+    pub fn steps(&self) -> RowSteps<'_> {
+        RowSteps {
             list: self.list,
             edges: self.incoming.as_slice(),
         }

@@ -12,4 +12,4 @@ pub use explored::Explored;
 pub use origins::{Origin, OriginKind, origins_of};
 pub use refusals::{Refusal, refusals_of};
 pub use situation::{Situation, all_follow, lost_pairs};
-pub use unshown::{Steps, falling_with, unshown_after, unshown_rows};
+pub use unshown::{RowSteps, falling_with, unshown_after, unshown_rows};

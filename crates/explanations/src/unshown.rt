@@ -10,7 +10,7 @@ use std::alloc::Global;
 
 /// The rows of an analysis, and the steps between them.
 #[derive(Clone, Copy)]
-pub struct Steps<'s> {
+pub struct RowSteps<'s> {
     pub list: &'s Worklist,
     pub edges: &'s [RowEdge],
 }
@@ -23,7 +23,7 @@ pub struct Steps<'s> {
 /// `NoMemory` where memory was refused.
 pub fn unshown_rows(
     alloc: Global,
-    steps: Steps,
+    steps: RowSteps,
     given: &[FactNote],
     wanted: &[FactNote],
 ) -> Result<Vec<u64>, FlowFault> {
@@ -48,7 +48,7 @@ pub fn unshown_rows(
 /// `NoMemory` where memory was refused.
 pub fn unshown_after(
     alloc: Global,
-    steps: Steps,
+    steps: RowSteps,
     given: &[FactNote],
     row: u64,
 ) -> Result<Vec<u16>, FlowFault> {
@@ -70,7 +70,7 @@ pub fn unshown_after(
 /// `NoMemory` where memory was refused.
 pub fn falling_with(
     alloc: Global,
-    steps: Steps,
+    steps: RowSteps,
     given: &[FactNote],
     first: u16,
 ) -> Result<Vec<u16>, FlowFault> {
@@ -90,7 +90,7 @@ pub fn falling_with(
 /// Adds the addresses whose facts do not follow at a step from an address whose facts are gone.
 fn add_falling(
     alloc: Global,
-    steps: Steps,
+    steps: RowSteps,
     given: &[FactNote],
     gone: &mut Vec<u16>,
 ) -> Result<(), FlowFault> {
@@ -107,7 +107,7 @@ fn add_falling(
 /// Whether each wanted fact of the address to which a step leads follows from the given ones before the step.
 fn is_shown(
     alloc: Global,
-    steps: Steps,
+    steps: RowSteps,
     edge: &RowEdge,
     given: &[FactNote],
     wanted: &[FactNote],
@@ -121,7 +121,11 @@ fn is_shown(
         return Ok(true);
     };
     let asked = facts_for(alloc, asked, after.state.shape.len())?;
-    let known = facts_for(alloc, facts_at(given, from.address), before.state.shape.len())?;
+    let known = facts_for(
+        alloc,
+        facts_at(given, from.address),
+        before.state.shape.len(),
+    )?;
     Ok(all_follow(&known, &before.state, &edge.effect, &asked))
 }
 

@@ -143,7 +143,14 @@ impl<'s, P: Progress> Search<'s, P> {
             .explored
             .plan
             .with(self.alloc, Family::Split(split), wanted_at)?;
-        self.explored.with_split(self.alloc, self.context, plan, &self.edges, reach, wanted_at)
+        self.explored.with_split(
+            self.alloc,
+            self.context,
+            plan,
+            &self.edges,
+            reach,
+            wanted_at,
+        )
     }
 
     /// Takes a plan that differs in the bounds of loops alone, as a trial. The result is the plan before; None if no

@@ -118,7 +118,8 @@ fn lost_rows(
             break;
         };
         for edge in edges_from(edges, number) {
-            let is_end = reach.until != reach.at && ContextPoint::of(edge.to).address == reach.until;
+            let is_end = reach.until != reach.at
+                && ContextPoint::of(edge.to).address == reach.until;
             if edge.kind != ArrivingKind::Call && !is_end && lost.insert(edge.to)? {
                 todo.push(edge.to)?;
             }

@@ -170,9 +170,8 @@ fn bettered<'r, P: Progress>(
 {
     let plans = match judged.answer() {
         Err(WriterFault::LoopUnbounded(_)) => with_counters(search)?,
-        Err(WriterFault::Refused(refused)) if matches!(refused.reason.number(), 6 | 7 | 12 | 17) => {
-            with_other_bounds(search, refused.address)?
-        }
+        Err(WriterFault::Refused(refused)) if matches!(refused.reason.number(), 6 | 7 | 12 | 17) =>
+            { with_other_bounds(search, refused.address)? }
         _ => return Ok(None),
     };
     first_better(search, bytes, judged, plans)

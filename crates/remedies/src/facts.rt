@@ -6,7 +6,7 @@ use crate::merging::{merged, only_facts};
 use crate::tried::has_fact;
 use analysis::{FlowFault, MAIN};
 use annotations::{Annotations, FactNote};
-use explanations::{Refusal, Steps, unshown_rows};
+use explanations::{Refusal, RowSteps, unshown_rows};
 use explored_plans::{ExploredPlan, Progress, Search, exploring};
 use fact_closure::{FactSearch, needed_facts};
 use inferred_rows::{ContextPoint, Guide};
@@ -57,7 +57,7 @@ impl NeededFacts {
         let mut all = Vec::from_slice(alloc, given)?;
         all.extend_from_slice(chosen)?;
         all.sort_by_key(|note| note.at)?;
-        let steps = Steps {
+        let steps = RowSteps {
             list: &explored.list,
             edges: self.edges.as_slice(),
         };

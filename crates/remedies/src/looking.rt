@@ -380,12 +380,7 @@ fn unshown_facts(case: &Case, refusal: &Refusal) -> Result<Vec<u16>, FlowFault> 
     };
     let facts = case.said.facts();
     for first in unshown_after(case.alloc, case.explored.steps(), facts, number)? {
-        gone.extend_from_slice(&falling_with(
-            case.alloc,
-            case.explored.steps(),
-            facts,
-            first,
-        )?)?;
+        gone.extend_from_slice(&falling_with(case.alloc, case.explored.steps(), facts, first)?)?;
     }
     gone.sort_unstable();
     gone.dedup();

@@ -161,11 +161,7 @@ pub(crate) fn with_split_instead(
     let mut notes = notes_of(alloc, said)?;
     let mut splits = Vec::new(alloc);
     for other in said.splits() {
-        let kept = if other.at == split.at {
-            split
-        } else {
-            other
-        };
+        let kept = if other.at == split.at { split } else { other };
         splits.push(copy_of_split(alloc, kept)?)?;
     }
     notes.splits = splits;
@@ -189,9 +185,7 @@ pub fn without_splits(
 
 /// Whether two annotations have a split, a loop or a cell at one address.
 pub(crate) fn clash(one: &Annotations, other: &Annotations) -> bool {
-    one.splits()
-        .iter()
-        .any(|split| other.splits().iter().any(|same| same.at == split.at))
+    one.splits().iter().any(|split| other.splits().iter().any(|same| same.at == split.at))
         || one
             .loops()
             .iter()

@@ -7,7 +7,7 @@ use address_map::{Map, Rom};
 use analysis::{Flow, FlowFault, ProgramPoint, Task};
 use annotations::{Annotations, FactNote};
 use cert_writer::{WriterFault, certify};
-use explanations::{Steps, unshown_rows};
+use explanations::{RowSteps, unshown_rows};
 use inferred_rows::{ContextPoint, Guide, Manner};
 use inferring::{Setting, Worklist};
 use std::alloc::Global;
@@ -92,11 +92,7 @@ fn without_bad(addresses: Vec<u16>, bad: Vec<u16>) -> Vec<u16> {
 
 /// The addresses of a list of rows of which none is refused, rising. `unshown` has rows, rising, from which a fact does
 /// not follow.
-fn clean_addresses(
-    alloc: Global,
-    list: &Worklist,
-    unshown: &[u64],
-) -> Result<Vec<u16>, FlowFault> {
+fn clean_addresses(alloc: Global, list: &Worklist, unshown: &[u64]) -> Result<Vec<u16>, FlowFault> {
     let mut all: Vec<u16> = Vec::new(alloc);
     let mut bad: Vec<u16> = Vec::new(alloc);
     for (number, row) in list.rows().iter() {
@@ -137,7 +133,7 @@ fn seen_with(
         }));
     }
     let edges = list.edges(alloc, setting)?;
-    let steps = Steps {
+    let steps = RowSteps {
         list: &list,
         edges: edges.as_slice(),
     };
@@ -147,7 +143,7 @@ fn seen_with(
 /// The same for the steps of an analysis in which the asked address is not refused.
 fn seen_on(
     alloc: Global,
-    steps: Steps,
+    steps: RowSteps,
     said: &Annotations,
     before: &[FactNote],
 ) -> Result<Option<Seen>, FlowFault> {
