@@ -260,7 +260,9 @@ pub fn try_context<P: Progress>(
     }
     for sites in contexts(search, refused)? {
         let first = sites.first().copied().unwrap_or(0);
-        let rest = sites.len() as u64;
+        let rest = (search.explored.plan.findings.len() as u64)
+            .wrapping_mul(0x1_0000)
+            .wrapping_add(sites.len() as u64);
         if !search.has_trials() || !search.is_new((3, refused, first, rest))? {
             continue;
         }

@@ -69,8 +69,9 @@ pub fn with_split<P: Progress>(
     if parts.len() < 2 || search.explored.plan.has_split(search.context.base(), at) {
         return Ok(None);
     }
-    let rest = (parts.len() as u64)
-        .wrapping_mul(16)
+    let rest = (search.explored.plan.findings.len() as u64)
+        .wrapping_mul(0x1_0000)
+        .wrapping_add((parts.len() as u64).wrapping_mul(16))
         .wrapping_add(code_of(register));
     let kind = if search.repeats { 7 } else { 1 };
     if !search.is_new((kind, refused, at, rest))? {
@@ -87,8 +88,9 @@ pub fn with_split<P: Progress>(
     }
 }
 
-/// The first end with which a split helps, or the split without an end. `open` is the split without an end where only
-/// what it distinguishes was explored again. The ends are tried in the same way; what helps so is explored as a whole.
+/// The end with the fewest rows with which a split helps, or the split without an end. `open` is the split without an
+/// end where only what it distinguishes was explored again. The ends are tried in the same way; the one that is kept is
+/// explored as a whole.
 fn with_near_end<P: Progress>(
     search: &mut Search<P>,
     refused: u16,
@@ -96,16 +98,21 @@ fn with_near_end<P: Progress>(
     open: &ExploredPlan,
 ) -> Result<Option<ExploredPlan>, FlowFault> {
     let ends = ends_of(search, open, refused, splitting)?;
+    let mut least = open.list.rows().len();
+    let mut until = splitting.at;
     for end in hopeful_first(search, open, splitting, &ends)? {
         let Some(near) = near_split(search, refused, splitting, end)? else {
             continue;
         };
-        if !open.is_worse(&near) && search.explored.is_bettered_by(&near, refused) {
-            let found = whole_split(search, refused, splitting, end)?;
-            if found.is_some() {
-                return Ok(found);
-            }
+        let rows = near.list.rows().len();
+        if rows < least && !open.is_worse(&near) && search.explored.is_bettered_by(&near, refused) {
+            least = rows;
+            until = end;
         }
+    }
+    let found = whole_split(search, refused, splitting, until)?;
+    if found.is_some() || until == splitting.at {
+        return Ok(found);
     }
     whole_split(search, refused, splitting, splitting.at)
 }
