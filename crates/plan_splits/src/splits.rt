@@ -110,11 +110,16 @@ fn with_near_end<P: Progress>(
             until = end;
         }
     }
-    let found = whole_split(search, refused, splitting, until)?;
-    if found.is_some() || until == splitting.at {
-        return Ok(found);
+    let whole = whole_split(search, refused, splitting, splitting.at)?;
+    if until == splitting.at {
+        return Ok(whole);
     }
-    whole_split(search, refused, splitting, splitting.at)
+    let found = whole_split(search, refused, splitting, until)?;
+    match (found, whole) {
+        (Some(found), Some(open)) => Ok(Some(if open.is_worse(&found) { open } else { found })),
+        (found, None) => Ok(found),
+        (None, open) => Ok(open),
+    }
 }
 
 /// The plan with a split up to an address, where only what the split distinguishes is explored again.
