@@ -116,7 +116,14 @@ fn with_near_end<P: Progress>(
     }
     let found = whole_split(search, refused, splitting, until)?;
     match (found, whole) {
-        (Some(found), Some(open)) => Ok(Some(if open.is_worse(&found) { open } else { found })),
+        (Some(found), Some(open)) => {
+            let has_more = found.list.rows().len() >= open.list.rows().len();
+            Ok(Some(if has_more || open.is_worse(&found) {
+                open
+            } else {
+                found
+            }))
+        }
         (found, None) => Ok(found),
         (None, open) => Ok(open),
     }
