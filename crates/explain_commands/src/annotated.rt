@@ -34,7 +34,7 @@ const FEWEST: usize = 2;
 /// The most analyses that try remedies.
 const ANALYSES: usize = 400;
 
-/// What is asked of an explanation: the names of addresses, and how many refusals at most.
+/// The question to `explain`: the names of addresses, and the most refusals to print.
 #[derive(Clone, Copy)]
 pub(crate) struct Question<'q> {
     pub(crate) names: &'q AddressNames,
@@ -61,7 +61,7 @@ pub(crate) fn explained<'r>(
     }
 }
 
-/// What `check` answered, beside the annotations, and what is asked of its explanation.
+/// The answer of `check`, the given notes, and the question.
 #[derive(Drop)]
 struct Asked<'a> {
     given: &'a Given,
@@ -90,7 +90,7 @@ fn refused(
     refused_rom(alloc, bytes, &rom, &map, said, &asked)
 }
 
-/// What is said of a ROM that has no bytes, or too many.
+/// The explanation of a ROM that has no bytes, or too many.
 fn no_rom(alloc: Global, bytes: &[u8]) -> Result<String, FlowFault> {
     let mut text = String::new(alloc);
     text.push_str("0000  [1 Rom]\n")?;
@@ -99,7 +99,7 @@ fn no_rom(alloc: Global, bytes: &[u8]) -> Result<String, FlowFault> {
     Ok(text)
 }
 
-/// What is said where a limit of the writer ends its analysis.
+/// The explanation where a limit of the writer ends its analysis.
 fn too_large(
     alloc: Global,
     said: &Annotations,
@@ -179,7 +179,7 @@ fn told(
     Ok(text)
 }
 
-/// Adds what is said of a fault that is no refusal.
+/// Adds the lines of a fault that is no refusal.
 fn add_fault<P: Progress>(
     text: &mut String,
     with: &Wording,
@@ -200,7 +200,7 @@ fn add_fault<P: Progress>(
     }
 }
 
-/// Adds what is said of a loop without a bound.
+/// Adds the lines about a loop without a bound.
 fn add_loop<P: Progress>(
     text: &mut String,
     with: &Wording,
