@@ -118,7 +118,7 @@ impl Links {
         Ok(())
     }
 
-    /// Adds the links to the rows at an address that are asked where this state arrives.
+    /// Adds the links to the rows at an address that may cover this arriving state.
     fn add_rows(
         &mut self,
         subject: &Subject,

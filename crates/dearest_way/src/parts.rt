@@ -13,8 +13,8 @@ use cert_contents::{Certificate, RowId};
 use check_walks::{compared, exit_cost};
 use std::alloc::Global;
 
-/// At most so many turns of a loop, for each of which its potential has this many T-states. The counter of turns is the
-/// one variable of the potential.
+/// The most turns of a loop, and the T-states that its potential has for each turn. The potential has one variable, the
+/// counter of turns.
 #[derive(Clone, Copy)]
 pub struct LoopTurns {
     /// The most that the counter is where the loop is entered.

@@ -35,7 +35,7 @@ const FEWEST: usize = 2;
 /// The most analyses that try remedies.
 const ANALYSES: usize = 400;
 
-/// What is asked of an explanation: the names of addresses, and how many refusals at most.
+/// The question to `explain`: the names of addresses, and the most refusals to print.
 #[derive(Clone, Copy)]
 pub(crate) struct Question<'q> {
     pub(crate) names: &'q AddressNames,
@@ -63,7 +63,7 @@ pub(crate) fn explained<'r, P: Progress>(
     }
 }
 
-/// What `check` answered, beside the annotations, and what is asked of its explanation.
+/// The answer of `check`, the given notes, and the question.
 #[derive(Drop)]
 struct Asked<'a> {
     given: &'a Given,
@@ -131,7 +131,7 @@ fn refused_without<P: Progress>(
     Ok(text)
 }
 
-/// What is said of a ROM that has no bytes, or too many.
+/// The explanation of a ROM that has no bytes, or too many.
 fn no_rom(alloc: Global, bytes: &[u8]) -> Result<String, FlowFault> {
     let mut text = String::new(alloc);
     text.push_str("0000  [1 Rom]\n")?;
@@ -140,7 +140,7 @@ fn no_rom(alloc: Global, bytes: &[u8]) -> Result<String, FlowFault> {
     Ok(text)
 }
 
-/// What is said where a limit of the writer ends its analysis.
+/// The explanation where a limit of the writer ends its analysis.
 fn too_large(
     alloc: Global,
     said: &Annotations,
@@ -221,7 +221,7 @@ fn told<P: Progress>(
     Ok(text)
 }
 
-/// Adds what is said of a fault that is no refusal.
+/// Adds the lines of a fault that is no refusal.
 fn add_fault<P: Progress>(
     text: &mut String,
     with: &Wording,
@@ -242,7 +242,7 @@ fn add_fault<P: Progress>(
     }
 }
 
-/// Adds what is said of a loop without a bound.
+/// Adds the lines about a loop without a bound.
 fn add_loop<P: Progress>(
     text: &mut String,
     with: &Wording,

@@ -142,7 +142,7 @@ fn limit_text(
     }
 }
 
-/// The heads of the first two loops of a timed procedure of which one lies in the other: the outer one's first.
+/// The heads of the first nested pair of loops in a timed procedure: the outer head, then the inner one.
 fn nested_loops(alloc: Global, explored: &Explored) -> Result<Option<(u16, u16)>, FlowFault> {
     let mut last = None;
     for (number, _) in explored.list.rows().iter() {
