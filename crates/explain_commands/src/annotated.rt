@@ -2,23 +2,25 @@
 
 ghost use Rattle.std.specs.Prelude.{◌≡◌, IfOk, IfSome, length};
 
-use crate::limits::{add_too_large, bounds_of, first_of, is_about_whole};
-use crate::outdated::{Outdated, given_by, outdated_in};
 use abs_step::Reason;
 use address_map::{Map, Rom};
 use analysis::{FlowFault, Task};
 use annotations::{Annotations, Given};
 use cert_writer::{WriterFault, certify};
+use explanation_parts::{
+    Outdated, add_too_large, bounds_of, first_of, given_by, is_about_whole, outdated_in,
+};
 use explanation_texts::{add_block, add_head, add_recursion, add_remedy, add_unbounded};
 use explanations::{Explored, Refusal, refusals_of, unshown_rows};
 use explored_plans::{Base, ExploredPlan, Plan, Progress, Search, SearchContext};
 use inferred_rows::Guide;
 use inferring::Worklist;
 use refusal_texts::{Wording, add_entry, add_region, add_rom_lengths, add_whole};
-use remedies::{Case, Remedies, Remedy, for_loop, plain_setting};
+use remedies::{Case, Remedies, Remedy, for_loop};
 use runner::cert_checker::Accepted;
 use source_lines::AddressNames;
 use std::alloc::Global;
+use tried_notes::plain_setting;
 
 /// The most visits of rows in one analysis.
 pub(crate) const VISITS: u32 = 2_000_000;

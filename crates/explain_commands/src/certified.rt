@@ -3,14 +3,13 @@
 ghost use Rattle.std.specs.Prelude.{◌≡◌, IfOk, IfSome};
 
 use crate::annotated::Question;
-use crate::limits::is_of_bounds;
-use crate::uncovered::{add_callee_depth, add_not_covered, add_rank, add_unpaid};
 use abs_step::Reason;
 use address_map::Rom;
 use analysis::{FlowFault, MAIN, NMI, ProgramPoint, Task, sub_of};
 use annotations::{Annotations, Notes};
 use certificate::{CertFault, Certificate, ProcKind, read};
 use check_rules::{Refused, main_depth, nmi_depth, nmi_of};
+use explanation_parts::{add_callee_depth, add_not_covered, add_rank, add_unpaid, is_of_bounds};
 use explanation_texts::{add_head, add_what};
 use explanations::{Refusal, Situation};
 use refusal_texts::{Bounds, Wording, add_entry, add_region, add_rom_lengths, add_whole};

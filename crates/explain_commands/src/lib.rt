@@ -4,11 +4,8 @@
 mod annotated;
 mod certified;
 mod explaining;
-mod limits;
-mod outdated;
 mod paging;
 mod searching;
-mod uncovered;
 
 pub use explaining::{Asked, explain_on};
 pub use paging::{page_number, page_on};

@@ -3,12 +3,12 @@
 ghost use Rattle.std.specs.Prelude.{◌≡◌, IfOk, IfSome, length};
 
 use crate::annotated::{COUNT_DOWN, Question, RECURSION};
-use crate::limits::{add_too_large, first_of, is_about_whole};
 use abs_step::Reason;
 use address_map::{Map, Rom};
 use analysis::{FlowFault, Task};
 use annotations::Given;
 use cert_writer::WriterFault;
+use explanation_parts::{add_too_large, first_of, is_about_whole};
 use explanation_texts::{add_block, add_habit, add_head, add_recursion, add_unbounded};
 use explanations::{Explored, refusals_of};
 use explored_plans::{Progress, exploring};

@@ -1,8 +1,6 @@
 // What a remedy is for, and remedies that change the region or the budget.
 
 use crate::looking::Remedy;
-use crate::merging::{with_budget, with_region, without_facts};
-use crate::tried::answers_otherwise;
 use abs_step::Reason;
 use address_map::{Region, Rom};
 use analysis::FlowFault;
@@ -15,6 +13,7 @@ use explored_plans::Base;
 use inferred_rows::ContextPoint;
 use std::alloc::Global;
 use t_states::MAX_BUDGET;
+use tried_notes::{answers_otherwise, with_budget, with_region, without_facts};
 
 /// What a remedy is for: a ROM, its annotations, and the analysis of them.
 #[derive(Clone, Copy)]

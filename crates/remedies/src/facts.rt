@@ -2,8 +2,6 @@
 
 use crate::case::Case;
 use crate::looking::{Remedies, Remedy};
-use crate::merging::{merged, only_facts};
-use crate::tried::has_fact;
 use analysis::{FlowFault, MAIN};
 use annotations::{Annotations, FactNote};
 use explanations::{Refusal, RowSteps, unshown_rows};
@@ -13,6 +11,7 @@ use inferred_rows::{ContextPoint, Guide};
 use inferring::RowEdge;
 use row_graph::NaturalLoop;
 use std::alloc::Global;
+use tried_notes::{has_fact, merged, only_facts};
 
 /// The most facts of an address.
 const FACTS: usize = 4;

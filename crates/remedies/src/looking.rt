@@ -3,12 +3,8 @@
 use crate::case::Case;
 use crate::facts::{NeededFacts, with_facts};
 use crate::loops::for_time;
-use crate::merging::{
-    added_of, clash, merged, only_facts, only_split, with_budget, with_split_instead, without_facts,
-};
 use crate::moves::helping_on;
 use crate::parts::widened_split;
-use crate::tried::{Asked, clean_with};
 use abs_step::Reason;
 use address_map::{Region, Rom};
 use analysis::FlowFault;
@@ -18,6 +14,10 @@ use explored_plans::{ExploredPlan, Family, Progress, Search};
 use inferred_rows::ContextPoint;
 use std::alloc::Global;
 use t_states::MAX_BUDGET;
+use tried_notes::{
+    TrialGoal, added_of, clash, clean_with, merged, only_facts, only_split, with_budget,
+    with_split_instead, without_facts,
+};
 
 /// The most trials for one refusal.
 const TRIALS: u32 = 40;
@@ -202,7 +202,7 @@ impl Remedies {
         }
         self.left = self.left.saturating_sub(1);
         let map = said.board().map(rom.len());
-        let asked = Asked {
+        let asked = TrialGoal {
             address,
             before: self.said_so_far(case).facts(),
             visits: case.visits,

@@ -2,12 +2,11 @@
 
 use crate::case::Case;
 use crate::looking::{Remedy, has_plain_form};
-use crate::merging::{add_loop, added_of, merged, only_loops};
-use crate::tried::is_bounded;
 use analysis::FlowFault;
 use annotations::Annotations;
 use explored_plans::{ExploredPlan, Family, Progress, Search};
 use plan_loops::{with_counters, with_other_bounds};
+use tried_notes::{add_loop, added_of, is_bounded, merged, only_loops};
 
 /// The counters of loops, that of a loop which is unbounded at an address among them.
 ///

@@ -233,25 +233,28 @@ impl<'a> Solving<'a> {
     /// The multiple of a loop's counter that a turn of it costs: what its row needs beyond a high constant to come back to
     /// itself. None if each turn passes a row of a loop that waits.
     fn turn_of(&mut self, group: &Group, head: &Head) -> Option<Linear> {
-        self.begin(&group.heads);
-        self.keep(head.row, Linear::of_constant(HIGH)?);
-        if !self.settle(group, Choice::WithTerms).ok()? {
-            return None;
-        }
-        let requests = self.all.get(usize::from(head.row))?;
-        let payer = self.payer(head.row, requests)?;
-        let needed = payer.least_with(&Linear::zero(), &self.known).ok()?;
-        let cost = needed.constant().checked_sub(HIGH)?;
-        if cost <= 0 {
-            return None;
-        }
-        let term = head.turn.terms().first().copied()?;
-        let signed = if term.coefficient < 0 {
-            cost.checked_neg()?
+        if self.rests_below(group, head.row) {
+            turn_costing(head, self.needed(head.row)?.constant())
         } else {
-            cost
-        };
-        multiple_of(term.variable, signed)
+            None
+        }
+    }
+
+    /// Makes the potentials of a group in rounds, where a loop's row has a high constant. The result is whether the
+    /// rounds come to rest.
+    fn rests_below(&mut self, group: &Group, row: u16) -> bool {
+        self.begin(&group.heads);
+        self.keep(row, Linear::of_constant(HIGH).unwrap_or(Linear::zero()));
+        self.settle(group, Choice::WithTerms).unwrap_or(false)
+    }
+
+    /// The least constant with which a row pays, as a potential; None if there is none.
+    fn needed(&self, row: u16) -> Option<Linear> {
+        let requests = self.all.get(usize::from(row))?;
+        match self.payer(row, requests) {
+            Some(payer) => payer.least_with(&Linear::zero(), &self.known).ok(),
+            None => None,
+        }
     }
 
     /// Gives the loops' rows their lowest potentials, or the constant 0 to those that are to have it.
@@ -348,6 +351,21 @@ impl<'a> Solving<'a> {
             Err(_) => true,
         }
     }
+}
+
+/// The multiple of a loop's counter for a turn after which its row needs this constant, beyond the high one.
+fn turn_costing(head: &Head, needed: i32) -> Option<Linear> {
+    let cost = needed.checked_sub(HIGH)?;
+    if cost <= 0 {
+        return None;
+    }
+    let term = head.turn.terms().first().copied()?;
+    let signed = if term.coefficient < 0 {
+        cost.checked_neg()?
+    } else {
+        cost
+    };
+    multiple_of(term.variable, signed)
 }
 
 fn set_zero(heads: &mut [Head], place: usize) {

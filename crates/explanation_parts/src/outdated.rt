@@ -13,19 +13,19 @@ use inferred_rows::{ContextPoint, Guide};
 use inferring::Worklist;
 use intervals::ByteRange;
 use refusal_texts::{Wording, add_lacking, add_line};
-use remedies::{plain_setting, without_splits};
 use std::alloc::Global;
+use tried_notes::{plain_setting, without_splits};
 
 /// What is said of outdated splits, and the annotations without them.
 #[derive(Drop)]
-pub(crate) struct Outdated {
-    pub(crate) text: String,
-    pub(crate) left: Annotations,
+pub struct Outdated {
+    pub text: String,
+    pub left: Annotations,
 }
 
 /// The outdated splits of annotations: a state that comes to such a split is in none of its parts, and one of its parts
 /// is for no state. None if there is no such split. The map is for a ROM of this length.
-pub(crate) fn outdated_in(
+pub fn outdated_in(
     rom: &Rom,
     map: &Map,
     said: &Annotations,
@@ -126,7 +126,7 @@ fn add_outdated(
 }
 
 /// What annotations give to a search.
-pub(crate) fn given_by(alloc: Global, said: &Annotations) -> Result<Given, FlowFault> {
+pub fn given_by(alloc: Global, said: &Annotations) -> Result<Given, FlowFault> {
     let mut splits: Vec<SplitNote> = Vec::new(alloc);
     for split in said.splits() {
         splits.push(copy_of_split(alloc, split)?)?;

@@ -12,9 +12,10 @@ use inferred_rows::ContextPoint;
 use refusal_texts::{Bounds, add_line};
 use remedies::Remedy;
 use std::alloc::Global;
+use tried_notes::with_region;
 
 /// The refusal that a writer reports, if it reports one.
-pub(crate) fn first_of(fault: &WriterFault) -> Option<(u16, Reason)> {
+pub fn first_of(fault: &WriterFault) -> Option<(u16, Reason)> {
     match fault {
         WriterFault::Refused(refused) => Some((refused.address, refused.reason)),
         WriterFault::Recursion(_)
@@ -25,13 +26,13 @@ pub(crate) fn first_of(fault: &WriterFault) -> Option<(u16, Reason)> {
 }
 
 /// Whether a refusal is of the whole certificate.
-pub(crate) fn is_about_whole(refusal: &Refusal) -> bool {
+pub fn is_about_whole(refusal: &Refusal) -> bool {
     refusal.row.is_none()
 }
 
 /// The numbers that reasons of the whole are about. A remedy that was tried gives those that an accepted certificate
 /// has.
-pub(crate) fn bounds_of(
+pub fn bounds_of(
     alloc: Global,
     bytes: &[u8],
     said: &Annotations,
@@ -67,7 +68,7 @@ fn depths_with(
     said: &Annotations,
     region: Region,
 ) -> Result<Option<(u32, u32)>, FlowFault> {
-    let other = remedies::with_region(alloc, said, region)?;
+    let other = with_region(alloc, said, region)?;
     match certify(alloc, bytes, &other) {
         Ok(accepted) => {
             let certificate = accepted.certificate();
@@ -80,7 +81,7 @@ fn depths_with(
 }
 
 /// Adds which limit of certificates is exceeded. `explored` is the analysis, where it came to its end.
-pub(crate) fn add_too_large(
+pub fn add_too_large(
     text: &mut String,
     alloc: Global,
     said: &Annotations,
@@ -183,6 +184,6 @@ fn most_parts(said: &Annotations) -> Option<(u16, usize)> {
 }
 
 /// Whether a reason has lines of its own in a certificate.
-pub(crate) fn is_of_bounds(reason: Reason) -> bool {
+pub fn is_of_bounds(reason: Reason) -> bool {
     matches!(reason, Reason::StackDepth | Reason::Budget)
 }

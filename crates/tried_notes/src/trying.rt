@@ -2,6 +2,7 @@
 
 ghost use Rattle.std.specs.Prelude.{◌≡◌, length};
 
+use crate::merging::has_fact;
 use abs_step::Reason;
 use address_map::{Map, Rom};
 use analysis::{Flow, FlowFault, ProgramPoint, Task};
@@ -40,13 +41,13 @@ fn is_clean_at(list: &Worklist, address: u16) -> bool {
 
 /// What is asked of annotations that are tried.
 #[derive(Clone, Copy)]
-pub(crate) struct Asked<'a> {
+pub struct TrialGoal<'a> {
     /// The address that is to be refused no more.
-    pub(crate) address: u16,
+    pub address: u16,
     /// The facts that stood there before; the others are added.
-    pub(crate) before: &'a [FactNote],
+    pub before: &'a [FactNote],
     /// The most visits of rows in one analysis.
-    pub(crate) visits: u32,
+    pub visits: u32,
 }
 
 /// What an analysis that goes on after refusals shows of annotations.
@@ -56,13 +57,6 @@ struct Seen {
     clean: Vec<u16>,
     /// Whether each annotated fact follows at each step to its address.
     is_shown: bool,
-}
-
-/// Whether a list has a fact.
-pub(crate) fn has_fact(facts: &[FactNote], fact: &FactNote) -> bool {
-    facts
-        .iter()
-        .any(|other| other.at == fact.at && other.fact == fact.fact)
 }
 
 /// The facts of annotations that were not there before.
@@ -113,7 +107,7 @@ fn seen_with(
     alloc: Global,
     task: &Task,
     said: &Annotations,
-    asked: Asked,
+    asked: TrialGoal,
 ) -> Result<Option<Seen>, FlowFault> {
     let guide = Guide::none(alloc);
     let setting = plain_setting(task, &guide);
@@ -165,13 +159,13 @@ fn seen_on(
 /// # Errors
 ///
 /// `NoMemory` where memory was refused.
-pub(crate) fn clean_with(
+pub fn clean_with(
     alloc: Global,
     bytes: &[u8],
     rom: &Rom,
     map: &Map,
     said: &Annotations,
-    asked: Asked,
+    asked: TrialGoal,
 ) -> Result<Option<Vec<u16>>, FlowFault>
     requires { map.now.rom_len ≡ length rom.now }
 {
@@ -230,7 +224,7 @@ fn is_written_otherwise(
 /// # Errors
 ///
 /// `NoMemory` where memory was refused.
-pub(crate) fn answers_otherwise(
+pub fn answers_otherwise(
     alloc: Global,
     bytes: &[u8],
     said: &Annotations,
@@ -251,7 +245,7 @@ pub(crate) fn answers_otherwise(
 /// # Errors
 ///
 /// `NoMemory` where memory was refused.
-pub(crate) fn is_bounded(
+pub fn is_bounded(
     alloc: Global,
     bytes: &[u8],
     said: &Annotations,

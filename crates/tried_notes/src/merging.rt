@@ -1,12 +1,18 @@
 // Annotations with notes added, or with another region or budget.
 
-use crate::tried::has_fact;
 use address_map::Region;
 use analysis::FlowFault;
 use annotations::{Annotations, FactNote, LoopNote, Notes, SplitNote};
 use explored_plans::copy_of_split;
 use loop_bounds::Variable;
 use std::alloc::Global;
+
+/// Whether a list has a fact.
+pub fn has_fact(facts: &[FactNote], fact: &FactNote) -> bool {
+    facts
+        .iter()
+        .any(|other| other.at == fact.at && other.fact == fact.fact)
+}
 
 /// No notes.
 fn no_notes(alloc: Global) -> Notes {
@@ -35,7 +41,11 @@ fn notes_of(alloc: Global, said: &Annotations) -> Result<Notes, FlowFault> {
 }
 
 /// Annotations with the notes of others added.
-pub(crate) fn merged(
+///
+/// # Errors
+///
+/// `NoMemory` where memory was refused.
+pub fn merged(
     alloc: Global,
     said: &Annotations,
     added: &Annotations,
@@ -64,7 +74,11 @@ pub(crate) fn merged(
 }
 
 /// Adds a loop.
-pub(crate) fn add_loop(loops: &mut Vec<LoopNote>, note: &LoopNote) -> Result<(), FlowFault> {
+///
+/// # Errors
+///
+/// `NoMemory` where memory was refused.
+pub fn add_loop(loops: &mut Vec<LoopNote>, note: &LoopNote) -> Result<(), FlowFault> {
     // The type is named, since the prover looks for it among those that the module names.
     let counter: Variable = note.counter;
     loops.push(LoopNote { counter, ..*note })?;
@@ -76,7 +90,7 @@ pub(crate) fn add_loop(loops: &mut Vec<LoopNote>, note: &LoopNote) -> Result<(),
 /// # Errors
 ///
 /// `NoMemory` where memory was refused.
-pub(crate) fn added_of(
+pub fn added_of(
     alloc: Global,
     said: &Annotations,
     all: &Annotations,
@@ -111,21 +125,25 @@ fn with_notes(said: &Annotations, notes: Notes) -> Annotations {
 }
 
 /// Only these facts, as annotations.
-pub(crate) fn only_facts(alloc: Global, said: &Annotations, facts: Vec<FactNote>) -> Annotations {
+pub fn only_facts(alloc: Global, said: &Annotations, facts: Vec<FactNote>) -> Annotations {
     let mut notes = no_notes(alloc);
     notes.facts = facts;
     with_notes(said, notes)
 }
 
 /// Only these loops, as annotations.
-pub(crate) fn only_loops(alloc: Global, said: &Annotations, loops: Vec<LoopNote>) -> Annotations {
+pub fn only_loops(alloc: Global, said: &Annotations, loops: Vec<LoopNote>) -> Annotations {
     let mut notes = no_notes(alloc);
     notes.loops = loops;
     with_notes(said, notes)
 }
 
 /// Annotations without the facts of some addresses.
-pub(crate) fn without_facts(
+///
+/// # Errors
+///
+/// `NoMemory` where memory was refused.
+pub fn without_facts(
     alloc: Global,
     said: &Annotations,
     gone: &[u16],
@@ -142,7 +160,11 @@ pub(crate) fn without_facts(
 }
 
 /// Only this split, as annotations.
-pub(crate) fn only_split(
+///
+/// # Errors
+///
+/// `NoMemory` where memory was refused.
+pub fn only_split(
     alloc: Global,
     said: &Annotations,
     split: SplitNote,
@@ -153,7 +175,11 @@ pub(crate) fn only_split(
 }
 
 /// Annotations with a split in the place of the one at its address.
-pub(crate) fn with_split_instead(
+///
+/// # Errors
+///
+/// `NoMemory` where memory was refused.
+pub fn with_split_instead(
     alloc: Global,
     said: &Annotations,
     split: &SplitNote,
@@ -184,7 +210,7 @@ pub fn without_splits(
 }
 
 /// Whether two annotations have a split, a loop or a cell at one address.
-pub(crate) fn clash(one: &Annotations, other: &Annotations) -> bool {
+pub fn clash(one: &Annotations, other: &Annotations) -> bool {
     one.splits().iter().any(|split| other.splits().iter().any(|same| same.at == split.at))
         || one
             .loops()
@@ -197,6 +223,10 @@ pub(crate) fn clash(one: &Annotations, other: &Annotations) -> bool {
 }
 
 /// Annotations with another region of the stack.
+///
+/// # Errors
+///
+/// `NoMemory` where memory was refused.
 pub fn with_region(
     alloc: Global,
     said: &Annotations,
@@ -207,7 +237,11 @@ pub fn with_region(
 }
 
 /// Annotations with a routine of this budget.
-pub(crate) fn with_budget(
+///
+/// # Errors
+///
+/// `NoMemory` where memory was refused.
+pub fn with_budget(
     alloc: Global,
     said: &Annotations,
     budget: u16,

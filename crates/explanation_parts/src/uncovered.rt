@@ -10,7 +10,7 @@ use named_annotations::variable_name;
 use refusal_texts::{TargetRow, Wording, add_computed, add_line, add_uncovered, jump_pair};
 
 /// Adds the first successor of a row that no row covers, with what is not met there.
-pub(crate) fn add_not_covered(
+pub fn add_not_covered(
     text: &mut String,
     with: &Wording,
     certificate: &Certificate,
@@ -69,7 +69,7 @@ pub(crate) fn add_not_covered(
 }
 
 /// Adds the ranks of a caller and a callee.
-pub(crate) fn add_rank(
+pub fn add_rank(
     text: &mut String,
     with: &Wording,
     certificate: &Certificate,
@@ -102,7 +102,7 @@ pub(crate) fn add_rank(
 }
 
 /// Adds the bytes of stack at a row, and what its procedure has room for.
-pub(crate) fn add_callee_depth(
+pub fn add_callee_depth(
     text: &mut String,
     with: &Wording,
     certificate: &Certificate,
@@ -137,7 +137,7 @@ pub(crate) fn add_callee_depth(
 }
 
 /// Adds the potential of a row, and those of the rows that may come next.
-pub(crate) fn add_unpaid(
+pub fn add_unpaid(
     text: &mut String,
     with: &Wording,
     certificate: &Certificate,
