@@ -457,7 +457,7 @@ recursion\n\
     Sample {
         name: "too large: five facts",
         rom: b"\x31\x00\x44\x18\xFE",
-        said: "low = 0x4380\ntop = 0x4400\nfact = [\n{ at = 3, sum = [[\"B\", 1]], is = 0 },\n{ at = 3, sum = [[\"B\", 2]], is = 0 },\n{ at = 3, sum = [[\"B\", 3]], is = 0 },\n{ at = 3, sum = [[\"B\", 4]], is = 0 },\n{ at = 3, sum = [[\"B\", 5]], is = 0 },\n]\n",
+        said: "low = 0x4380\ntop = 0x4400\n[[fact]]\nat = 0x0003\nsum = [[\"B\", 1]]\nis = 0\n[[fact]]\nat = 0x0003\nsum = [[\"B\", 2]]\nis = 0\n[[fact]]\nat = 0x0003\nsum = [[\"B\", 3]]\nis = 0\n[[fact]]\nat = 0x0003\nsum = [[\"B\", 4]]\nis = 0\n[[fact]]\nat = 0x0003\nsum = [[\"B\", 5]]\nis = 0\n",
         text: "\
 too large\n\
 \x20 5 facts at 0003 of at most 4: say fewer there\n\
