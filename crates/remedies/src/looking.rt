@@ -119,7 +119,7 @@ impl Remedies {
         notes: &Annotations,
         address: u16,
     ) -> Result<bool, FlowFault> {
-        let before = self.said_so_far(case);
+        let before = self.said_so_far(&*case);
         if clash(before, notes) {
             return Ok(false);
         }
@@ -337,7 +337,7 @@ impl Remedies {
         other: &ExploredPlan,
     ) -> Result<Remedy, FlowFault> {
         let added = added_of(case.alloc, case.said, &other.said)?;
-        if clash(self.said_so_far(case), &added) {
+        if clash(self.said_so_far(&*case), &added) {
             return Ok(Remedy::Untried);
         }
         if self.is_gone_by(case, &added, refusal.address)? {
