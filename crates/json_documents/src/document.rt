@@ -47,16 +47,16 @@ impl Command {
 
 /// What a command said.
 #[derive(Clone, Copy)]
-pub struct Told<'t> {
+pub struct Told<'t, 'n, 's> {
     pub command: Command,
     /// Its exit status.
     pub status: u8,
     /// What it wrote in the place of standard output.
     pub text: &'t [u8],
     /// What it wrote in the place of standard error.
-    pub notes: &'t [u8],
+    pub notes: &'n [u8],
     /// The names for addresses, if a file has them.
-    pub symbols: Option<&'t Symbols>,
+    pub symbols: Option<&'s Symbols>,
 }
 
 /// Writes what a command said as one JSON document in one line (docs/JSON.md). There is a document for the statuses 0
@@ -66,16 +66,16 @@ pub struct Told<'t> {
 /// was written before a failure stays.
 pub fn write_document<W: Sink>(alloc: Global, told: Told, out: &mut W) -> u8
     // The status of the command stays, but where the document could not be written.
-    ensures done { result ≡ 0 → told.status ≡ 0 }
-    ensures refused { result ≡ 1 → told.status ≡ 1 }
-    ensures usage { result ≡ 2 → told.status ≡ 2 }
+    ensures done { result ≡ 0 → told.entry.status ≡ 0 }
+    ensures refused { result ≡ 1 → told.entry.status ≡ 1 }
+    ensures usage { result ≡ 2 → told.entry.status ≡ 2 }
     ensures device { result ≡ 3
-        → (told.status ≡ 3) ⊎ HasFailed (W.state out.old) (W.state out.new) }
+        → (told.entry.status ≡ 3) ⊎ HasFailed (W.state out.old) (W.state out.new) }
     ensures told { result ≢ 3 → CountsNoFailure (W.state out.old) (W.state out.new) }
     ensures memory { result ≡ 4 → out.new ≡ out.old }
     // After a device failed nothing is written.
-    ensures failed { told.status ≢ 0 → told.status ≢ 1
-        → (out.new ≡ out.old) × (result ≡ told.status) }
+    ensures failed { told.entry.status ≢ 0 → told.entry.status ≢ 1
+        → (out.new ≡ out.old) × (result ≡ told.entry.status) }
 {
     if told.status != ExitStatus::Done.code() && told.status != ExitStatus::Refused.code() {
         return told.status;

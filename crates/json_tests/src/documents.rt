@@ -19,7 +19,7 @@ fn document(alloc: Global, told: Told) -> Option<Value> {
 }
 
 /// What a command told without notes and symbols.
-fn told(command: Command, status: u8, text: &'static str) -> Told<'static> {
+fn told(command: Command, status: u8, text: &'static str) -> Told<'static, 'static, 'static> {
     Told {
         command,
         status,

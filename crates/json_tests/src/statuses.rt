@@ -4,7 +4,7 @@ use json_documents::{Command, Told, write_document};
 use memory_devices::Taken;
 use std::test::Fail;
 
-fn told(status: u8) -> Told<'static> {
+fn told(status: u8) -> Told<'static, 'static, 'static> {
     Told {
         command: Command::Verify,
         status,
