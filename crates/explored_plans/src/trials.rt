@@ -4,9 +4,8 @@ use crate::explored_plan::ExploredPlan;
 use crate::progress::Progress;
 use crate::search_context::SearchContext;
 use analysis::FlowFault;
-use annotations::SplitNote;
 use board_fetch::fetch;
-use inferring::{RowEdge, SplitReach};
+use inferring::{RowEdge, SplitReach, Watch};
 use plans::{Family, Plan};
 use row_graph::{FlowGraph, NaturalLoop, loops_of};
 use std::alloc::Global;
@@ -122,35 +121,72 @@ impl<'s, P: Progress> Search<'s, P> {
         self.explored.with_plan(self.alloc, self.context, plan)
     }
 
-    /// Explores the plan with a split more as a trial, from the rows found so far. Only what the split distinguishes is
-    /// explored again, so more may be refused than if all were explored. None if the address for which the split is
-    /// wanted is refused again.
-    pub fn try_split(
+    /// Explores the plan with a split or inline calls more as a trial, from the rows found so far. Only what these
+    /// distinguish is explored again, so more may be refused than if all were explored. None if a watched address is
+    /// refused again.
+    pub fn try_near(
         &mut self,
-        split: SplitNote,
+        family: Family,
         wanted_at: u16,
+        watched: Watch,
     ) -> Result<Option<ExploredPlan>, FlowFault> {
         if self.left == 0 {
             return Ok(None);
         }
         self.progress.tell(self.left, self.explored.refused.len());
         self.left = self.left.saturating_sub(1);
-        let reach = SplitReach {
-            at: split.at,
-            until: split.until,
+        let Some(reaches) = reaches_of(self.alloc, &family)? else {
+            return Ok(None);
         };
-        let plan = self
-            .explored
-            .plan
-            .with(self.alloc, Family::Split(split), wanted_at)?;
-        self.explored.with_split(
+        let plan = self.explored.plan.with(self.alloc, family, wanted_at)?;
+        self.explored.with_reaches(
             self.alloc,
             self.context,
             plan,
             &self.edges,
-            reach,
-            wanted_at,
+            &reaches,
+            watched,
         )
+    }
+
+    /// Whether a family of the plan seems not to be needed: without it, nothing is refused that is not refused now, as
+    /// far as only what it distinguishes is explored again.
+    pub fn seems_unneeded(&self, place: usize) -> Result<bool, FlowFault> {
+        let Some(finding) = self.explored.plan.findings.get(place) else {
+            return Ok(true);
+        };
+        let Some(reaches) = reaches_of(self.alloc, &finding.family)? else {
+            return Ok(true);
+        };
+        let watched = Watch::Address(finding.wanted_at);
+        let plan = self.explored.plan.without(self.alloc, place)?;
+        let found = self.explored.with_reaches(
+            self.alloc,
+            self.context,
+            plan,
+            &self.edges,
+            &reaches,
+            watched,
+        )?;
+        Ok(match found {
+            Some(explored) => !self.explored.is_worse(&explored),
+            None => false,
+        })
+    }
+
+    /// Explores the whole plan, if only a part of it was explored. It was tried before, and is no trial.
+    pub fn explore_whole(&mut self) -> Result<(), FlowFault> {
+        if !self.explored.is_near {
+            return Ok(());
+        }
+        let plan = self.explored.plan.copied(self.alloc)?;
+        match self.explored.with_plan(self.alloc, self.context, plan)? {
+            Some(explored) => self.keep(explored),
+            None => {
+                self.explored.is_near = false;
+                Ok(())
+            }
+        }
     }
 
     /// Takes a plan that differs in the bounds of loops alone, as a trial. The result is the plan before; None if no
@@ -204,6 +240,27 @@ impl<'s, P: Progress> Search<'s, P> {
     pub fn loops(&self, proc: u32) -> Result<Vec<NaturalLoop>, FlowFault> {
         loops_of(self.alloc, &self.graph, proc, entry_of(proc))
     }
+}
+
+/// What a split or inline calls distinguish; None for another family.
+fn reaches_of(alloc: Global, family: &Family) -> Result<Option<Vec<SplitReach>>, FlowFault> {
+    let mut reaches = Vec::new(alloc);
+    match family {
+        Family::Inlines(calls) => {
+            for call in calls.as_slice() {
+                reaches.push(SplitReach {
+                    at: *call,
+                    until: *call,
+                })?;
+            }
+        }
+        Family::Split(split) => reaches.push(SplitReach {
+            at: split.at,
+            until: split.until,
+        })?,
+        _ => return Ok(None),
+    }
+    Ok(Some(reaches))
 }
 
 /// The entry of a procedure, by its number.
