@@ -318,6 +318,14 @@ impl ExploredPlan {
         false
     }
 
+    /// Whether each place that another plan refuses is refused here too.
+    pub fn refuses_all_of(&self, other: &ExploredPlan) -> bool {
+        other
+            .refused
+            .iter()
+            .all(|(number, _)| self.refused.contains_key(number))
+    }
+
     /// Whether another plan has rows at an address, and takes the refusals there away.
     pub fn is_cleared_by(&self, other: &ExploredPlan, address: u16) -> bool {
         if other.rows_at(address).is_empty() {

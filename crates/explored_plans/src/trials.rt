@@ -9,7 +9,7 @@ use inferring::{RowEdge, SplitReach, Watch};
 use plans::{Family, Plan};
 use row_graph::{FlowGraph, NaturalLoop, loops_of};
 use std::alloc::Global;
-use std::collections::BTreeMap;
+use std::collections::{BTreeMap, BTreeSet};
 use std::mem::replace;
 use z80_decode::Instr;
 
@@ -32,6 +32,10 @@ pub struct Search<'s, P: Progress> {
     pub repeats: bool,
     /// What was tried, each with the number of findings that the plan had then.
     tried: BTreeMap<Attempt, usize>,
+    /// The refused addresses that no cheap move helped since the plan was last explored as a whole.
+    passed: BTreeSet<u16>,
+    /// How many findings there were then.
+    settled: usize,
     progress: &'s mut P,
 }
 
@@ -54,6 +58,7 @@ impl<'s, P: Progress> Search<'s, P> {
     ) -> Result<Search<'s, P>, FlowFault> {
         let edges = explored.edges(alloc, context)?;
         let graph = FlowGraph::of(alloc, &edges)?;
+        let settled = explored.plan.findings.len();
         Ok(Search {
             alloc,
             context,
@@ -63,6 +68,8 @@ impl<'s, P: Progress> Search<'s, P> {
             left: trials,
             repeats: false,
             tried: BTreeMap::new(alloc),
+            passed: BTreeSet::new(alloc),
+            settled,
             progress,
         })
     }
@@ -72,7 +79,23 @@ impl<'s, P: Progress> Search<'s, P> {
         let edges = explored.edges(self.alloc, self.context)?;
         self.graph = FlowGraph::of(self.alloc, &edges)?;
         self.edges = edges;
+        if !explored.is_near {
+            self.passed = BTreeSet::new(self.alloc);
+            self.settled = explored.plan.findings.len();
+        }
         self.explored = explored;
+        Ok(())
+    }
+
+    /// Whether no cheap move helped a refused address since the plan was last explored as a whole. It is not tried again
+    /// before.
+    pub fn is_passed(&self, address: u16) -> bool {
+        self.explored.is_near && self.passed.contains(&address)
+    }
+
+    /// No cheap move helped a refused address.
+    pub fn pass(&mut self, address: u16) -> Result<(), FlowFault> {
+        self.passed.insert(address)?;
         Ok(())
     }
 
@@ -130,21 +153,31 @@ impl<'s, P: Progress> Search<'s, P> {
         wanted_at: u16,
         watched: Watch,
     ) -> Result<Option<ExploredPlan>, FlowFault> {
+        let Some(reaches) = reaches_of(self.alloc, &family)? else {
+            return Ok(None);
+        };
+        let plan = self.explored.plan.with(self.alloc, family, wanted_at)?;
+        self.try_reaches(plan, &reaches, watched)
+    }
+
+    /// The same for a plan that differs in the splits and inline calls at these reaches.
+    pub fn try_reaches(
+        &mut self,
+        plan: Plan,
+        reaches: &[SplitReach],
+        watched: Watch,
+    ) -> Result<Option<ExploredPlan>, FlowFault> {
         if self.left == 0 {
             return Ok(None);
         }
         self.progress.tell(self.left, self.explored.refused.len());
         self.left = self.left.saturating_sub(1);
-        let Some(reaches) = reaches_of(self.alloc, &family)? else {
-            return Ok(None);
-        };
-        let plan = self.explored.plan.with(self.alloc, family, wanted_at)?;
         self.explored.with_reaches(
             self.alloc,
             self.context,
             plan,
             &self.edges,
-            &reaches,
+            reaches,
             watched,
         )
     }
@@ -158,7 +191,7 @@ impl<'s, P: Progress> Search<'s, P> {
         let Some(reaches) = reaches_of(self.alloc, &finding.family)? else {
             return Ok(true);
         };
-        let watched = Watch::Address(finding.wanted_at);
+        let watched = Watch::Callees(finding.wanted_at);
         let plan = self.explored.plan.without(self.alloc, place)?;
         let found = self.explored.with_reaches(
             self.alloc,
@@ -174,19 +207,48 @@ impl<'s, P: Progress> Search<'s, P> {
         })
     }
 
-    /// Explores the whole plan, if only a part of it was explored. It was tried before, and is no trial.
+    /// Explores the whole plan, if only a part of it was explored. It was tried before, and is no trial. If that refuses
+    /// more, the splits found since the plan was last explored as a whole lose their ends, where that helps.
     pub fn explore_whole(&mut self) -> Result<(), FlowFault> {
         if !self.explored.is_near {
             return Ok(());
         }
-        let plan = self.explored.plan.copied(self.alloc)?;
-        match self.explored.with_plan(self.alloc, self.context, plan)? {
-            Some(explored) => self.keep(explored),
-            None => {
-                self.explored.is_near = false;
-                Ok(())
+        let plan = self.explored.plan.in_order(self.alloc)?;
+        let Some(whole) = self.explored.with_plan(self.alloc, self.context, plan)? else {
+            self.explored.is_near = false;
+            return Ok(());
+        };
+        if !self.explored.refuses_all_of(&whole) {
+            if let Some(open) = self.opened()? {
+                return self.keep(open);
             }
         }
+        self.keep(whole)
+    }
+
+    /// The plan where the splits found since it was last explored as a whole have no ends; None if none has one, or more
+    /// is refused than now.
+    fn opened(&self) -> Result<Option<ExploredPlan>, FlowFault> {
+        let mut plan = self.explored.plan.in_order(self.alloc)?;
+        let mut place = 0usize;
+        let mut is_other = false;
+        for finding in &mut plan.findings {
+            if let Family::Split(split) = &mut finding.family {
+                if place >= self.settled && split.until != split.at {
+                    split.until = split.at;
+                    is_other = true;
+                }
+            }
+            place = place.saturating_add(1);
+        }
+        if !is_other {
+            return Ok(None);
+        }
+        let found = self.explored.with_plan(self.alloc, self.context, plan)?;
+        Ok(match found {
+            Some(open) if self.explored.refuses_all_of(&open) => Some(open),
+            _ => None,
+        })
     }
 
     /// Takes a plan that differs in the bounds of loops alone, as a trial. The result is the plan before; None if no
@@ -251,12 +313,14 @@ fn reaches_of(alloc: Global, family: &Family) -> Result<Option<Vec<SplitReach>>,
                 reaches.push(SplitReach {
                     at: *call,
                     until: *call,
+                    is_longer: false,
                 })?;
             }
         }
         Family::Split(split) => reaches.push(SplitReach {
             at: split.at,
             until: split.until,
+            is_longer: false,
         })?,
         _ => return Ok(None),
     }

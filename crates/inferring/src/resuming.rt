@@ -10,11 +10,14 @@ use inferred_rows::ContextPoint;
 use std::alloc::Global;
 use std::collections::BTreeSet;
 
-/// Where a split begins and ends, or an inline call begins. If the two are the same, it has no end.
+/// Where a split begins and ends, or where an inline call is. If the two are the same, it has no end.
 #[derive(Clone, Copy)]
 pub struct SplitReach {
     pub at: u16,
     pub until: u16,
+    /// Whether a split has further parts, after those that it had. Then all rows stay, and those that dropped a state lead
+    /// on.
+    pub is_longer: bool,
 }
 
 impl Worklist {
@@ -47,13 +50,34 @@ impl Worklist {
                 list.waiting.insert(edge.from)?;
             }
         }
+        if reaches.iter().any(|reach| reach.is_longer) {
+            list.wake_dropping(before)?;
+        }
         for _ in 0..visits {
-            match list.waiting.pop_first() {
+            match list.take_waiting() {
                 Some(number) => list.visit(alloc, setting, number)?,
                 None => return list.lowered_anew(alloc, setting, before, &lost),
             }
         }
         Err(FlowFault::Limit)
+    }
+
+    /// The next waiting place, which waits no more.
+    fn take_waiting(&mut self) -> Option<u64> {
+        match self.watched {
+            Watch::Callees(_) => self.waiting.pop_last(),
+            _ => self.waiting.pop_first(),
+        }
+    }
+
+    /// Lets the rows wait that dropped a state in another analysis.
+    fn wake_dropping(&mut self, before: &Worklist) -> Result<(), FlowFault> {
+        for (number, row) in before.rows.iter() {
+            if row.drops && self.rows.contains_key(number) {
+                self.waiting.insert(*number)?;
+            }
+        }
+        Ok(())
     }
 
     /// Takes over the rows of another analysis that are not lost, with what was found beside them.
@@ -119,7 +143,9 @@ fn lost_rows(
 ) -> Result<BTreeSet<u64>, FlowFault> {
     let mut lost = BTreeSet::new(alloc);
     for reach in reaches {
-        lose_reach(alloc, before, edges, *reach, &mut lost)?;
+        if !reach.is_longer {
+            lose_reach(alloc, before, edges, *reach, &mut lost)?;
+        }
     }
     let procs = called_elsewhere(alloc, before, reaches)?;
     for (number, _) in before.rows.iter() {
@@ -173,7 +199,9 @@ fn called_elsewhere(
         let mut is_more = false;
         for (callee, number) in calls.as_slice() {
             let caller = ContextPoint::of(*number);
-            let is_at_reach = reaches.iter().any(|reach| reach.at == caller.address);
+            let is_at_reach = reaches
+                .iter()
+                .any(|reach| reach.at == caller.address && !reach.is_longer);
             if !is_at_reach && procs.contains(&caller.proc) && procs.insert(*callee)? {
                 is_more = true;
             }

@@ -40,7 +40,20 @@ pub enum Watch {
     Nothing,
     /// The rows at an address.
     Address(u16),
+    /// The same. Where an analysis goes on from the rows of another one, called procedures come first.
+    Callees(u16),
     Everything,
+}
+
+impl Watch {
+    /// Whether a row at an address ends the analysis if it is refused.
+    fn is_at(self, address: u16) -> bool {
+        match self {
+            Watch::Nothing => false,
+            Watch::Address(at) | Watch::Callees(at) => at == address,
+            Watch::Everything => true,
+        }
+    }
 }
 
 /// A step from a row to another.
@@ -350,9 +363,7 @@ impl Worklist {
         let row = row.clone()?;
         let point = ContextPoint::of(number);
         let judged = self.judged_at(alloc, setting.task, point.plain(), &row.state)?;
-        let is_watched = self.watched == Watch::Everything
-            || self.watched == Watch::Address(point.address);
-        if is_watched && judged.reason.is_some() {
+        if self.watched.is_at(point.address) && judged.reason.is_some() {
             return Err(FlowFault::Limit);
         }
         let drops = self.lead(alloc, setting, number, row.as_ref(), judged.as_ref())?;
@@ -646,11 +657,16 @@ fn nexts_of<'j>(manner: Manner, judged: &'j JudgedRow) -> &'j [Next] {
     }
 }
 
+/// A copy of a row. A function of its own, since room for a row is cleared when it begins.
+#[inline(never)]
+fn copy_of(alloc: Global, row: &InferredRow) -> Result<Rc<InferredRow>, FlowFault> {
+    Ok(Rc::new(alloc, row.copied(alloc)?)?)
+}
+
 /// A row to write to. One that other analyses have too is copied first.
 fn own(alloc: Global, row: &mut Rc<InferredRow>) -> Result<&mut InferredRow, FlowFault> {
     if Rc::strong_count(row) != 1 {
-        let copy = row.copied(alloc)?;
-        *row = Rc::new(alloc, copy)?;
+        *row = copy_of(alloc, row.as_ref())?;
     }
     match Rc::get_mut(row) {
         Some(row) => Ok(row),

@@ -48,10 +48,14 @@ fn helping<P: Progress>(search: &mut Search<P>) -> Result<Option<ExploredPlan>, 
 fn first_helping<P: Progress>(search: &mut Search<P>) -> Result<Option<ExploredPlan>, FlowFault> {
     let refused = in_order(search)?;
     for address in refused.as_slice() {
+        if search.is_passed(*address) {
+            continue;
+        }
         let found = cheap(search, *address)?;
         if found.is_some() || !search.has_trials() {
             return Ok(found);
         }
+        search.pass(*address)?;
     }
     if search.explored.is_near {
         return Ok(None);

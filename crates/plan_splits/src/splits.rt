@@ -105,7 +105,8 @@ fn with_near_end<P: Progress>(
             continue;
         };
         let rows = near.list.rows().len();
-        if rows < least && !open.is_worse(&near) && search.explored.is_bettered_by(&near, refused) {
+        let is_no_worse = open.refuses_all_of(&near) && !open.is_worse(&near);
+        if rows < least && is_no_worse && search.explored.is_bettered_by(&near, refused) {
             least = rows;
             best = Some(near);
         }
@@ -257,7 +258,7 @@ fn is_refused_after<P: Progress>(
     };
     let mut run = LocalRun::new(search.alloc, &task, &open.list, proc);
     for row in open.rows_of(search.alloc, Some(proc), end)? {
-        run.arrive(end, &row.state)?;
+        run.arrive(search.alloc, end, &row.state)?;
     }
     for _ in 0..STEPS_AFTER {
         let Some(address) = run.take_waiting() else {
@@ -271,9 +272,7 @@ fn is_refused_after<P: Progress>(
                 return Ok(true);
             }
         }
-        for (to, state) in run.sent(search.alloc, address)? {
-            run.arrive(to, &state)?;
-        }
+        run.go_on(search.alloc, address)?;
     }
     Ok(false)
 }
@@ -445,7 +444,7 @@ fn comes_to<P: Progress>(
         return Ok(Passing::Refused);
     };
     let mut run = LocalRun::new(alloc, &task, &search.explored.list, proc);
-    run.arrive(at, state)?;
+    run.arrive(alloc, at, state)?;
     if !run.run_to(alloc, refused, STEPS)? {
         return Ok(Passing::Refused);
     }
