@@ -3,7 +3,6 @@
 ghost use Rattle.std.specs.Prelude.{◌≡◌, ◌+◌, ◌*◌};
 
 use crate::arriving::{Arriving, ArrivingKind, Sent, SentState};
-use crate::lowering::first_class;
 use abs_state::AbsState;
 use abs_step::{Next, NextKind, Reason};
 use affine::Space;
@@ -270,11 +269,6 @@ impl Worklist {
         space: &Space,
         widens: bool,
     ) -> Result<bool, FlowFault> {
-        let first = first_class(arriving.to.number());
-        if !self.rows.contains_key(&first) {
-            self.begin_row(alloc, setting, first, arriving, space)?;
-            return Ok(true);
-        }
         for class in 0..CLASSES {
             let number = ContextPoint {
                 class,
