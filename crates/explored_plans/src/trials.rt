@@ -36,6 +36,8 @@ pub struct Search<'s, P: Progress> {
     passed: BTreeSet<u16>,
     /// How many findings there were then.
     settled: usize,
+    /// The places that were refused then.
+    known: BTreeSet<u64>,
     progress: &'s mut P,
 }
 
@@ -59,6 +61,7 @@ impl<'s, P: Progress> Search<'s, P> {
         let edges = explored.edges(alloc, context)?;
         let graph = FlowGraph::of(alloc, &edges)?;
         let settled = explored.plan.findings.len();
+        let known = places_refused(alloc, &explored)?;
         Ok(Search {
             alloc,
             context,
@@ -70,6 +73,7 @@ impl<'s, P: Progress> Search<'s, P> {
             tried: BTreeMap::new(alloc),
             passed: BTreeSet::new(alloc),
             settled,
+            known,
             progress,
         })
     }
@@ -82,6 +86,7 @@ impl<'s, P: Progress> Search<'s, P> {
         if !explored.is_near {
             self.passed = BTreeSet::new(self.alloc);
             self.settled = explored.plan.findings.len();
+            self.known = places_refused(self.alloc, &explored)?;
         }
         self.explored = explored;
         Ok(())
@@ -208,7 +213,7 @@ impl<'s, P: Progress> Search<'s, P> {
     }
 
     /// Explores the whole plan, if only a part of it was explored. It was tried before, and is no trial. If that refuses
-    /// more, the splits found since the plan was last explored as a whole lose their ends, where that helps.
+    /// what was not refused before, the splits found since then lose their ends, where that helps.
     pub fn explore_whole(&mut self) -> Result<(), FlowFault> {
         if !self.explored.is_near {
             return Ok(());
@@ -218,16 +223,26 @@ impl<'s, P: Progress> Search<'s, P> {
             self.explored.is_near = false;
             return Ok(());
         };
-        if !self.explored.refuses_all_of(&whole) {
+        if self.refuses_anew(&whole) {
             if let Some(open) = self.opened()? {
-                return self.keep(open);
+                if open.refused.len() < whole.refused.len() && whole.refuses_all_of(&open) {
+                    return self.keep(open);
+                }
             }
         }
         self.keep(whole)
     }
 
-    /// The plan where the splits found since it was last explored as a whole have no ends; None if none has one, or more
-    /// is refused than now.
+    /// Whether a plan refuses a place that was not refused when the plan was last explored as a whole.
+    fn refuses_anew(&self, explored: &ExploredPlan) -> bool {
+        explored
+            .refused
+            .iter()
+            .any(|(number, _)| !self.known.contains(number))
+    }
+
+    /// The plan where the splits found since it was last explored as a whole have no ends, explored as a whole; None if
+    /// none has one.
     fn opened(&self) -> Result<Option<ExploredPlan>, FlowFault> {
         let mut plan = self.explored.plan.in_order(self.alloc)?;
         let mut place = 0usize;
@@ -244,11 +259,7 @@ impl<'s, P: Progress> Search<'s, P> {
         if !is_other {
             return Ok(None);
         }
-        let found = self.explored.with_plan(self.alloc, self.context, plan)?;
-        Ok(match found {
-            Some(open) if self.explored.refuses_all_of(&open) => Some(open),
-            _ => None,
-        })
+        self.explored.with_plan(self.alloc, self.context, plan)
     }
 
     /// Takes a plan that differs in the bounds of loops alone, as a trial. The result is the plan before; None if no
@@ -302,6 +313,15 @@ impl<'s, P: Progress> Search<'s, P> {
     pub fn loops(&self, proc: u32) -> Result<Vec<NaturalLoop>, FlowFault> {
         loops_of(self.alloc, &self.graph, proc, entry_of(proc))
     }
+}
+
+/// The places that a plan refuses.
+fn places_refused(alloc: Global, explored: &ExploredPlan) -> Result<BTreeSet<u64>, FlowFault> {
+    let mut places = BTreeSet::new(alloc);
+    for (number, _) in explored.refused.iter() {
+        places.insert(*number)?;
+    }
+    Ok(places)
 }
 
 /// What a split or inline calls distinguish; None for another family.
