@@ -40,16 +40,8 @@ impl Worklist {
         watched: Watch,
     ) -> Result<Worklist, FlowFault> {
         let lost = lost_rows(alloc, before, edges, reaches)?;
-        let judged = before.judged_rows().shared(setting.task)?;
-        let mut list = Worklist::empty(alloc, setting, judged)?;
+        let mut list = Worklist::without_rows(alloc, setting, before, edges, &lost)?;
         list.watched = watched;
-        list.keep_rows(setting, before, &lost)?;
-        list.begin_entries(alloc, setting)?;
-        for edge in edges {
-            if lost.contains(&edge.to) && !lost.contains(&edge.from) {
-                list.waiting.insert(edge.from)?;
-            }
-        }
         if reaches.iter().any(|reach| reach.is_longer) {
             list.wake_dropping(before)?;
         }
@@ -60,6 +52,58 @@ impl Worklist {
             }
         }
         Err(FlowFault::Limit)
+    }
+
+    /// What comes of the rows of another analysis, with these steps between them, where a fact of the rows at an address
+    /// is missing. These rows are computed again, and all that change with them: without the fact no row has less. In at
+    /// most `visits` visits of rows. A row that is refused ends the analysis. What was widened is not lowered.
+    ///
+    /// # Errors
+    ///
+    /// As for `resumed`.
+    pub fn loosened(
+        alloc: Global,
+        setting: Setting,
+        visits: u32,
+        before: &Worklist,
+        edges: &[RowEdge],
+        at: u16,
+    ) -> Result<Worklist, FlowFault> {
+        let mut lost = BTreeSet::new(alloc);
+        for (number, _) in before.rows.iter() {
+            if ContextPoint::of(*number).address == at {
+                lost.insert(*number)?;
+            }
+        }
+        let mut list = Worklist::without_rows(alloc, setting, before, edges, &lost)?;
+        list.watched = Watch::Everything;
+        for _ in 0..visits {
+            match list.waiting.pop_first() {
+                Some(number) => list.visit(alloc, setting, number)?,
+                None => return Ok(list),
+            }
+        }
+        Err(FlowFault::Limit)
+    }
+
+    /// The rows of another analysis without those that are lost. The rows that lead to lost ones wait.
+    fn without_rows(
+        alloc: Global,
+        setting: Setting,
+        before: &Worklist,
+        edges: &[RowEdge],
+        lost: &BTreeSet<u64>,
+    ) -> Result<Worklist, FlowFault> {
+        let judged = before.judged_rows().shared(setting.task)?;
+        let mut list = Worklist::empty(alloc, setting, judged)?;
+        list.keep_rows(setting, before, lost)?;
+        list.begin_entries(alloc, setting)?;
+        for edge in edges {
+            if lost.contains(&edge.to) && !lost.contains(&edge.from) {
+                list.waiting.insert(edge.from)?;
+            }
+        }
+        Ok(list)
     }
 
     /// The next waiting place, which waits no more.
