@@ -49,6 +49,8 @@ pub struct ExploredPlan {
     pub refused: BTreeMap<u64, Refusals>,
     /// The rows at each address, by address and then by number.
     pub places: Vec<(u16, u64)>,
+    /// Whether only a part of the plan was explored: some rows may have more than the plan gives them.
+    pub is_near: bool,
 }
 
 /// The number of an address of a procedure.
@@ -138,21 +140,22 @@ impl ExploredPlan {
         Ok(replace(&mut self.plan, plan))
     }
 
-    /// Explores the plan with a split more, from the rows of this one, between which these are the steps. Only what the
-    /// split distinguishes is explored again, so more may be refused than if all were explored. None if the analysis
-    /// takes too many rows or visits, or the watched address is refused before the fixpoint is reached.
+    /// Explores another plan from the rows of this one, between which these are the steps. The plans differ in the splits
+    /// and inline calls at these reaches. Only what these distinguish is explored again, so more may be refused than if
+    /// all were explored. None if the analysis takes too many rows or visits, or the watched address is refused before
+    /// the fixpoint is reached.
     ///
     /// # Errors
     ///
     /// `NoMemory` where memory was refused.
-    pub fn with_split(
+    pub fn with_reaches(
         &self,
         alloc: Global,
         context: &SearchContext,
         plan: Plan,
         edges: &[RowEdge],
-        reach: SplitReach,
-        watched: u16,
+        reaches: &[SplitReach],
+        watched: Watch,
     ) -> Result<Option<ExploredPlan>, FlowFault> {
         let said = plan.annotations(alloc, context.base())?;
         let guide = plan.guide(alloc, context.base())?;
@@ -166,15 +169,17 @@ impl ExploredPlan {
             context.visits(),
             &self.list,
             edges,
-            reach,
-            Watch::Address(watched),
+            reaches,
+            watched,
         );
         let list = match found {
             Ok(list) => list,
             Err(FlowFault::Limit) => return Ok(None),
             Err(FlowFault::NoMemory) => return Err(FlowFault::NoMemory),
         };
-        Ok(Some(explored_of(alloc, plan, said, guide, list)?))
+        let mut explored = explored_of(alloc, plan, said, guide, list)?;
+        explored.is_near = true;
+        Ok(Some(explored))
     }
 
     /// Explores a plan, with the judged rows of others.
@@ -313,6 +318,14 @@ impl ExploredPlan {
         false
     }
 
+    /// Whether each place that another plan refuses is refused here too.
+    pub fn refuses_all_of(&self, other: &ExploredPlan) -> bool {
+        other
+            .refused
+            .iter()
+            .all(|(number, _)| self.refused.contains_key(number))
+    }
+
     /// Whether another plan has rows at an address, and takes the refusals there away.
     pub fn is_cleared_by(&self, other: &ExploredPlan, address: u16) -> bool {
         if other.rows_at(address).is_empty() {
@@ -427,6 +440,7 @@ fn explored_of(
         list,
         refused,
         places,
+        is_near: false,
     })
 }
 

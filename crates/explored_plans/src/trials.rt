@@ -4,13 +4,12 @@ use crate::explored_plan::ExploredPlan;
 use crate::progress::Progress;
 use crate::search_context::SearchContext;
 use analysis::FlowFault;
-use annotations::SplitNote;
 use board_fetch::fetch;
-use inferring::{RowEdge, SplitReach};
+use inferring::{RowEdge, SplitReach, Watch};
 use plans::{Family, Plan};
 use row_graph::{FlowGraph, NaturalLoop, loops_of};
 use std::alloc::Global;
-use std::collections::BTreeMap;
+use std::collections::{BTreeMap, BTreeSet};
 use std::mem::replace;
 use z80_decode::Instr;
 
@@ -33,6 +32,12 @@ pub struct Search<'s, P: Progress> {
     pub repeats: bool,
     /// What was tried, each with the number of findings that the plan had then.
     tried: BTreeMap<Attempt, usize>,
+    /// The refused addresses that no cheap move helped since the plan was last explored as a whole.
+    passed: BTreeSet<u16>,
+    /// How many findings there were then.
+    settled: usize,
+    /// The places that were refused then.
+    known: BTreeSet<u64>,
     progress: &'s mut P,
 }
 
@@ -55,6 +60,8 @@ impl<'s, P: Progress> Search<'s, P> {
     ) -> Result<Search<'s, P>, FlowFault> {
         let edges = explored.edges(alloc, context)?;
         let graph = FlowGraph::of(alloc, &edges)?;
+        let settled = explored.plan.findings.len();
+        let known = places_refused(alloc, &explored)?;
         Ok(Search {
             alloc,
             context,
@@ -64,6 +71,9 @@ impl<'s, P: Progress> Search<'s, P> {
             left: trials,
             repeats: false,
             tried: BTreeMap::new(alloc),
+            passed: BTreeSet::new(alloc),
+            settled,
+            known,
             progress,
         })
     }
@@ -73,7 +83,24 @@ impl<'s, P: Progress> Search<'s, P> {
         let edges = explored.edges(self.alloc, self.context)?;
         self.graph = FlowGraph::of(self.alloc, &edges)?;
         self.edges = edges;
+        if !explored.is_near {
+            self.passed = BTreeSet::new(self.alloc);
+            self.settled = explored.plan.findings.len();
+            self.known = places_refused(self.alloc, &explored)?;
+        }
         self.explored = explored;
+        Ok(())
+    }
+
+    /// Whether no cheap move helped a refused address since the plan was last explored as a whole. It is not tried again
+    /// before.
+    pub fn is_passed(&self, address: u16) -> bool {
+        self.explored.is_near && self.passed.contains(&address)
+    }
+
+    /// No cheap move helped a refused address.
+    pub fn pass(&mut self, address: u16) -> Result<(), FlowFault> {
+        self.passed.insert(address)?;
         Ok(())
     }
 
@@ -122,35 +149,117 @@ impl<'s, P: Progress> Search<'s, P> {
         self.explored.with_plan(self.alloc, self.context, plan)
     }
 
-    /// Explores the plan with a split more as a trial, from the rows found so far. Only what the split distinguishes is
-    /// explored again, so more may be refused than if all were explored. None if the address for which the split is
-    /// wanted is refused again.
-    pub fn try_split(
+    /// Explores the plan with a split or inline calls more as a trial, from the rows found so far. Only what these
+    /// distinguish is explored again, so more may be refused than if all were explored. None if a watched address is
+    /// refused again.
+    pub fn try_near(
         &mut self,
-        split: SplitNote,
+        family: Family,
         wanted_at: u16,
+        watched: Watch,
+    ) -> Result<Option<ExploredPlan>, FlowFault> {
+        let Some(reaches) = reaches_of(self.alloc, &family)? else {
+            return Ok(None);
+        };
+        let plan = self.explored.plan.with(self.alloc, family, wanted_at)?;
+        self.try_reaches(plan, &reaches, watched)
+    }
+
+    /// The same for a plan that differs in the splits and inline calls at these reaches.
+    pub fn try_reaches(
+        &mut self,
+        plan: Plan,
+        reaches: &[SplitReach],
+        watched: Watch,
     ) -> Result<Option<ExploredPlan>, FlowFault> {
         if self.left == 0 {
             return Ok(None);
         }
         self.progress.tell(self.left, self.explored.refused.len());
         self.left = self.left.saturating_sub(1);
-        let reach = SplitReach {
-            at: split.at,
-            until: split.until,
-        };
-        let plan = self
-            .explored
-            .plan
-            .with(self.alloc, Family::Split(split), wanted_at)?;
-        self.explored.with_split(
+        self.explored.with_reaches(
             self.alloc,
             self.context,
             plan,
             &self.edges,
-            reach,
-            wanted_at,
+            reaches,
+            watched,
         )
+    }
+
+    /// Whether a family of the plan seems not to be needed: without it, nothing is refused that is not refused now, as
+    /// far as only what it distinguishes is explored again.
+    pub fn seems_unneeded(&self, place: usize) -> Result<bool, FlowFault> {
+        let Some(finding) = self.explored.plan.findings.get(place) else {
+            return Ok(true);
+        };
+        let Some(reaches) = reaches_of(self.alloc, &finding.family)? else {
+            return Ok(true);
+        };
+        let watched = Watch::Callees(finding.wanted_at);
+        let plan = self.explored.plan.without(self.alloc, place)?;
+        let found = self.explored.with_reaches(
+            self.alloc,
+            self.context,
+            plan,
+            &self.edges,
+            &reaches,
+            watched,
+        )?;
+        Ok(match found {
+            Some(explored) => !self.explored.is_worse(&explored),
+            None => false,
+        })
+    }
+
+    /// Explores the whole plan, if only a part of it was explored. It was tried before, and is no trial. If that refuses
+    /// what was not refused before, the splits found since then lose their ends, where that helps.
+    pub fn explore_whole(&mut self) -> Result<(), FlowFault> {
+        if !self.explored.is_near {
+            return Ok(());
+        }
+        let plan = self.explored.plan.in_order(self.alloc)?;
+        let Some(whole) = self.explored.with_plan(self.alloc, self.context, plan)? else {
+            self.explored.is_near = false;
+            return Ok(());
+        };
+        if self.refuses_anew(&whole) {
+            if let Some(open) = self.opened()? {
+                if open.refused.len() < whole.refused.len() && whole.refuses_all_of(&open) {
+                    return self.keep(open);
+                }
+            }
+        }
+        self.keep(whole)
+    }
+
+    /// Whether a plan refuses a place that was not refused when the plan was last explored as a whole.
+    fn refuses_anew(&self, explored: &ExploredPlan) -> bool {
+        explored
+            .refused
+            .iter()
+            .any(|(number, _)| !self.known.contains(number))
+    }
+
+    /// The plan where the splits found since it was last explored as a whole have no ends, explored as a whole; None if
+    /// none has one.
+    fn opened(&self) -> Result<Option<ExploredPlan>, FlowFault> {
+        let mut plan = self.explored.plan.in_order(self.alloc)?;
+        let mut place = 0usize;
+        let mut is_other = false;
+        for finding in &mut plan.findings {
+            if let Family::Split(split) = &mut finding.family {
+                if place >= self.settled && split.until != split.at {
+                    split.until = split.at;
+                    is_other = true;
+                }
+            }
+            place = place.saturating_add(1);
+        }
+        if !is_other {
+            return Ok(None);
+        }
+        self.explored.with_plan(self.alloc, self.context, plan)
     }
 
     /// Takes a plan that differs in the bounds of loops alone, as a trial. The result is the plan before; None if no
@@ -204,6 +313,38 @@ impl<'s, P: Progress> Search<'s, P> {
     pub fn loops(&self, proc: u32) -> Result<Vec<NaturalLoop>, FlowFault> {
         loops_of(self.alloc, &self.graph, proc, entry_of(proc))
     }
+}
+
+/// The places that a plan refuses.
+fn places_refused(alloc: Global, explored: &ExploredPlan) -> Result<BTreeSet<u64>, FlowFault> {
+    let mut places = BTreeSet::new(alloc);
+    for (number, _) in explored.refused.iter() {
+        places.insert(*number)?;
+    }
+    Ok(places)
+}
+
+/// What a split or inline calls distinguish; None for another family.
+fn reaches_of(alloc: Global, family: &Family) -> Result<Option<Vec<SplitReach>>, FlowFault> {
+    let mut reaches = Vec::new(alloc);
+    match family {
+        Family::Inlines(calls) => {
+            for call in calls.as_slice() {
+                reaches.push(SplitReach {
+                    at: *call,
+                    until: *call,
+                    is_longer: false,
+                })?;
+            }
+        }
+        Family::Split(split) => reaches.push(SplitReach {
+            at: split.at,
+            until: split.until,
+            is_longer: false,
+        })?,
+        _ => return Ok(None),
+    }
+    Ok(Some(reaches))
 }
 
 /// The entry of a procedure, by its number.

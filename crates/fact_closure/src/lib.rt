@@ -8,4 +8,4 @@ mod needed;
 mod rewriting;
 
 pub use carrying::{LoopFact, carried_facts};
-pub use needed::{FactSearch, needed_facts};
+pub use needed::{FactSearch, NeededFacts, facts_and_rows, needed_facts};

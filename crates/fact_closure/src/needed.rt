@@ -37,6 +37,24 @@ pub struct FactSearch<'s> {
 ///
 /// `Limit` if an analysis takes too many visits; `NoMemory` where memory was refused.
 pub fn needed_facts(alloc: Global, search: &FactSearch) -> Result<Guide, FlowFault> {
+    let NeededFacts { guide, .. } = facts_and_rows(alloc, search)?;
+    Ok(guide)
+}
+
+/// The facts of rows that are needed, and what an analysis without relations finds by them.
+#[derive(Drop)]
+pub struct NeededFacts {
+    pub guide: Guide,
+    /// The rows, if none of them is refused.
+    pub rows: Option<Worklist>,
+}
+
+/// The same as `needed_facts`, with the rows.
+///
+/// # Errors
+///
+/// As for `needed_facts`.
+pub fn facts_and_rows(alloc: Global, search: &FactSearch) -> Result<NeededFacts, FlowFault> {
     let incoming = Incoming::of(search.related.edges(alloc, search.setting)?);
     let mut guide = search.setting.guide.copied(alloc)?;
     let mut stage = Stage::Wanted;
@@ -65,20 +83,23 @@ pub fn needed_facts(alloc: Global, search: &FactSearch) -> Result<Guide, FlowFau
                 stage = Stage::Counting;
                 found = search.found(alloc, &incoming, &guide, &plain, stage)?;
                 if found.is_empty() {
-                    return Ok(guide);
+                    return Ok(NeededFacts {
+                        guide,
+                        rows: Some(plain),
+                    });
                 }
                 break;
             }
             stage = match stage.next() {
                 Some(next) => next,
-                None => return Ok(guide),
+                None => return Ok(NeededFacts { guide, rows: None }),
             };
             found = search.found(alloc, &incoming, &guide, &plain, stage)?;
         }
         merge(&mut guide.facts, &found)?;
         stage = Stage::Wanted;
     }
-    Ok(guide)
+    Ok(NeededFacts { guide, rows: None })
 }
 
 /// Which facts are looked for, the most telling first.

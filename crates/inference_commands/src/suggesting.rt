@@ -15,7 +15,7 @@ use annotations::Annotations;
 use cert_writer::{WriterFault, certify};
 use command_parts::{ExitStatus, read_all, read_rom};
 use explored_plans::Progress;
-use plan_search::{Inference, Judged, plain_annotations, seems_refused, without_fact};
+use plan_search::{Inference, Judged, PlainRows, plain_annotations, without_fact};
 use std::alloc::Global;
 use suggestions::{Suggested, suggestion};
 use symbols::Symbols;
@@ -174,7 +174,8 @@ fn is_accepted(alloc: Global, bytes: &[u8], said: &Annotations) -> Result<bool, 
     }
 }
 
-/// Accepted annotations without the facts, the last ones first, that are not given and not needed.
+/// Accepted annotations without the facts, the last ones first, that are not given and not needed. Whether one is needed
+/// is first seen from the rows that change without it.
 fn with_few_facts(
     alloc: Global,
     bytes: &[u8],
@@ -183,6 +184,9 @@ fn with_few_facts(
     said: Annotations,
 ) -> Result<Annotations, FlowFault> {
     let given = found.base.given.facts.as_slice();
+    let Some(mut rows) = PlainRows::of(alloc, rom, found, &said)? else {
+        return Ok(said);
+    };
     let mut said = said;
     for place in (0..said.facts().len().min(MOST_FACTS)).rev() {
         let Some(note) = said.facts().get(place).copied() else {
@@ -195,7 +199,11 @@ fn with_few_facts(
             continue;
         }
         let fewer = without_fact(alloc, &said, place)?;
-        if !seems_refused(alloc, rom, found, &fewer)? && is_accepted(alloc, bytes, &fewer)? {
+        let Some(others) = rows.without_fact(alloc, rom, found, &fewer, note.at)? else {
+            continue;
+        };
+        if is_accepted(alloc, bytes, &fewer)? {
+            rows = others;
             said = fewer;
         }
     }

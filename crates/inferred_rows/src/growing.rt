@@ -53,8 +53,10 @@ impl Growth {
                 pair_at(&before.pairs, number),
                 pair_at(&joined.pairs, number),
             );
-            let pair = self.grown_pair(usize::from(number) * 6, old, new, thresholds);
-            with_pair(&mut joined.pairs, number, pair);
+            if old != new {
+                let pair = self.grown_pair(usize::from(number) * 6, old, new, thresholds);
+                with_pair(&mut joined.pairs, number, pair);
+            }
         }
         for place in 0..joined.shape.len() {
             let slots = (
@@ -62,8 +64,10 @@ impl Growth {
                 joined.shape.slots().get(place).copied(),
             );
             if let (Some(old), Some(new)) = slots {
-                let pair = self.grown_pair(60 + place % 6 * 6, old.pair, new.pair, thresholds);
-                let _old = joined.shape.replace(place, Slot { pair });
+                if old.pair != new.pair {
+                    let pair = self.grown_pair(60 + place % 6 * 6, old.pair, new.pair, thresholds);
+                    let _old = joined.shape.replace(place, Slot { pair });
+                }
             }
         }
     }

@@ -3,13 +3,14 @@
 use crate::growing::Growth;
 use crate::held::hold;
 use crate::thresholds::Thresholds;
-use abs_state::AbsState;
+use abs_state::{AbsState, Mode};
 use abs_step::Reason;
 use affine::Space;
 use analysis::{FlowFault, joined, names_slots_below, widest};
 use annotations::{FactNote, RangeNote};
 use loop_bounds::{Linear, Ranges, Term, Variable};
 use std::alloc::Global;
+use std::mem::swap;
 
 /// After how many changes of a row its relations no longer tighten it.
 const TIGHTENED: u16 = 300;
@@ -89,9 +90,7 @@ impl InferredRow {
         if by.relates {
             row.relate()?;
         }
-        let mut left = state.copied();
-        row.tighten(&mut left, by);
-        row.state = left;
+        row.tighten_itself(by);
         Ok(row)
     }
 
@@ -150,6 +149,54 @@ impl InferredRow {
         }
     }
 
+    /// Tightens the row's own state. It is copied only if something may narrow it.
+    fn tighten_itself(&mut self, by: &Tightening) {
+        if self.is_tight(by) {
+            return;
+        }
+        let mut left = self.state.copied();
+        self.tighten(&mut left, by);
+        self.state = left;
+    }
+
+    /// Whether no fact and no relation narrows the row's own state.
+    fn is_tight(&self, by: &Tightening) -> bool {
+        for note in by.said {
+            if speaks_of(note, by.part) && may_tighten(&self.state, &note.fact) {
+                return false;
+            }
+        }
+        for fact in by.found {
+            if may_tighten(&self.state, fact) {
+                return false;
+            }
+        }
+        if by.relates && self.changes < TIGHTENED {
+            for relation in self.relations.as_slice() {
+                if may_tighten(&self.state, relation) {
+                    return false;
+                }
+            }
+        }
+        true
+    }
+
+    /// Whether a state that comes to the row leaves it as it is.
+    pub fn has_all(&self, state: &AbsState, space: &Space, by: &Tightening) -> bool {
+        if !self.has(state) {
+            return false;
+        }
+        let mut both = self.space;
+        !(by.relates && both.join(space))
+    }
+
+    /// Whether another row has the same state and relations.
+    pub fn is_like(&self, other: &InferredRow) -> bool {
+        self.has(&other.state)
+            && other.has(&self.state)
+            && are_same(self.relations.as_slice(), other.relations.as_slice())
+    }
+
     /// Joins a state that comes to the row.
     pub fn take(
         &mut self,
@@ -164,8 +211,8 @@ impl InferredRow {
             return Ok(JoinOutcome::Same);
         }
         self.relate()?;
-        let state = self.state.copied();
-        Ok(self.grow(state, true, by))
+        let mut state = self.state.copied();
+        Ok(self.grow(&mut state, true, by))
     }
 
     /// Whether the row has a state already.
@@ -180,7 +227,7 @@ impl InferredRow {
         space: &Space,
         by: &Tightening,
     ) -> Result<JoinOutcome, FlowFault> {
-        let Some(both) = join_of(&self.state, state, by.cells) else {
+        let Some(mut both) = join_of(&self.state, state, by.cells) else {
             return Ok(JoinOutcome::Unjoined);
         };
         let grew = by.relates && self.space.join(space);
@@ -190,21 +237,21 @@ impl InferredRow {
         if !grew && self.state.covers(&both) {
             return Ok(JoinOutcome::Same);
         }
-        Ok(self.grow(both, grew, by))
+        Ok(self.grow(&mut both, grew, by))
     }
 
-    /// Goes on with a join. `grew` says whether the row's relations changed.
-    fn grow(&mut self, both: AbsState, grew: bool, by: &Tightening) -> JoinOutcome {
-        let mut left = both;
-        self.change(&mut left, by);
-        let same = self.state.covers(&left) && left.covers(&self.state);
-        if same && !grew {
-            return JoinOutcome::Same;
+    /// Goes on with a join, which is lost. `grew` says whether the row's relations changed.
+    fn grow(&mut self, both: &mut AbsState, grew: bool, by: &Tightening) -> JoinOutcome {
+        self.change(both, by);
+        if self.state.covers(both) && both.covers(&self.state) {
+            return if grew {
+                JoinOutcome::Changed
+            } else {
+                JoinOutcome::Same
+            };
         }
-        if !same {
-            self.changes = self.changes.saturating_add(1);
-        }
-        self.state = left;
+        self.changes = self.changes.saturating_add(1);
+        swap(&mut self.state, both);
         JoinOutcome::Changed
     }
 
@@ -215,14 +262,16 @@ impl InferredRow {
         space: &Space,
         by: &Tightening,
     ) -> Result<JoinOutcome, FlowFault> {
-        let Some(mut both) = join_of(&self.state, state, by.cells) else {
-            return Ok(JoinOutcome::Unjoined);
-        };
+        if !self.has(state) {
+            let Some(both) = join_of(&self.state, state, by.cells) else {
+                return Ok(JoinOutcome::Unjoined);
+            };
+            self.state = both;
+        }
         if by.relates && self.space.join(space) {
             self.relate()?;
         }
-        self.tighten(&mut both, by);
-        self.state = both;
+        self.tighten_itself(by);
         Ok(JoinOutcome::Same)
     }
 
@@ -257,12 +306,31 @@ impl InferredRow {
 
 /// The join of two states, if one row can have both. The writer's analysis joins no state in which an NMI may come before
 /// the cells are armed; here two such states are joined, so that they take one row.
-pub fn join_of(one: &AbsState, other: &AbsState, cells: usize) -> Option<AbsState> {
+fn join_of(one: &AbsState, other: &AbsState, cells: usize) -> Option<AbsState> {
     if one.mode == other.mode && one.armed == other.armed {
         one.join(other)
     } else {
         joined(one, other, cells)
     }
+}
+
+/// Whether one row can have both states, which then have a join.
+pub fn are_joined(one: &AbsState, other: &AbsState, cells: usize) -> bool {
+    if one.shape.len() != other.shape.len() {
+        return false;
+    }
+    match one.mode.join(other.mode) {
+        Some(Mode::Nmi) if one.mode != other.mode || one.armed != other.armed => {
+            usize::from(one.armed.min(other.armed)) >= cells
+        }
+        Some(_) => true,
+        None => false,
+    }
+}
+
+/// Whether two lists have the same linears.
+fn are_same(one: &[Linear], other: &[Linear]) -> bool {
+    one.len() == other.len() && one.iter().zip(other).all(|(a, b)| a == b)
 }
 
 /// Whether a fact speaks of the rows of a part.
@@ -275,9 +343,14 @@ pub fn speaks_of(note: &FactNote, part: u16) -> bool {
 
 /// Tightens a state by a linear that is 0; it stays as it was if nothing would be left.
 fn tighten_by(state: &mut AbsState, fact: &Linear) {
-    if names_slots_below(fact, state.shape.len()) && may_narrow(state, fact) {
+    if may_tighten(state, fact) {
         narrow(state, fact);
     }
+}
+
+/// Whether a linear that is 0 may tighten a state.
+fn may_tighten(state: &AbsState, fact: &Linear) -> bool {
+    names_slots_below(fact, state.shape.len()) && may_narrow(state, fact)
 }
 
 /// The same of a state that has each slot that the linear names.

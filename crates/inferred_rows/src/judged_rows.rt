@@ -66,9 +66,24 @@ impl JudgedRows {
         let mut digest = self.whole;
         digest.add_place(place, timed, task.is_inline(place.address));
         digest.add_state(state);
-        if let Some(judged) = self.found(digest.value) {
-            return Ok(judged);
+        match self.found(digest.value) {
+            Some(judged) => Ok(judged),
+            None => self.judged_anew(alloc, task, place, timed, state, digest),
         }
+    }
+
+    /// Judges a state at a place, and keeps the judged row. A function of its own, since room for a judged row is cleared
+    /// when it begins.
+    #[inline(never)]
+    fn judged_anew(
+        &self,
+        alloc: Global,
+        task: &Task,
+        place: ProgramPoint,
+        timed: bool,
+        state: &AbsState,
+        digest: Digest,
+    ) -> Result<Rc<JudgedRow>, FlowFault> {
         let judged = Rc::new(alloc, judged_row(alloc, task, place, timed, state))?;
         self.keep(alloc, digest.value, judged.clone()?)?;
         Ok(judged)

@@ -14,7 +14,7 @@ mod thresholds;
 
 pub use context_point::{CLASSES, CONTEXT_LIMIT, ContextPoint};
 pub use guide::{Guide, Manner};
-pub use inferred::{InferredRow, JoinOutcome, Tightening, join_of, speaks_of};
+pub use inferred::{InferredRow, JoinOutcome, Tightening, are_joined, speaks_of};
 pub use judged_rows::JudgedRows;
 pub use operands::pointer_of;
 pub use thresholds::Thresholds;

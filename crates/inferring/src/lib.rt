@@ -9,6 +9,6 @@ mod lowering;
 mod resuming;
 mod worklist;
 
-pub use arriving::{Arriving, ArrivingKind};
+pub use arriving::ArrivingKind;
 pub use resuming::SplitReach;
 pub use worklist::{RowEdge, Setting, Watch, Worklist};

@@ -1,26 +1,30 @@
-// An analysis that goes on from the rows of another one: a split is added, and only what it distinguishes is computed
-// again.
+// An analysis that goes on from the rows of another one: something that a plan distinguishes is added or dropped, and only
+// what it distinguishes is computed again.
 
 use crate::arriving::ArrivingKind;
+use crate::lowering::first_class;
 use crate::worklist::{RowEdge, Setting, Watch, Worklist};
-use analysis::FlowFault;
+use analysis::{FlowFault, MAIN, NMI};
 use board_fetch::fetch;
 use inferred_rows::ContextPoint;
 use std::alloc::Global;
 use std::collections::BTreeSet;
 
-/// Where an added split begins and ends. If these are the same, it has no end.
+/// Where a split begins and ends, or where an inline call is. If the two are the same, it has no end.
 #[derive(Clone, Copy)]
 pub struct SplitReach {
     pub at: u16,
     pub until: u16,
+    /// Whether a split has further parts, after those that it had. Then all rows stay, and those that dropped a state lead
+    /// on.
+    pub is_longer: bool,
 }
 
 impl Worklist {
-    /// What comes of the rows of another analysis, with these steps between them, if a split is added. The rows at the
-    /// split's address, and those to which they lead within their procedures up to its end, are computed again; the
-    /// others stay, though less might come to them now. In at most `visits` visits of rows. A watched row that is refused
-    /// ends the analysis.
+    /// What comes of the rows of another analysis, with these steps between them, if what a plan says of these reaches
+    /// changes. The rows at the address of a reach, and those to which they lead within their procedures up to its end,
+    /// are computed again, and so are the procedures that only they call. The others stay, though less might come to
+    /// them now. In at most `visits` visits of rows. A watched row that is refused ends the analysis.
     ///
     /// # Errors
     ///
@@ -32,36 +36,97 @@ impl Worklist {
         visits: u32,
         before: &Worklist,
         edges: &[RowEdge],
-        reach: SplitReach,
+        reaches: &[SplitReach],
         watched: Watch,
     ) -> Result<Worklist, FlowFault> {
-        let lost = lost_rows(alloc, before, edges, reach)?;
-        let judged = before.judged_rows().shared(setting.task)?;
-        let mut list = Worklist::empty(alloc, setting, judged)?;
+        let lost = lost_rows(alloc, before, edges, reaches)?;
+        let mut list = Worklist::without_rows(alloc, setting, before, edges, &lost)?;
         list.watched = watched;
-        list.keep_rows(alloc, setting, before, &lost)?;
-        list.begin_entries(alloc, setting)?;
-        for edge in edges {
-            if lost.contains(&edge.to) && !lost.contains(&edge.from) {
-                list.waiting.insert(edge.from)?;
+        if reaches.iter().any(|reach| reach.is_longer) {
+            list.wake_dropping(before)?;
+        }
+        for _ in 0..visits {
+            match list.take_waiting() {
+                Some(number) => list.visit(alloc, setting, number)?,
+                None => return list.lowered_anew(alloc, setting, before, &lost),
             }
         }
+        Err(FlowFault::Limit)
+    }
+
+    /// What comes of the rows of another analysis, with these steps between them, where a fact of the rows at an address
+    /// is missing. These rows are computed again, and all that change with them: without the fact no row has less. In at
+    /// most `visits` visits of rows. A row that is refused ends the analysis. What was widened is not lowered.
+    ///
+    /// # Errors
+    ///
+    /// As for `resumed`.
+    pub fn loosened(
+        alloc: Global,
+        setting: Setting,
+        visits: u32,
+        before: &Worklist,
+        edges: &[RowEdge],
+        at: u16,
+    ) -> Result<Worklist, FlowFault> {
+        let mut lost = BTreeSet::new(alloc);
+        for (number, _) in before.rows.iter() {
+            if ContextPoint::of(*number).address == at {
+                lost.insert(*number)?;
+            }
+        }
+        let mut list = Worklist::without_rows(alloc, setting, before, edges, &lost)?;
+        list.watched = Watch::Everything;
         for _ in 0..visits {
             match list.waiting.pop_first() {
                 Some(number) => list.visit(alloc, setting, number)?,
-                None if list.has_widened_anew(before, &lost) => {
-                    return list.lowered_if_widened(alloc, setting);
-                }
                 None => return Ok(list),
             }
         }
         Err(FlowFault::Limit)
     }
 
+    /// The rows of another analysis without those that are lost. The rows that lead to lost ones wait.
+    fn without_rows(
+        alloc: Global,
+        setting: Setting,
+        before: &Worklist,
+        edges: &[RowEdge],
+        lost: &BTreeSet<u64>,
+    ) -> Result<Worklist, FlowFault> {
+        let judged = before.judged_rows().shared(setting.task)?;
+        let mut list = Worklist::empty(alloc, setting, judged)?;
+        list.keep_rows(setting, before, lost)?;
+        list.begin_entries(alloc, setting)?;
+        for edge in edges {
+            if lost.contains(&edge.to) && !lost.contains(&edge.from) {
+                list.waiting.insert(edge.from)?;
+            }
+        }
+        Ok(list)
+    }
+
+    /// The next waiting place, which waits no more.
+    fn take_waiting(&mut self) -> Option<u64> {
+        match self.watched {
+            Watch::Callees(_) => self.waiting.pop_last(),
+            _ => self.waiting.pop_first(),
+        }
+    }
+
+    /// Lets the rows wait that dropped a state in another analysis.
+    fn wake_dropping(&mut self, before: &Worklist) -> Result<(), FlowFault> {
+        for (number, row) in before.rows.iter() {
+            if row.drops && self.rows.contains_key(number) {
+                self.waiting.insert(*number)?;
+            }
+        }
+        Ok(())
+    }
+
     /// Takes over the rows of another analysis that are not lost, with what was found beside them.
     fn keep_rows(
         &mut self,
-        alloc: Global,
         setting: Setting,
         before: &Worklist,
         lost: &BTreeSet<u64>,
@@ -74,15 +139,12 @@ impl Worklist {
             if let Ok((instr, _)) = fetch(setting.task.rom(), address) {
                 self.thresholds.add(&instr)?;
             }
-            self.rows.insert(*number, row.copied(alloc)?)?;
+            self.rows.insert(*number, row.clone()?)?;
         }
         for (number, exit) in before.exits.iter() {
             if !lost.contains(number) {
                 self.exits.insert(*number, exit.copied())?;
             }
-        }
-        for entry in before.entries.iter() {
-            self.entries.insert(*entry)?;
         }
         for timed in before.timed.iter() {
             self.timed.insert(*timed)?;
@@ -90,26 +152,65 @@ impl Worklist {
         self.keep_calls(before, lost)
     }
 
-    /// Whether the bound of a row that was computed again was widened.
-    fn has_widened_anew(&self, before: &Worklist, lost: &BTreeSet<u64>) -> bool {
-        self.rows.iter().any(|(number, row)| {
-            row.is_widened() && (lost.contains(number) || !before.rows.contains_key(number))
-        })
+    /// What two rounds without widening leave of the rows that were computed again, if a bound of one of them was
+    /// widened.
+    fn lowered_anew(
+        self,
+        alloc: Global,
+        setting: Setting,
+        before: &Worklist,
+        lost: &BTreeSet<u64>,
+    ) -> Result<Worklist, FlowFault> {
+        let mut places = BTreeSet::new(alloc);
+        let mut is_widened = false;
+        for (number, row) in self.rows.iter() {
+            if lost.contains(number) || !before.rows.contains_key(number) {
+                places.insert(first_class(*number))?;
+                is_widened = is_widened || row.is_widened();
+            }
+        }
+        if is_widened {
+            self.lowered_at(alloc, setting, Some(&places))
+        } else {
+            Ok(self)
+        }
     }
 }
 
-/// The rows at the address of a split, and those to which they lead within their procedures up to its end.
+/// The rows at the addresses of reaches, those to which they lead within their procedures up to their ends, and the rows
+/// of procedures that are called from the addresses of reaches alone.
 fn lost_rows(
     alloc: Global,
     before: &Worklist,
     edges: &[RowEdge],
-    reach: SplitReach,
+    reaches: &[SplitReach],
 ) -> Result<BTreeSet<u64>, FlowFault> {
     let mut lost = BTreeSet::new(alloc);
+    for reach in reaches {
+        if !reach.is_longer {
+            lose_reach(alloc, before, edges, *reach, &mut lost)?;
+        }
+    }
+    let procs = called_elsewhere(alloc, before, reaches)?;
+    for (number, _) in before.rows.iter() {
+        if !procs.contains(&ContextPoint::of(*number).proc) {
+            lost.insert(*number)?;
+        }
+    }
+    Ok(lost)
+}
+
+/// Adds the rows at the address of a reach, and those to which they lead within their procedures up to its end.
+fn lose_reach(
+    alloc: Global,
+    before: &Worklist,
+    edges: &[RowEdge],
+    reach: SplitReach,
+    lost: &mut BTreeSet<u64>,
+) -> Result<(), FlowFault> {
     let mut todo = Vec::new(alloc);
     for (number, _) in before.rows.iter() {
-        if ContextPoint::of(*number).address == reach.at {
-            lost.insert(*number)?;
+        if ContextPoint::of(*number).address == reach.at && lost.insert(*number)? {
             todo.push(*number)?;
         }
     }
@@ -125,7 +226,35 @@ fn lost_rows(
             }
         }
     }
-    Ok(lost)
+    Ok(())
+}
+
+/// Main, the NMI routine, and the procedures that they call, by way of others too, but not from the addresses of reaches.
+fn called_elsewhere(
+    alloc: Global,
+    before: &Worklist,
+    reaches: &[SplitReach],
+) -> Result<BTreeSet<u32>, FlowFault> {
+    let mut procs = BTreeSet::new(alloc);
+    procs.insert(MAIN)?;
+    procs.insert(NMI)?;
+    let calls = before.calls(alloc)?;
+    for _ in 0..calls.len() {
+        let mut is_more = false;
+        for (callee, number) in calls.as_slice() {
+            let caller = ContextPoint::of(*number);
+            let is_at_reach = reaches
+                .iter()
+                .any(|reach| reach.at == caller.address && !reach.is_longer);
+            if !is_at_reach && procs.contains(&caller.proc) && procs.insert(*callee)? {
+                is_more = true;
+            }
+        }
+        if !is_more {
+            break;
+        }
+    }
+    Ok(procs)
 }
 
 /// The steps from a row, of steps that are sorted by the rows that they leave.

@@ -2,9 +2,9 @@
 
 ghost use Rattle.std.specs.Prelude.{◌≡◌, ◌+◌, ◌*◌};
 
-use crate::arriving::{Arriving, ArrivingKind, Sent};
+use crate::arriving::{Arriving, ArrivingKind, Sent, SentState};
 use abs_state::AbsState;
-use abs_step::{Next, NextKind};
+use abs_step::{Next, NextKind, Reason};
 use affine::Space;
 use analysis::{
     Flow, FlowFault, JudgedRow, MAIN, NMI, Noted, ProgramPoint, Task, facts_at, names_slots_below,
@@ -16,7 +16,7 @@ use cert_fields::Facts;
 use cert_form::{PROC_LIMIT, ROW_LIMIT};
 use inferred_rows::{
     CLASSES, ContextPoint, Guide, InferredRow, JoinOutcome, JudgedRows, Manner, Thresholds,
-    Tightening, join_of, pointer_of,
+    Tightening, are_joined, pointer_of,
 };
 use intervals::ByteRange;
 use loop_bounds::{Effect, Variable};
@@ -39,7 +39,20 @@ pub enum Watch {
     Nothing,
     /// The rows at an address.
     Address(u16),
+    /// The same. Where an analysis goes on from the rows of another one, called procedures come first.
+    Callees(u16),
     Everything,
+}
+
+impl Watch {
+    /// Whether a row at an address ends the analysis if it is refused.
+    fn is_at(self, address: u16) -> bool {
+        match self {
+            Watch::Nothing => false,
+            Watch::Address(at) | Watch::Callees(at) => at == address,
+            Watch::Everything => true,
+        }
+    }
 }
 
 /// A step from a row to another.
@@ -56,7 +69,7 @@ pub struct RowEdge {
 /// The rows found so far, the called procedures, and the places that wait.
 #[derive(Drop)]
 pub struct Worklist {
-    pub(crate) rows: BTreeMap<u64, InferredRow>,
+    pub(crate) rows: BTreeMap<u64, Rc<InferredRow>>,
     pub(crate) waiting: BTreeSet<u64>,
     /// The entries of called procedures.
     pub(crate) entries: BTreeSet<u16>,
@@ -163,18 +176,19 @@ impl Worklist {
         alloc: Global,
         setting: Setting,
     ) -> Result<(), FlowFault> {
-        let main = entering(ContextPoint::at(MAIN, 0), AbsState::of_main());
+        let state = AbsState::of_main();
+        let main = entering(ContextPoint::at(MAIN, 0), &state);
         self.take(alloc, setting, &main, &Space::full(), true)?;
         if setting.task.has_routine() {
             self.timed.insert(NMI)?;
             let state = setting.task.routine_state();
-            let nmi = entering(ContextPoint::at(NMI, NMI_ADDRESS), state);
+            let nmi = entering(ContextPoint::at(NMI, NMI_ADDRESS), &state);
             self.take(alloc, setting, &nmi, &Space::full(), true)?;
         }
         Ok(())
     }
 
-    /// Takes over the calls of another analysis by rows that are not lost.
+    /// Takes over the calls of another analysis by rows that are not lost, and the entries that they call.
     pub(crate) fn keep_calls(
         &mut self,
         before: &Worklist,
@@ -184,19 +198,25 @@ impl Worklist {
             let caller = (*call % CALLERS) as u64;
             if !lost.contains(&caller) {
                 self.calls.insert(*call)?;
+                let callee = (*call / CALLERS % PROCEDURES) as u32;
+                let entry = callee.saturating_sub(sub_of(0)).min(0xFFFF) as u16;
+                self.entries.insert(entry)?;
             }
         }
         Ok(())
     }
 
     /// The rows, ordered by the numbers of their places.
-    pub fn rows(&self) -> &BTreeMap<u64, InferredRow> {
+    pub fn rows(&self) -> &BTreeMap<u64, Rc<InferredRow>> {
         &self.rows
     }
 
     /// The row at the place with this number.
     pub fn row(&self, number: u64) -> Option<&InferredRow> {
-        self.rows.get(&number)
+        match self.rows.get(&number) {
+            Some(row) => Some(row.as_ref()),
+            None => None,
+        }
     }
 
     pub fn is_timed(&self, proc: u32) -> bool {
@@ -249,22 +269,13 @@ impl Worklist {
         space: &Space,
         widens: bool,
     ) -> Result<bool, FlowFault> {
-        let first = ContextPoint {
-            class: 0,
-            ..arriving.to
-        }
-        .number();
-        if !self.rows.contains_key(&first) {
-            self.begin_row(alloc, setting, first, arriving, space)?;
-            return Ok(true);
-        }
         for class in 0..CLASSES {
             let number = ContextPoint {
                 class,
                 ..arriving.to
             }
             .number();
-            match self.add_to_row(setting, number, arriving, space, widens)? {
+            match self.add_to_row(alloc, setting, number, arriving, space, widens)? {
                 Some(JoinOutcome::Same) => return Ok(true),
                 Some(JoinOutcome::Changed) => {
                     self.waiting.insert(number)?;
@@ -298,15 +309,17 @@ impl Worklist {
             pointer = pointer_of(&instr);
         }
         let by = tightening(setting, number, arriving.to.address, &self.thresholds);
-        let row = InferredRow::first(alloc, &arriving.state, space, pointer, &by)?;
-        self.rows.insert(number, row)?;
+        let row = InferredRow::first(alloc, arriving.state(), space, pointer, &by)?;
+        self.rows.insert(number, Rc::new(alloc, row)?)?;
         self.waiting.insert(number)?;
         Ok(())
     }
 
-    /// Joins a state to a row; None if there is no such row.
+    /// Joins a state to a row; None if there is no such row. A row that other analyses have too is copied only if it
+    /// changes.
     fn add_to_row(
         &mut self,
+        alloc: Global,
         setting: Setting,
         number: u64,
         arriving: &Arriving,
@@ -317,10 +330,16 @@ impl Worklist {
         let Some(row) = self.rows.get_mut(&number) else {
             return Ok(None);
         };
+        let state = arriving.state();
+        let is_shared = Rc::strong_count(row) != 1;
+        if is_shared && widens && row.has_all(state, space, &by) {
+            return Ok(Some(JoinOutcome::Same));
+        }
+        let row = own(alloc, row)?;
         let outcome = if widens {
-            row.take(&arriving.state, space, &by)?
+            row.take(state, space, &by)?
         } else {
-            row.add(&arriving.state, space, &by)?
+            row.add(state, space, &by)?
         };
         Ok(Some(outcome))
     }
@@ -335,34 +354,47 @@ impl Worklist {
         let Some(row) = self.rows.get(&number) else {
             return Ok(());
         };
+        let row = row.clone()?;
         let point = ContextPoint::of(number);
-        let space = row.space;
-        let bytes = row.state.shape.bytes();
         let judged = self.judged_at(alloc, setting.task, point.plain(), &row.state)?;
-        let judged = judged.as_ref();
-        let is_watched = self.watched == Watch::Everything
-            || self.watched == Watch::Address(point.address);
-        if is_watched && judged.reason.is_some() {
+        if self.watched.is_at(point.address) && judged.reason.is_some() {
             return Err(FlowFault::Limit);
         }
+        let drops = self.lead(alloc, setting, number, row.as_ref(), judged.as_ref())?;
+        let found = Findings {
+            reason: judged.reason,
+            bytes: bytes_of(setting.manner, row.as_ref(), judged.as_ref()),
+            drops,
+        };
+        self.note(alloc, number, found)
+    }
+
+    /// A judged row leads to its successors. The result is whether a state to which it leads is in no part of a split, or
+    /// in no row.
+    fn lead(
+        &mut self,
+        alloc: Global,
+        setting: Setting,
+        number: u64,
+        row: &InferredRow,
+        judged: &JudgedRow,
+    ) -> Result<bool, FlowFault> {
+        let point = ContextPoint::of(number);
         self.note_calls(alloc, setting, point, judged)?;
         let sent = self.sent_by(alloc, setting, point, judged)?;
-        if self.note(number, bytes, judged, setting.manner)? {
+        if self.leave(number, exit_of(setting.manner, judged))? {
             for caller in self.callers_of(alloc, point.proc)? {
                 self.waiting.insert(caller)?;
             }
         }
         let mut drops = !sent.lacking.is_empty();
         for arriving in sent.states.as_slice() {
-            let space = space_after(setting.manner, &space, arriving);
+            let space = space_after(setting.manner, &row.space, arriving);
             if !self.take(alloc, setting, arriving, &space, true)? {
                 drops = true;
             }
         }
-        if let Some(row) = self.rows.get_mut(&number) {
-            row.drops = drops;
-        }
-        Ok(())
+        Ok(drops)
     }
 
     /// Judges a state at a place.
@@ -387,16 +419,16 @@ impl Worklist {
     }
 
     /// What a judged row sends on.
-    pub(crate) fn sent_by(
+    pub(crate) fn sent_by<'j>(
         &self,
         alloc: Global,
         setting: Setting,
         point: ContextPoint,
-        judged: &JudgedRow,
-    ) -> Result<Sent, FlowFault> {
+        judged: &'j JudgedRow,
+    ) -> Result<Sent<'j>, FlowFault> {
         let mut sent = Sent::none(alloc);
         for next in nexts_of(setting.manner, judged) {
-            sent.add_next(setting.task, setting.guide, point, next)?;
+            sent.add_next(alloc, setting.task, setting.guide, point, next)?;
             if next.kind == NextKind::Call {
                 self.send_call(alloc, setting, point, next, &mut sent)?;
             }
@@ -411,15 +443,18 @@ impl Worklist {
         setting: Setting,
         point: ContextPoint,
         next: &Next,
-        sent: &mut Sent,
+        sent: &mut Sent<'_>,
     ) -> Result<(), FlowFault> {
-        sent.add_call(setting.task, setting.guide, point, next)?;
+        sent.add_call(alloc, setting.task, setting.guide, point, next)?;
         let Ok((_, len)) = fetch(setting.task.rom(), point.address) else {
             return Ok(());
         };
         let after = point.address.wrapping_add(u16::from(len));
-        for exit in self.exits_of(alloc, sub_of(next.address))? {
-            sent.add_return(setting.task, setting.guide, point, after, next, &exit)?;
+        let callee = sub_of(next.address);
+        for (_, exit) in self.exits.range(
+            ContextPoint::first_of(callee)..=ContextPoint::last_of(callee),
+        ) {
+            sent.add_return(alloc, setting.task, setting.guide, point, after, next, exit)?;
         }
         Ok(())
     }
@@ -464,31 +499,35 @@ impl Worklist {
         Ok(())
     }
 
-    /// Notes what was found of a row with so many bytes of slots. The result is whether its exit changed.
+    /// Notes what was found of a row.
     pub(crate) fn note(
         &mut self,
+        alloc: Global,
         number: u64,
-        bytes: u16,
-        judged: &JudgedRow,
-        manner: Manner,
-    ) -> Result<bool, FlowFault> {
+        found: Findings,
+    ) -> Result<(), FlowFault> {
         let Some(row) = self.rows.get_mut(&number) else {
-            return Ok(false);
+            return Ok(());
         };
-        row.reason = judged.reason;
-        row.bytes = bytes;
-        let mut exit = None;
-        for next in nexts_of(manner, judged) {
-            row.bytes = row.bytes.max(next.state.shape.bytes());
-            if next.kind == NextKind::Exit {
-                exit = Some(&next.state);
-            }
+        let is_noted = row.reason == found.reason
+            && row.bytes == found.bytes
+            && row.drops == found.drops;
+        if is_noted {
+            return Ok(());
         }
-        self.leave(number, exit)
+        let row = own(alloc, row)?;
+        row.reason = found.reason;
+        row.bytes = found.bytes;
+        row.drops = found.drops;
+        Ok(())
     }
 
     /// Notes the state in which a row leaves its procedure, if it does. The result is whether it changed.
-    fn leave(&mut self, number: u64, exit: Option<&AbsState>) -> Result<bool, FlowFault> {
+    pub(crate) fn leave(
+        &mut self,
+        number: u64,
+        exit: Option<&AbsState>,
+    ) -> Result<bool, FlowFault> {
         let same = match (self.exits.get(&number), exit) {
             (None, None) => true,
             (Some(old), Some(new)) => old.covers(new) && new.covers(old),
@@ -535,23 +574,13 @@ impl Worklist {
         setting: Setting,
         number: u64,
     ) -> Result<Vec<(u16, ByteRange)>, FlowFault> {
-        let Sent { lacking, .. } = self.sent_from(alloc, setting, number)?;
-        Ok(lacking)
-    }
-
-    /// What a row sends on.
-    pub(crate) fn sent_from(
-        &self,
-        alloc: Global,
-        setting: Setting,
-        number: u64,
-    ) -> Result<Sent, FlowFault> {
         let Some(row) = self.rows.get(&number) else {
-            return Ok(Sent::none(alloc));
+            return Ok(Vec::new(alloc));
         };
         let point = ContextPoint::of(number);
         let judged = self.judged_at(alloc, setting.task, point.plain(), &row.state)?;
-        self.sent_by(alloc, setting, point, judged.as_ref())
+        let Sent { lacking, .. } = self.sent_by(alloc, setting, point, judged.as_ref())?;
+        Ok(lacking)
     }
 
     /// The steps between the rows.
@@ -561,8 +590,10 @@ impl Worklist {
     /// `NoMemory` where memory was refused.
     pub fn edges(&self, alloc: Global, setting: Setting) -> Result<Vec<RowEdge>, FlowFault> {
         let mut edges = Vec::new(alloc);
-        for (number, _) in self.rows.iter() {
-            let sent = self.sent_from(alloc, setting, *number)?;
+        for (number, row) in self.rows.iter() {
+            let point = ContextPoint::of(*number);
+            let judged = self.judged_at(alloc, setting.task, point.plain(), &row.state)?;
+            let sent = self.sent_by(alloc, setting, point, judged.as_ref())?;
             for arriving in sent.states.as_slice() {
                 if let Some(to) = self.number_of(setting.task, arriving) {
                     edges.push(RowEdge {
@@ -586,7 +617,7 @@ impl Worklist {
             }
             .number();
             let row = self.rows.get(&number)?;
-            if join_of(&row.state, &arriving.state, task.cells().len()).is_some() {
+            if are_joined(&row.state, arriving.state(), task.cells().len()) {
                 return Some(number);
             }
         }
@@ -620,11 +651,56 @@ fn nexts_of<'j>(manner: Manner, judged: &'j JudgedRow) -> &'j [Next] {
     }
 }
 
+/// A copy of a row. A function of its own, since room for a row is cleared when it begins.
+#[inline(never)]
+fn copy_of(alloc: Global, row: &InferredRow) -> Result<Rc<InferredRow>, FlowFault> {
+    Ok(Rc::new(alloc, row.copied(alloc)?)?)
+}
+
+/// A row to write to. One that other analyses have too is copied first.
+fn own(alloc: Global, row: &mut Rc<InferredRow>) -> Result<&mut InferredRow, FlowFault> {
+    if Rc::strong_count(row) != 1 {
+        *row = copy_of(alloc, row.as_ref())?;
+    }
+    match Rc::get_mut(row) {
+        Some(row) => Ok(row),
+        None => Err(FlowFault::NoMemory),
+    }
+}
+
+/// What is noted of a row: the lowest reason against it, the bytes of slots, and whether it drops a state.
+#[derive(Clone, Copy)]
+pub(crate) struct Findings {
+    pub(crate) reason: Option<Reason>,
+    pub(crate) bytes: u16,
+    pub(crate) drops: bool,
+}
+
+/// The most bytes of slots at a judged row and its successors.
+pub(crate) fn bytes_of(manner: Manner, row: &InferredRow, judged: &JudgedRow) -> u16 {
+    let mut bytes = row.state.shape.bytes();
+    for next in nexts_of(manner, judged) {
+        bytes = bytes.max(next.state.shape.bytes());
+    }
+    bytes
+}
+
+/// The state in which a judged row leaves its procedure, if it does.
+pub(crate) fn exit_of<'j>(manner: Manner, judged: &'j JudgedRow) -> Option<&'j AbsState> {
+    let mut exit = None;
+    for next in nexts_of(manner, judged) {
+        if next.kind == NextKind::Exit {
+            exit = Some(&next.state);
+        }
+    }
+    exit
+}
+
 /// A state at an entry.
-fn entering(to: ContextPoint, state: AbsState) -> Arriving {
+fn entering<'s>(to: ContextPoint, state: &'s AbsState) -> Arriving<'s> {
     Arriving {
         to,
-        state,
+        state: SentState::Lent(state),
         effect: Effect::unchanged(),
         kind: ArrivingKind::Jump,
     }
@@ -633,7 +709,7 @@ fn entering(to: ContextPoint, state: AbsState) -> Arriving {
 /// What is known of the variables together after a step.
 pub(crate) fn space_after(manner: Manner, space: &Space, arriving: &Arriving) -> Space {
     if manner.relates {
-        space.after(&arriving.effect, arriving.state.shape.len())
+        space.after(&arriving.effect, arriving.state().shape.len())
     } else {
         Space::full()
     }

@@ -4,6 +4,7 @@ use analysis::{FlowFault, MAIN, NMI, sub_of};
 use board_fetch::fetch;
 use explored_plans::{ExploredPlan, Family, OF_CONTEXTS, Progress, REGISTERS, Search};
 use inferred_rows::ContextPoint;
+use inferring::Watch;
 use intervals::ByteRange;
 use plan_loops::try_unroll;
 use plan_splits::{Splitting, try_lookup, with_split};
@@ -71,7 +72,7 @@ pub fn try_inline<P: Progress>(
             if some_inline_calls(search, entry) {
                 let mut sites = sites_of(search, sub_of(entry))?;
                 sites.push(refused)?;
-                return search.try_family(Family::Inlines(sites), refused);
+                return search.try_near(Family::Inlines(sites), refused, Watch::Nothing);
             }
         }
     }
@@ -90,7 +91,8 @@ pub fn try_inline<P: Progress>(
         if sites.is_empty() {
             continue;
         }
-        let Some(explored) = search.try_family(Family::Inlines(sites), refused)? else {
+        let family = Family::Inlines(sites);
+        let Some(explored) = search.try_near(family, refused, Watch::Nothing)? else {
             continue;
         };
         return Ok(Some(explored));

@@ -7,7 +7,7 @@ use annotations::Annotations;
 use cert_checker::Accepted;
 use cert_writer::{WriterFault, certify_flow};
 use explored_plans::{ExploredPlan, SearchContext, exploring};
-use fact_closure::{FactSearch, needed_facts};
+use fact_closure::{FactSearch, NeededFacts, facts_and_rows};
 use inferred_rows::{Guide, Manner};
 use inferring::{Setting, Watch, Worklist};
 use std::alloc::Global;
@@ -120,7 +120,7 @@ pub(crate) fn judge_with<'r>(
         related: &explored.list,
         visits: context.visits(),
     };
-    let guide = needed_facts(alloc, &search)?;
+    let NeededFacts { guide, rows } = facts_and_rows(alloc, &search)?;
     let setting = Setting {
         task: &task,
         guide: &guide,
@@ -129,8 +129,16 @@ pub(crate) fn judge_with<'r>(
             relates: false,
         },
     };
-    let rows = explored.list.judged_rows();
-    let list = Worklist::run_with(alloc, setting, context.visits(), rows, Watch::Nothing)?;
+    let list = match rows {
+        Some(list) => list,
+        None => Worklist::run_with(
+            alloc,
+            setting,
+            context.visits(),
+            explored.list.judged_rows(),
+            Watch::Nothing,
+        )?,
+    };
     let flow = list.into_flow(alloc, setting)?;
     match certify_flow(alloc, bytes, &explored.said, &flow) {
         Err(WriterFault::NoMemory) => Err(FlowFault::NoMemory),

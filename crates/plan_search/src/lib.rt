@@ -9,5 +9,5 @@ mod search;
 
 pub use inference::{Inference, inferred};
 pub use judged::Judged;
-pub use plain::{plain_annotations, seems_refused, without_fact};
+pub use plain::{PlainRows, plain_annotations, without_fact};
 pub use search::helping_at;

@@ -7,7 +7,7 @@ use annotations::{Annotations, FactNote, Notes};
 use cert_fields::Facts;
 use explored_plans::{Family, copy_of_split};
 use inferred_rows::{ContextPoint, Guide, Manner};
-use inferring::{Setting, Watch, Worklist};
+use inferring::{RowEdge, Setting, Watch, Worklist};
 use std::alloc::Global;
 
 /// The most facts of an address.
@@ -82,35 +82,86 @@ pub fn without_fact(
     with_facts(alloc, said, facts)
 }
 
-/// Whether an analysis with these plain annotations, which widens less than that of `check`, refuses a row. Where it does
-/// `check` does not accept the ROM with them.
-///
-/// # Errors
-///
-/// `NoMemory` where memory was refused.
-pub fn seems_refused(
-    alloc: Global,
-    rom: &Rom,
-    found: &Inference,
-    said: &Annotations,
-) -> Result<bool, FlowFault> {
-    let map = found.base.board.map(rom.len());
-    let Some(task) = Task::of(rom, &map, said) else {
-        return Ok(true);
-    };
-    let guide = Guide::none(alloc);
-    let setting = Setting {
-        task: &task,
-        guide: &guide,
+/// The rows that an analysis with plain annotations finds, and the steps between them. It widens less than that of
+/// `check`.
+#[derive(Drop)]
+pub struct PlainRows {
+    list: Worklist,
+    edges: Vec<RowEdge>,
+}
+
+impl PlainRows {
+    /// The rows by these annotations; None if there are too many.
+    ///
+    /// # Errors
+    ///
+    /// `NoMemory` where memory was refused.
+    pub fn of(
+        alloc: Global,
+        rom: &Rom,
+        found: &Inference,
+        said: &Annotations,
+    ) -> Result<Option<PlainRows>, FlowFault> {
+        let map = found.base.board.map(rom.len());
+        let Some(task) = Task::of(rom, &map, said) else {
+            return Ok(None);
+        };
+        let guide = Guide::none(alloc);
+        let setting = plain_setting(&task, &guide);
+        let rows = found.explored.list.judged_rows();
+        let list = Worklist::run_with(alloc, setting, VISITS, rows, Watch::Nothing);
+        rows_and_edges(alloc, setting, list)
+    }
+
+    /// The rows by these annotations, which lack a fact of an address that those of the rows here have. None if a row is
+    /// refused; then `check` does not accept the ROM with them.
+    ///
+    /// # Errors
+    ///
+    /// `NoMemory` where memory was refused.
+    pub fn without_fact(
+        &self,
+        alloc: Global,
+        rom: &Rom,
+        found: &Inference,
+        said: &Annotations,
+        at: u16,
+    ) -> Result<Option<PlainRows>, FlowFault> {
+        let map = found.base.board.map(rom.len());
+        let Some(task) = Task::of(rom, &map, said) else {
+            return Ok(None);
+        };
+        let guide = Guide::none(alloc);
+        let setting = plain_setting(&task, &guide);
+        let list = Worklist::loosened(alloc, setting, VISITS, &self.list, &self.edges, at);
+        rows_and_edges(alloc, setting, list)
+    }
+}
+
+/// An analysis by plain annotations alone.
+fn plain_setting<'s>(task: &'s Task<'s>, guide: &'s Guide) -> Setting<'s> {
+    Setting {
+        task,
+        guide,
         manner: Manner {
             explores: false,
             relates: false,
         },
-    };
-    let rows = found.explored.list.judged_rows();
-    match Worklist::run_with(alloc, setting, VISITS, rows, Watch::Everything) {
-        Ok(_) => Ok(false),
-        Err(FlowFault::Limit) => Ok(true),
+    }
+}
+
+/// The rows that an analysis found, with the steps between them; None if it came to its limit.
+fn rows_and_edges(
+    alloc: Global,
+    setting: Setting,
+    found: Result<Worklist, FlowFault>,
+) -> Result<Option<PlainRows>, FlowFault> {
+    match found {
+        Ok(list) => {
+            let edges = list.edges(alloc, setting)?;
+            Ok(Some(PlainRows { list, edges }))
+        }
+        Err(FlowFault::Limit) => Ok(None),
         Err(FlowFault::NoMemory) => Err(FlowFault::NoMemory),
     }
 }

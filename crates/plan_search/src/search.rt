@@ -17,26 +17,27 @@ const MOVES: u32 = 2_000;
 /// The most steps of the search for bounds of loops.
 const BOUNDS: u32 = 60;
 
-/// Takes refusals away, move by move, until none is left or no move helps.
+/// Takes refusals away, move by move, until none is left or no move helps. At last the whole plan is explored.
 pub(crate) fn clear<P: Progress>(search: &mut Search<P>) -> Result<(), FlowFault> {
     for _ in 0..MOVES {
-        if search.explored.is_clean() || !search.has_trials() {
-            return Ok(());
-        }
-        match helping(search)? {
+        let is_done = search.explored.is_clean() || !search.has_trials();
+        let found = if is_done { None } else { helping(search)? };
+        match found {
             Some(explored) => search.keep(explored)?,
+            None if search.explored.is_near => search.explore_whole()?,
             None => return Ok(()),
         }
     }
-    Ok(())
+    search.explore_whole()
 }
 
 /// The first move that helps: what is cheap first, then cells, then what costs trials. Rows that lead nowhere come
-/// before others, since more code is reached from them.
+/// before others, since more code is reached from them. What costs trials is left out where only a part of the plan was
+/// explored.
 fn helping<P: Progress>(search: &mut Search<P>) -> Result<Option<ExploredPlan>, FlowFault> {
     search.repeats = false;
     let found = first_helping(search)?;
-    if found.is_some() || !search.has_trials() {
+    if found.is_some() || !search.has_trials() || search.explored.is_near {
         return Ok(found);
     }
     search.repeats = true;
@@ -47,10 +48,17 @@ fn helping<P: Progress>(search: &mut Search<P>) -> Result<Option<ExploredPlan>, 
 fn first_helping<P: Progress>(search: &mut Search<P>) -> Result<Option<ExploredPlan>, FlowFault> {
     let refused = in_order(search)?;
     for address in refused.as_slice() {
+        if search.is_passed(*address) {
+            continue;
+        }
         let found = cheap(search, *address)?;
         if found.is_some() || !search.has_trials() {
             return Ok(found);
         }
+        search.pass(*address)?;
+    }
+    if search.explored.is_near {
+        return Ok(None);
     }
     let found = try_cells(search)?;
     if found.is_some() {
@@ -79,7 +87,8 @@ fn in_order<P: Progress>(search: &Search<P>) -> Result<Vec<u16>, FlowFault> {
     Ok(order)
 }
 
-/// The first move that takes the refusals of one address away; None if no move does. The search stays as it was.
+/// The first move that takes the refusals of one address away, with its whole plan explored; None if no move does. The
+/// search stays as it was.
 ///
 /// # Errors
 ///
@@ -91,10 +100,27 @@ pub fn helping_at<P: Progress>(
     search.repeats = false;
     let found = first_at(search, refused)?;
     if found.is_some() || !search.has_trials() {
-        return Ok(found);
+        return whole_of(search, found);
     }
     search.repeats = true;
-    first_at(search, refused)
+    let found = first_at(search, refused)?;
+    whole_of(search, found)
+}
+
+/// A plan of which only a part may be explored, explored as a whole.
+fn whole_of<P: Progress>(
+    search: &Search<P>,
+    found: Option<ExploredPlan>,
+) -> Result<Option<ExploredPlan>, FlowFault> {
+    match found {
+        Some(explored) if explored.is_near => {
+            let ExploredPlan { plan, .. } = explored;
+            search
+                .explored
+                .with_plan(search.alloc, search.context, plan)
+        }
+        found => Ok(found),
+    }
 }
 
 fn first_at<P: Progress>(
@@ -284,7 +310,8 @@ fn lessen<'r, P: Progress>(
     Ok(judged)
 }
 
-/// What the writer answers without the family at a place, if it accepts. The search then goes on without it.
+/// What the writer answers without the family at a place, if it accepts. The search then goes on without it. First only
+/// what the family distinguishes is explored again; if that refuses more, the family stays.
 fn without_family<'r, P: Progress>(
     search: &mut Search<P>,
     bytes: &'r [u8],
@@ -292,6 +319,9 @@ fn without_family<'r, P: Progress>(
 ) -> Result<Option<Judged<'r>>, FlowFault>
     ensures { IfOk result (λ found. IfSome found (λ other. other ≡ bytes.now)) }
 {
+    if !search.seems_unneeded(place)? {
+        return Ok(None);
+    }
     let explored = search
         .explored
         .without(search.alloc, search.context, place)?;

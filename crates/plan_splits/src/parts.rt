@@ -6,10 +6,12 @@ use explored_plans::{
     ByteSet, ExploredPlan, Family, PARTS, Plan, Progress, Search, copy_of_split, exploring,
 };
 use inferred_rows::ContextPoint;
+use inferring::{SplitReach, Watch};
 use intervals::ByteRange;
 use row_graph::{NaturalLoop, turns_of};
 
-/// A plan in which a split has the parts that states of a refused row lack.
+/// A plan in which a split has the parts that states of a refused row lack, after those that it has. The rows of the other
+/// parts stay.
 pub fn try_parts<P: Progress>(
     search: &mut Search<P>,
     refused: u16,
@@ -29,7 +31,12 @@ pub fn try_parts<P: Progress>(
             continue;
         }
         let plan = plan_with_parts(search, at, parts.as_slice())?;
-        if let Some(explored) = search.try_plan(plan)? {
+        let reach = SplitReach {
+            at,
+            until: split.until,
+            is_longer: true,
+        };
+        if let Some(explored) = search.try_reaches(plan, &[reach], Watch::Nothing)? {
             if !search.explored.is_worse(&explored) {
                 return Ok(Some(explored));
             }
@@ -106,7 +113,6 @@ fn more_parts<P: Progress>(
     if parts.len() == split.parts.len() || parts.len() > 4 * PARTS {
         return Ok(None);
     }
-    parts.sort_unstable_by_key(|part| part.low());
     Ok(Some(parts))
 }
 

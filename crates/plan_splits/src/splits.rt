@@ -8,6 +8,7 @@ use explored_plans::{
     split_of, values_in,
 };
 use inferred_rows::ContextPoint;
+use inferring::Watch;
 use intervals::ByteRange;
 use row_graph::{FlowGraph, LocalRun};
 use std::collections::BTreeMap;
@@ -82,51 +83,38 @@ pub fn with_split<P: Progress>(
     }
     match near_split(search, refused, splitting, at)? {
         Some(open) if search.explored.is_bettered_by(&open, refused) => {
-            with_near_end(search, refused, splitting, &open)
+            Ok(Some(with_near_end(search, refused, splitting, open)?))
         }
         _ => Ok(None),
     }
 }
 
-/// The end with the fewest rows with which a split helps, or the split without an end. `open` is the split without an
-/// end where only what it distinguishes was explored again. The ends are tried in the same way; the one that is kept is
-/// explored as a whole.
+/// The plan with the end of a split with the fewest rows with which it helps, or that without an end. `open` is the plan
+/// with the split without an end. Of each plan only what the split distinguishes is explored again.
 fn with_near_end<P: Progress>(
     search: &mut Search<P>,
     refused: u16,
     splitting: Splitting,
-    open: &ExploredPlan,
-) -> Result<Option<ExploredPlan>, FlowFault> {
-    let ends = ends_of(search, open, refused, splitting)?;
+    open: ExploredPlan,
+) -> Result<ExploredPlan, FlowFault> {
+    let ends = ends_of(search, &open, refused, splitting)?;
     let mut least = open.list.rows().len();
-    let mut until = splitting.at;
-    for end in hopeful_first(search, open, splitting, &ends)? {
+    let mut best = None;
+    for end in hopeful_first(search, &open, splitting, &ends)? {
         let Some(near) = near_split(search, refused, splitting, end)? else {
             continue;
         };
         let rows = near.list.rows().len();
-        if rows < least && !open.is_worse(&near) && search.explored.is_bettered_by(&near, refused) {
+        let is_no_worse = open.refuses_all_of(&near) && !open.is_worse(&near);
+        if rows < least && is_no_worse && search.explored.is_bettered_by(&near, refused) {
             least = rows;
-            until = end;
+            best = Some(near);
         }
     }
-    let whole = whole_split(search, refused, splitting, splitting.at)?;
-    if until == splitting.at {
-        return Ok(whole);
-    }
-    let found = whole_split(search, refused, splitting, until)?;
-    match (found, whole) {
-        (Some(found), Some(open)) => {
-            let has_more = found.list.rows().len() >= open.list.rows().len();
-            Ok(Some(if has_more || open.is_worse(&found) {
-                open
-            } else {
-                found
-            }))
-        }
-        (found, None) => Ok(found),
-        (None, open) => Ok(open),
-    }
+    Ok(match best {
+        Some(best) => best,
+        None => open,
+    })
 }
 
 /// The plan with a split up to an address, where only what the split distinguishes is explored again.
@@ -143,34 +131,7 @@ fn near_split<P: Progress>(
         ..
     } = splitting;
     let split = split_of(search.alloc, at, register, parts, until)?;
-    search.try_split(split, refused)
-}
-
-/// The plan with a split up to an address, explored as a whole, if it helps. It was tried before, and is no trial.
-fn whole_split<P: Progress>(
-    search: &Search<P>,
-    refused: u16,
-    splitting: Splitting,
-    until: u16,
-) -> Result<Option<ExploredPlan>, FlowFault> {
-    let Splitting {
-        at,
-        register,
-        parts,
-        ..
-    } = splitting;
-    let split = split_of(search.alloc, at, register, parts, until)?;
-    let plan = search
-        .explored
-        .plan
-        .with(search.alloc, Family::Split(split), refused)?;
-    let found = search
-        .explored
-        .with_plan(search.alloc, search.context, plan)?;
-    match found {
-        Some(explored) if search.explored.is_bettered_by(&explored, refused) => Ok(Some(explored)),
-        _ => Ok(None),
-    }
+    search.try_near(Family::Split(split), refused, Watch::Address(refused))
 }
 
 /// The same as `with_near_end`, where each plan is explored as a whole.
@@ -297,7 +258,7 @@ fn is_refused_after<P: Progress>(
     };
     let mut run = LocalRun::new(search.alloc, &task, &open.list, proc);
     for row in open.rows_of(search.alloc, Some(proc), end)? {
-        run.arrive(end, &row.state)?;
+        run.arrive(search.alloc, end, &row.state)?;
     }
     for _ in 0..STEPS_AFTER {
         let Some(address) = run.take_waiting() else {
@@ -311,9 +272,7 @@ fn is_refused_after<P: Progress>(
                 return Ok(true);
             }
         }
-        for (to, state) in run.sent(search.alloc, address)? {
-            run.arrive(to, &state)?;
-        }
+        run.go_on(search.alloc, address)?;
     }
     Ok(false)
 }
@@ -485,7 +444,7 @@ fn comes_to<P: Progress>(
         return Ok(Passing::Refused);
     };
     let mut run = LocalRun::new(alloc, &task, &search.explored.list, proc);
-    run.arrive(at, state)?;
+    run.arrive(alloc, at, state)?;
     if !run.run_to(alloc, refused, STEPS)? {
         return Ok(Passing::Refused);
     }

@@ -117,6 +117,21 @@ impl Plan {
         Ok(Plan { findings })
     }
 
+    /// A copy in which the parts of each split rise.
+    ///
+    /// # Errors
+    ///
+    /// `NoMemory` where memory was refused.
+    pub fn in_order(&self, alloc: Global) -> Result<Plan, FlowFault> {
+        let mut plan = self.copied(alloc)?;
+        for finding in &mut plan.findings {
+            if let Family::Split(split) = &mut finding.family {
+                split.parts.sort_unstable_by_key(|part| part.low());
+            }
+        }
+        Ok(plan)
+    }
+
     /// A copy with one more family.
     ///
     /// # Errors

@@ -1,7 +1,7 @@
 // Runs of a procedure from one state.
 
 use abs_state::AbsState;
-use abs_step::NextKind;
+use abs_step::{Next, NextKind};
 use analysis::{FlowFault, Task, joined, sub_of};
 use board_fetch::fetch;
 use inferred_rows::ContextPoint;
@@ -9,6 +9,7 @@ use inferring::Worklist;
 use intervals::Domain;
 use std::alloc::Global;
 use std::collections::{BTreeMap, BTreeSet};
+use std::rc::Rc;
 
 /// After how many joins an address takes no more states.
 const JOINS: u16 = 24;
@@ -20,7 +21,7 @@ pub struct LocalRun<'w> {
     /// The analysis whose exits of callees count.
     list: &'w Worklist,
     proc: u32,
-    rows: BTreeMap<u16, AbsState>,
+    rows: BTreeMap<u16, Rc<AbsState>>,
     joins: BTreeMap<u16, u16>,
     waiting: BTreeSet<u16>,
 }
@@ -40,26 +41,42 @@ impl<'w> LocalRun<'w> {
 
     /// The state at an address, if one came there.
     pub fn state(&self, address: u16) -> Option<&AbsState> {
-        self.rows.get(&address)
+        match self.rows.get(&address) {
+            Some(state) => Some(state.as_ref()),
+            None => None,
+        }
     }
 
     /// A state comes to an address.
-    pub fn arrive(&mut self, address: u16, state: &AbsState) -> Result<(), FlowFault> {
-        if let Some(row) = self.rows.get_mut(&address) {
-            let Some(both) = joined(row, state, self.task.cells().len()) else {
-                return Ok(());
-            };
+    pub fn arrive(
+        &mut self,
+        alloc: Global,
+        address: u16,
+        state: &AbsState,
+    ) -> Result<(), FlowFault> {
+        let arrived = match self.rows.get(&address) {
+            Some(row) => match self.joined_at(address, row.as_ref(), state) {
+                Some(both) => Rc::new(alloc, both)?,
+                None => return Ok(()),
+            },
+            None => Rc::new(alloc, state.copied())?,
+        };
+        if self.rows.insert(address, arrived)?.is_some() {
             let joins = self.joins.get(&address).copied().unwrap_or(0);
-            if row.covers(&both) || joins >= JOINS {
-                return Ok(());
-            }
-            *row = both;
             self.joins.insert(address, joins.saturating_add(1))?;
-        } else {
-            self.rows.insert(address, state.copied())?;
         }
         self.waiting.insert(address)?;
         Ok(())
+    }
+
+    /// The join of the state at an address and another one; None if that changes nothing, or the address takes no more.
+    fn joined_at(&self, address: u16, row: &AbsState, state: &AbsState) -> Option<AbsState> {
+        let is_had = row.mode == state.mode && row.armed == state.armed && row.covers(state);
+        if is_had || self.joins.get(&address).copied().unwrap_or(0) >= JOINS {
+            return None;
+        }
+        let both = joined(row, state, self.task.cells().len())?;
+        if row.covers(&both) { None } else { Some(both) }
     }
 
     /// The lowest waiting address, which waits no more.
@@ -82,6 +99,45 @@ impl<'w> LocalRun<'w> {
         Ok(sent)
     }
 
+    /// The states that an address sends to addresses of the procedure come there.
+    ///
+    /// # Errors
+    ///
+    /// `NoMemory` where memory was refused.
+    pub fn go_on(&mut self, alloc: Global, address: u16) -> Result<(), FlowFault> {
+        let Some(state) = self.rows.get(&address) else {
+            return Ok(());
+        };
+        let state = state.clone()?;
+        let place = ContextPoint::at(self.proc, address).plain();
+        let judged = self
+            .list
+            .judged_at(alloc, self.task, place, state.as_ref())?;
+        let Some(nexts) = &judged.as_ref().nexts else {
+            return Ok(());
+        };
+        for next in nexts.as_slice() {
+            match next.kind {
+                NextKind::Jump => self.arrive(alloc, next.address, &next.state)?,
+                NextKind::Call => self.come_back(alloc, address, next)?,
+                NextKind::Exit => {}
+            }
+        }
+        Ok(())
+    }
+
+    /// The states after a call come to the address after it.
+    fn come_back(&mut self, alloc: Global, address: u16, next: &Next) -> Result<(), FlowFault> {
+        let Ok((_, len)) = fetch(self.task.rom(), address) else {
+            return Ok(());
+        };
+        let after = address.wrapping_add(u16::from(len));
+        for exit in self.list.exits_of(alloc, sub_of(next.address))? {
+            self.arrive(alloc, after, &next.state.after_call(&exit))?;
+        }
+        Ok(())
+    }
+
     /// Goes on until no address waits, but not beyond `goal`. The result is whether it came to its end within `most`
     /// steps.
     ///
@@ -96,9 +152,7 @@ impl<'w> LocalRun<'w> {
             if address == goal {
                 continue;
             }
-            for (to, state) in self.sent(alloc, address)? {
-                self.arrive(to, &state)?;
-            }
+            self.go_on(alloc, address)?;
         }
         Ok(false)
     }

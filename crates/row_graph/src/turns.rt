@@ -132,7 +132,7 @@ fn one_turn(
 ) -> Result<Turn, FlowFault> {
     let cells = task.cells().len();
     let mut run = LocalRun::new(alloc, task, list, proc);
-    run.arrive(of.head, state)?;
+    run.arrive(alloc, of.head, state)?;
     let mut again = None;
     for _ in 0..STEPS {
         let Some(address) = run.take_waiting() else {
@@ -145,7 +145,7 @@ fn one_turn(
             if to == of.head {
                 join_into(&mut again, &state, cells);
             } else if of.contains(to) {
-                run.arrive(to, &state)?;
+                run.arrive(alloc, to, &state)?;
             }
         }
     }
