@@ -15,7 +15,8 @@ use Rattle.loop_bounds.specs.Variable.{rank_of, part_rank}
 use Rattle.loop_bounds.specs.Effect.{change_of, slot_change}
 use Rattle.affine.specs.declared.space.Space.{Space}
 use Rattle.affine.specs.Space.{KnowsAt, IsSameAt}
-use Rattle.affine.specs.Step.{IsMoved, IsTakenAt, first_written}
+use Rattle.affine.specs.Step.{IsMoved, IsTakenAt}
+use Rattle.tracked_variables.specs.Written.{first_written}
 
 -- the variables with a rank below this one were taken
 pub record RegistersTaken (old next : Space) (effect : Effect) (rank : ℕ) : Type 0 where

@@ -1,9 +1,8 @@
 -- What a step leaves of a space (docs/CHECKER.md, "Linear bounds, effects and tightening").
-use Rattle.std.specs.Prelude.{◌≡◌, ℕ, ◌+◌, ◌*◌, min, Option, Some, None, ℤ, pos, negsuc, ◌+ℤ◌}
+use Rattle.std.specs.Prelude.{◌≡◌, ℕ, ℤ, pos, negsuc, ◌+ℤ◌}
 use Rattle.loop_bounds.specs.declared.effect.Change.{Change}
 use Rattle.loop_bounds.specs.declared.effect.Change.TheVariants.{Old, Raised, Lowered, Constant, Unknown}
 use Rattle.loop_bounds.specs.declared.effect.Effect.{Effect}
-use Rattle.loop_bounds.specs.declared.effect.SlotChange.{SlotChange}
 use Rattle.loop_bounds.specs.declared.variable.Variable.{Variable}
 use Rattle.loop_bounds.specs.Variable.{rank_of}
 use Rattle.loop_bounds.specs.Effect.{Valuation, changed, change_of}
@@ -13,11 +12,6 @@ use Rattle.affine.specs.Space.{KnowsAt, coordinate_at, coefficient_at}
 -- A step with this effect can lead from the values before to these. The unknown ones are free.
 abbrev pub CanLeave : Effect → Valuation → (Variable → ℤ) → Type 0
 CanLeave effect before x = (v : Variable) → x v ≡ changed (change_of effect v) before (x v)
-
--- the lowest rank of the slot that a step writes
-abbrev pub first_written : Option SlotChange → ℕ
-first_written None = 48
-first_written (Some s) = min (12 + 3 * s.number) 48
 
 -- a variable has the value of another one before, plus a number
 pub record IsMoved (old new : Space) (rank source : ℕ) (by : ℤ) : Type 0 where

@@ -6,9 +6,8 @@ ghost use Rattle.affine.specs.Space.{KnowsAt, coordinate_at, coefficient_at};
 ghost use Rattle.affine.specs.Equality.{IsZeroOn};
 
 use crate::space::Space;
-use crate::tracked::variable;
-use crate::vector::{common_divisor, multiple};
 use loop_bounds::{Linear, Term};
+use tracked_variables::{common_divisor, multiple, variable};
 
 /// The greatest coefficient of an equality, in size.
 pub const GREATEST_FACTOR: u32 = 1_000;

@@ -5,8 +5,7 @@ ghost use Rattle.loop_bounds.specs.declared.variable.Variable.{Variable};
 ghost use Rattle.affine.specs.Space.{LiesOn, knowledge_of};
 
 use crate::space::{DIRECTIONS, Space};
-use crate::tracked::TRACKED;
-use crate::vector::Vector;
+use tracked_variables::{TRACKED, Vector};
 
 /// The greatest coefficient of a direction.
 const GREATEST_COEFFICIENT: u32 = 32_767;

@@ -7,10 +7,7 @@ mod relations;
 mod space;
 mod spans;
 mod steps;
-mod tracked;
-mod vector;
 
 pub use equalities::GREATEST_FACTOR;
 pub use relations::{MOST_RELATIONS, Relations};
 pub use space::{DIRECTIONS, GREATEST_COORDINATE, Space};
-pub use tracked::{TRACKED, TRACKED_SLOTS};

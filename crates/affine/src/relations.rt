@@ -5,9 +5,9 @@ ghost use Rattle.affine.specs.Equality.{IsZeroOn};
 
 use crate::equalities::Factor;
 use crate::space::Space;
-use crate::tracked::{TRACKED, is_half};
 use loop_bounds::{Linear, Variable};
 use std::marker::Model;
+use tracked_variables::{TRACKED, is_half};
 
 /// The equalities that `relations` and `triples` answer at most.
 pub const MOST_RELATIONS: usize = 24;

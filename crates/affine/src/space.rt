@@ -3,9 +3,8 @@ ghost use Rattle.std.specs.Prelude.{◌≡◌, ◌↔◌, ◌≢◌, ℕ, ◌<�
 ghost use Rattle.loop_bounds.specs.declared.variable.Variable.{Variable};
 ghost use Rattle.loop_bounds.specs.Variable.{rank_of};
 
-use crate::tracked::TRACKED;
-use crate::vector::Vector;
 use loop_bounds::Variable;
+use tracked_variables::{TRACKED, Vector};
 
 /// The directions that a space has at most.
 pub const DIRECTIONS: usize = 8;
@@ -31,7 +30,7 @@ pub struct Space {
 
 impl Space {
     ghost use Rattle.affine.specs.Space.{LiesOn, HasValue, HasTwoValues, KnowsAt, IsSameAt, coordinate_at, coefficient_at, knowledge_of};
-    ghost use Rattle.affine.specs.Vector.{entry_at};
+    ghost use Rattle.tracked_variables.specs.Vector.{entry_at};
 
     /// The space of all values.
     pub fn full() -> Space

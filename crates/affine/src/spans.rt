@@ -3,11 +3,10 @@ ghost use Rattle.std.specs.Prelude.{◌≡◌, ◌≢◌, ℕ, ◌<◌, ◌≤�
 ghost use Rattle.loop_bounds.specs.declared.variable.Variable.{Variable};
 ghost use Rattle.loop_bounds.specs.Variable.{rank_of};
 ghost use Rattle.affine.specs.Space.{combination, coefficient_at, IsSpanned, LiesOn};
-ghost use Rattle.affine.specs.Vector.{entry_at};
+ghost use Rattle.tracked_variables.specs.Vector.{entry_at};
 
 use crate::space::{DIRECTIONS, Space};
-use crate::tracked::TRACKED;
-use crate::vector::{Vector, common_divisor, multiple};
+use tracked_variables::{TRACKED, Vector, common_divisor, multiple};
 
 /// The greatest scale.
 const GREATEST_SCALE: u32 = 1_000_000;

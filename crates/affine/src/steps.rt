@@ -1,75 +1,16 @@
 // Steps: what an effect leaves of a space.
-ghost use Rattle.std.specs.Prelude.{◌≡◌, ◌≢◌, ℕ, ◌<◌, ◌≤◌, ℤ};
+ghost use Rattle.std.specs.Prelude.{◌≡◌, ◌≢◌, ℕ, ◌<◌, ℤ};
 ghost use Rattle.loop_bounds.specs.declared.variable.Variable.{Variable};
 ghost use Rattle.loop_bounds.specs.Variable.{rank_of};
 ghost use Rattle.loop_bounds.specs.Effect.{Valuation, whole, change_of};
 ghost use Rattle.affine.specs.Space.{LiesOn, KnowsAt, IsSameAt, IsEmptied, Forgets};
-ghost use Rattle.affine.specs.Step.{CanLeave, IsMoved, IsTakenAt, first_written};
+ghost use Rattle.affine.specs.Step.{CanLeave, IsMoved, IsTakenAt};
 
 use crate::space::{DIRECTIONS, GREATEST_COORDINATE, Space};
-use crate::tracked::{REGISTERS, TRACKED, TRACKED_SLOTS, variable};
 use loop_bounds::{Change, Effect, Variable};
-
-/// The variable from which a change takes its value.
-fn source(change: &Change) -> Option<Variable> {
-    match *change {
-        Change::Old(from) | Change::Raised(from) | Change::Lowered(from) => Some(from),
-        Change::Constant(_) | Change::Unknown => None,
-    }
-}
-
-/// Whether a change takes its value from the variable of a rank.
-fn takes(change: &Change, rank: usize) -> bool {
-    match source(change) {
-        Some(from) => usize::from(from.rank()) == rank,
-        None => false,
-    }
-}
-
-/// The lowest rank of the slot that an effect writes; the number of tracked variables if it writes no tracked one.
-fn first_written(effect: &Effect) -> usize
-    ensures value { result ≡ first_written effect.now.slot }
-    ensures low { 12 ≤ result }
-    ensures high { result ≤ 48 }
-{
-    match effect.slot {
-        Some(slot) => (REGISTERS + 3 * usize::from(slot.number.number())).min(TRACKED),
-        None => TRACKED,
-    }
-}
-
-/// What an effect leaves in the variable of a rank.
-fn change_at(effect: &Effect, rank: usize) -> Change
-    ensures { rank < 48 → (v : Variable) → rank_of v ≡ rank → result ≡ change_of effect.now v }
-{
-    match variable(rank) {
-        Some(variable) => effect.change(variable),
-        None => Change::Unknown,
-    }
-}
-
-/// The lowest rank of a slot from number `slots` on.
-fn end_of(slots: usize) -> usize
-    ensures { result ≤ 48 }
-{
-    REGISTERS + 3 * slots.min(TRACKED_SLOTS)
-}
-
-/// Whether a variable other than that of rank `but` takes its value from the variable of rank `from`.
-fn is_read(effect: &Effect, from: usize, but: usize) -> bool {
-    for rank in 0..REGISTERS {
-        if rank != but && takes(&change_at(effect, rank), from) {
-            return true;
-        }
-    }
-    let first = first_written(effect);
-    for rank in first..(first + 3).min(TRACKED) {
-        if rank != but && takes(&change_at(effect, rank), from) {
-            return true;
-        }
-    }
-    false
-}
+use tracked_variables::{
+    TRACKED, TRACKED_REGISTERS, change_at, end_of, first_written, is_read, source, takes,
+};
 
 impl Space {
     /// What a step with this effect leaves, where the stack shape has `slots` slots after the step. Nothing is known
@@ -106,7 +47,7 @@ impl Space {
     fn share(&mut self, effect: &Effect, slots: usize)
         ensures { (x : Variable → ℤ) → LiesOn self.old x → LiesOn self.new x }
     {
-        for rank in 0..REGISTERS {
+        for rank in 0..TRACKED_REGISTERS {
             self.share_source(effect, rank, slots);
         }
         let first = first_written(effect);
@@ -169,7 +110,7 @@ impl Space {
         ensures count { result.count ≡ self.now.count }
     {
         let mut next = *self;
-        for rank in 0..REGISTERS {
+        for rank in 0..TRACKED_REGISTERS {
             next.take(rank, change_at(effect, rank), self);
         }
         let first = first_written(effect);

@@ -2,7 +2,7 @@ use Rattle.std.proofs.Common.{◌≡◌, ◌<◌, ◌^◌, ◌-ℤ◌, bit_and, 
 use Rattle.std.specs.Int.{bit_not, w64}
 use Rattle.loop_bounds.specs.Variable.{rank_of}
 use Rattle.affine.specs.Space.{coordinate_at}
-use Rattle.affine.specs.Vector.{entry_at}
+use Rattle.tracked_variables.specs.Vector.{entry_at}
 use Rattle.affine.proofs.Masks.{bit_within}
 use Rattle.affine.proofs.SpanLemmas.{spanned_same, covering}
 use Rattle.affine.proofs.space.Space.covers.Goals as goal

@@ -2,7 +2,7 @@ use Rattle.std.proofs.Common.{◌≢◌, ◌*ℤ◌, FitsSigned, pos, slice_inde
 use Rattle.std.specs.Int.{w32}
 use Rattle.std.proofs.lemmas.Int.{to_z-of_z}
 use Rattle.loop_bounds.specs.Variable.{rank_of}
-use Rattle.affine.specs.Vector.{entry_at}
+use Rattle.tracked_variables.specs.Vector.{entry_at}
 use Rattle.affine.proofs.SpanLemmas.{spanned_by}
 use Rattle.affine.proofs.space.Space.spans.Goals as goal
 

@@ -1,6 +1,6 @@
 use Rattle.std.proofs.Common.{◌≡◌, ℕ, ◌<◌, pos, ◌*ℤ◌, slice_index_or}
 use Rattle.affine.specs.Space.{combination, coefficient_at, KnowsAt}
-use Rattle.affine.specs.Vector.{entry_at}
+use Rattle.tracked_variables.specs.Vector.{entry_at}
 use Rattle.affine.proofs.space.Space.spans.Given as goal
 
 abbrev pub invariant-loop-rank : goal.invariant-loop-rank

@@ -1,7 +1,7 @@
 use Rattle.std.proofs.Common.{ℕ, IsTrue, below_more, rules, arith}
 use Rattle.loop_bounds.specs.Variable.{rank_of}
 use Rattle.affine.specs.Space.{coefficient_at, IsSpanned}
-use Rattle.affine.specs.Vector.{entry_at}
+use Rattle.tracked_variables.specs.Vector.{entry_at}
 use Rattle.affine.proofs.SpanLemmas.{spanned_same}
 use Rattle.affine.proofs.space.Space.spans_directions.Goals as goal
 

@@ -1,6 +1,6 @@
 -- Vectors over the tracked variables.
 use Rattle.std.specs.Prelude.{ℕ, ℤ, pos, slice_index_or}
-use Rattle.affine.specs.declared.vector.Vector.{Vector}
+use Rattle.tracked_variables.specs.declared.vector.Vector.{Vector}
 
 -- the entry at a rank
 abbrev pub entry_at : Vector → ℕ → ℤ

@@ -1,7 +1,7 @@
 use Rattle.std.proofs.Common.{sym, ap, ◌∙◌, arith}
 use Rattle.loop_bounds.specs.Effect.{change_of}
 use Rattle.loop_bounds.proofs.VariableLemmas.{same_from_rank}
-use Rattle.affine.proofs.steps.change_at.Goals as goal
+use Rattle.tracked_variables.proofs.effects.change_at.Goals as goal
 
 pub returns-in-Some : goal.returns-in-Some
 returns-in-Some c = λ _ v same. c.change.ensures ∙ ap (change_of c.args.effect.now) (same_from_rank c.in-Some.variable v (c.in-Some.ensures ∙ sym same))

@@ -5,12 +5,12 @@ use crate::tracked::TRACKED;
 
 /// A number for each tracked variable, by rank.
 #[derive(Clone, Copy)]
-pub(crate) struct Vector {
-    pub(crate) entries: [i32; TRACKED],
+pub struct Vector {
+    pub entries: [i32; TRACKED],
 }
 
 /// The greatest common divisor; it is 0 only for two zeros.
-pub(crate) fn common_divisor(one: u32, other: u32) -> u32 {
+pub fn common_divisor(one: u32, other: u32) -> u32 {
     let (mut one, mut other) = (one, other);
     while other != 0 {
         (one, other) = (other, one % other);
@@ -19,7 +19,7 @@ pub(crate) fn common_divisor(one: u32, other: u32) -> u32 {
 }
 
 /// A factor of at most 1,000,000 in size times a value.
-pub(crate) fn multiple(factor: i32, value: i32) -> i64
+pub fn multiple(factor: i32, value: i32) -> i64
     requires { unsigned_abs factor ≤ 1000000 }
     ensures value { result ≡ factor *ℤ value }
     ensures size { unsigned_abs result ≤ 2 ^ 51 }
@@ -29,7 +29,7 @@ pub(crate) fn multiple(factor: i32, value: i32) -> i64
 
 impl Vector {
     /// The entries at the ranks of the mask, and 0 elsewhere.
-    pub(crate) fn restricted(&self, mask: u64) -> Vector {
+    pub fn restricted(&self, mask: u64) -> Vector {
         let mut entries = [0; TRACKED];
         for rank in 0..TRACKED {
             if (mask >> rank) & 1 == 1 {
@@ -40,12 +40,12 @@ impl Vector {
     }
 
     /// How many entries are not 0.
-    pub(crate) fn terms(&self) -> usize {
+    pub fn terms(&self) -> usize {
         self.entries.iter().filter(|entry| **entry != 0).count()
     }
 
     /// The rank of an entry that is least in size among those that are not 0. None if all are 0.
-    pub(crate) fn least(&self) -> Option<usize>
+    pub fn least(&self) -> Option<usize>
         ensures { IfSome result (λ rank. rank < 48) }
     {
         let mut least = None;
@@ -61,7 +61,7 @@ impl Vector {
     }
 
     /// The vector divided by the greatest common divisor of its entries.
-    pub(crate) fn reduced(&self) -> Vector {
+    pub fn reduced(&self) -> Vector {
         let divisor = i64::from(self.divisor());
         let mut entries = self.entries;
         if divisor > 1 {
@@ -86,7 +86,7 @@ impl Vector {
 
     /// A multiple of this vector less a multiple of `row`, so that the entry at `pivot` is 0. None if an entry does not
     /// fit.
-    pub(crate) fn without(&self, row: &Vector, pivot: usize) -> Option<Vector> {
+    pub fn without(&self, row: &Vector, pivot: usize) -> Option<Vector> {
         let (keep, take) = match (row.entries.get(pivot), self.entries.get(pivot)) {
             (Some(keep), Some(take)) => (*keep, *take),
             _ => return None,

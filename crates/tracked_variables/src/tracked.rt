@@ -12,10 +12,10 @@ pub const TRACKED_SLOTS: usize = 12;
 pub const TRACKED: usize = 48;
 
 /// How many variables are registers or pairs. Their ranks are the lowest.
-pub(crate) const REGISTERS: usize = 12;
+pub const TRACKED_REGISTERS: usize = 12;
 
 /// The variable of a rank, or None from 204 on.
-pub(crate) fn variable(rank: usize) -> Option<Variable>
+pub fn variable(rank: usize) -> Option<Variable>
     ensures { MatchOption result (204 ≤ rank) (λ v. rank_of v ≡ rank) }
 {
     let variable = match rank {
@@ -31,7 +31,7 @@ pub(crate) fn variable(rank: usize) -> Option<Variable>
         9 => Variable::Hl,
         10 => Variable::Ix,
         11 => Variable::Iy,
-        _ => return slot_variable(rank - REGISTERS),
+        _ => return slot_variable(rank - TRACKED_REGISTERS),
     };
     Some(variable)
 }
@@ -58,12 +58,12 @@ fn whole(rank: usize) -> Option<usize> {
         1 | 2 => Some(7),
         3 | 4 => Some(8),
         5 | 6 => Some(9),
-        _ if rank >= REGISTERS && rank % 3 != 0 => Some(rank - rank % 3),
+        _ if rank >= TRACKED_REGISTERS && rank % 3 != 0 => Some(rank - rank % 3),
         _ => None,
     }
 }
 
 /// Whether one of the two variables is a half of the other, as H of HL.
-pub(crate) fn is_half(one: usize, other: usize) -> bool {
+pub fn is_half(one: usize, other: usize) -> bool {
     whole(one) == Some(other) || whole(other) == Some(one)
 }

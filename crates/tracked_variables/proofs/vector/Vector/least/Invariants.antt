@@ -1,6 +1,6 @@
 use Rattle.std.proofs.Common.{◌<◌}
 use Rattle.std.specs.Prelude.{IfSome}
-use Rattle.affine.proofs.vector.Vector.least.Given as goal
+use Rattle.tracked_variables.proofs.vector.Vector.least.Given as goal
 
 abbrev pub invariant-loop-rank : goal.invariant-loop-rank
 invariant-loop-rank l = IfSome l.least (λ rank. rank < 48)
