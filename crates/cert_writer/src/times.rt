@@ -13,7 +13,8 @@ use certificate::{Certificate, RowId};
 use loop_bounds::Linear;
 use std::alloc::Global;
 use t_states::NMI_COST;
-use write_potentials::{Nesting, PotentialFault, greatest_value, potentials};
+use write_payments::greatest_value;
+use write_potentials::{Nesting, PotentialFault, potentials};
 
 /// The potentials of rows and the times of procedures, by their numbers, and what was in the way of some.
 #[derive(Drop)]

@@ -2,12 +2,12 @@
 
 use crate::fault::PotentialFault;
 use crate::solving::{Group, Head};
-use crate::sums::multiple_of;
 use annotations::LoopNote;
 use cert_contents::Certificate;
 use loop_bounds::{Linear, Variable};
 use std::alloc::Global;
 use std::ops::Range;
+use write_payments::{is_below, multiple_of};
 use write_requests::{Placed, Turns};
 
 /// The note of a loop at an address.
@@ -18,14 +18,6 @@ fn note_at(notes: &[LoopNote], address: u16) -> Option<LoopNote> {
         Some(*note)
     } else {
         None
-    }
-}
-
-/// Whether a variable is no slot, or one with a number below `slots`.
-pub(crate) fn is_below(variable: Variable, slots: usize) -> bool {
-    match variable {
-        Variable::Slot(number, _) => usize::from(number.number()) < slots,
-        _ => true,
     }
 }
 

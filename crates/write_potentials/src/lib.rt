@@ -4,12 +4,9 @@
 
 mod fault;
 mod heads;
-mod least;
 mod procedure;
 mod solving;
-mod sums;
 
 pub use fault::PotentialFault;
 pub use procedure::potentials;
 pub use solving::Nesting;
-pub use sums::greatest_value;

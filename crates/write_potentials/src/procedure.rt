@@ -4,7 +4,6 @@ ghost use Rattle.std.specs.Prelude.{◌≡◌, length};
 
 use crate::fault::PotentialFault;
 use crate::heads::{Counter, counters_of, group_of};
-use crate::least::Choice;
 use crate::solving::{Nesting, Solving};
 use address_map::Rom;
 use annotations::LoopNote;
@@ -12,6 +11,7 @@ use call_graph::ProcId;
 use cert_contents::Certificate;
 use loop_bounds::Linear;
 use std::alloc::Global;
+use write_payments::Choice;
 use write_requests::{Placed, Requests, Turns, placed_rows, requests_of, rows_on_cycles};
 
 /// A potential for each row of a procedure, in the order of the rows (docs/ANALYSIS.md, "Potentials"). `times` has the

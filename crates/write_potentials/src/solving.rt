@@ -1,11 +1,10 @@
 // The potentials of rows, by those of the rows that come next.
 
 use crate::fault::PotentialFault;
-use crate::least::{Choice, Payer, Unpaid, least_of_constants};
-use crate::sums::{multiple_of, with_constant};
 use cert_contents::Certificate;
 use loop_bounds::Linear;
 use std::alloc::Global;
+use write_payments::{Choice, Payer, Unpaid, least_of_constants, multiple_of, with_constant};
 use write_requests::Requests;
 
 /// The least constant of a potential.

@@ -1,16 +1,15 @@
 // The least potential of a row that pays for what comes next.
 
-use crate::heads::is_below;
 use crate::sums::{
     greatest_value, least_left, least_value, terms_before, with_constant, with_others,
 };
 use abs_state::AbsState;
 use cert_contents::Certificate;
-use loop_bounds::{Effect, GREATEST_CONSTANT, Linear, decreases};
+use loop_bounds::{Effect, GREATEST_CONSTANT, Linear, Variable, decreases};
 use write_requests::{Request, Requests};
 
 /// The potential of a row, by its number within the procedure, if it is known.
-pub(crate) fn known_at(known: &[Option<Linear>], row: u32) -> Option<Linear> {
+fn known_at(known: &[Option<Linear>], row: u32) -> Option<Linear> {
     *known.get(row as usize)?
 }
 
@@ -40,7 +39,7 @@ fn greater(one: Option<i32>, other: i32) -> Option<i32> {
 
 /// The least constant that pays for all requests of a row, 0 if there are none; None if a potential that it needs has
 /// terms. The row's state, which is large, is not looked at.
-pub(crate) fn least_of_constants(requests: &Requests, known: &[Option<Linear>]) -> Option<i64> {
+pub fn least_of_constants(requests: &Requests, known: &[Option<Linear>]) -> Option<i64> {
     let mut least = requests.leaving.map(|cost| i64::from(cost));
     for request in requests.of_rows.as_slice() {
         let constant = greatest_constant(request, known)?;
@@ -66,7 +65,7 @@ fn greatest_constant(request: &Request, known: &[Option<Linear>]) -> Option<Opti
 
 /// Which potentials a row may get.
 #[derive(Clone, Copy, PartialEq, Eq)]
-pub(crate) enum Choice {
+pub enum Choice {
     /// The best of all.
     Any,
     /// The best with terms, if there is one. It needs less than a constant while the constants of loops' rows are low.
@@ -76,11 +75,11 @@ pub(crate) enum Choice {
 /// The context of the search for a row's potential: the certificate, the number of the procedure's first row, the row's
 /// state, and what the row has to pay for.
 #[derive(Drop)]
-pub(crate) struct Payer<'a> {
-    pub(crate) certificate: &'a Certificate,
-    pub(crate) first: u32,
-    pub(crate) state: AbsState,
-    pub(crate) requests: &'a Requests,
+pub struct Payer<'a> {
+    pub certificate: &'a Certificate,
+    pub first: u32,
+    pub state: AbsState,
+    pub requests: &'a Requests,
 }
 
 impl<'a> Payer<'a> {
@@ -132,11 +131,7 @@ impl<'a> Payer<'a> {
     }
 
     /// These terms with the least constant that pays for all requests; 0 if there are none.
-    pub(crate) fn least_with(
-        &self,
-        terms: &Linear,
-        known: &[Option<Linear>],
-    ) -> Result<Linear, Unpaid> {
+    pub fn least_with(&self, terms: &Linear, known: &[Option<Linear>]) -> Result<Linear, Unpaid> {
         let mut least = self.constant_for_leaving(terms)?;
         for request in self.requests.of_rows.as_slice() {
             if let Some(constant) = self.constant_for(terms, request, known)? {
@@ -160,11 +155,7 @@ impl<'a> Payer<'a> {
     }
 
     /// The best potential of a loop's row: the multiple of its counter, alone or with the terms of one request.
-    pub(crate) fn best_carrying(
-        &self,
-        turn: &Linear,
-        known: &[Option<Linear>],
-    ) -> Result<Linear, Unpaid> {
+    pub fn best_carrying(&self, turn: &Linear, known: &[Option<Linear>]) -> Result<Linear, Unpaid> {
         let mut best = self.least_with(turn, known);
         for request in self.requests.of_rows.as_slice() {
             for row in request.start..request.end {
@@ -203,7 +194,7 @@ impl<'a> Payer<'a> {
     }
 
     /// The best potential that the row may have: a constant, or a constant with the terms of one request.
-    pub(crate) fn best(&self, known: &[Option<Linear>], choice: Choice) -> Result<Linear, Unpaid> {
+    pub fn best(&self, known: &[Option<Linear>], choice: Choice) -> Result<Linear, Unpaid> {
         let plain = self.least_with(&Linear::zero(), known);
         let mut best = match choice {
             Choice::Any => plain,
@@ -243,7 +234,15 @@ impl<'a> Payer<'a> {
 
 /// No constant pays.
 #[derive(Clone, Copy)]
-pub(crate) struct Unpaid;
+pub struct Unpaid;
+
+/// Whether a variable is no slot, or one with a number below `slots`.
+pub fn is_below(variable: Variable, slots: usize) -> bool {
+    match variable {
+        Variable::Slot(number, _) => usize::from(number.number()) < slots,
+        _ => true,
+    }
+}
 
 /// Whether each slot that a linear names has a number below `slots`.
 fn names_slots_below(linear: &Linear, slots: usize) -> bool {

@@ -37,7 +37,7 @@ pub fn greatest_value(linear: &Linear, state: &AbsState) -> i128 {
 }
 
 /// The same terms with another constant; None if that is above 1,000,000,000 in size.
-pub(crate) fn with_constant(terms: &Linear, constant: i32) -> Option<Linear> {
+pub fn with_constant(terms: &Linear, constant: i32) -> Option<Linear> {
     let mut linear = Linear::of_constant(constant)?;
     for term in terms.terms() {
         linear = linear.with_term(*term)?;
@@ -46,7 +46,7 @@ pub(crate) fn with_constant(terms: &Linear, constant: i32) -> Option<Linear> {
 }
 
 /// The constant 0 and one term; None if the coefficient is 0 or above 1,000,000 in size.
-pub(crate) fn multiple_of(variable: Variable, coefficient: i32) -> Option<Linear> {
+pub fn multiple_of(variable: Variable, coefficient: i32) -> Option<Linear> {
     Linear::zero().with_term(Term {
         coefficient,
         variable,
