@@ -8,13 +8,11 @@ mod growing;
 mod guide;
 mod held;
 mod inferred;
-mod judged_rows;
 mod operands;
 mod thresholds;
 
 pub use context_point::{CLASSES, CONTEXT_LIMIT, ContextPoint};
 pub use guide::{Guide, Manner};
 pub use inferred::{InferredRow, JoinOutcome, Tightening, are_joined, speaks_of};
-pub use judged_rows::JudgedRows;
 pub use operands::pointer_of;
 pub use thresholds::Thresholds;

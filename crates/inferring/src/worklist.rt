@@ -15,10 +15,11 @@ use board_fetch::fetch;
 use cert_fields::Facts;
 use cert_form::{PROC_LIMIT, ROW_LIMIT};
 use inferred_rows::{
-    CLASSES, ContextPoint, Guide, InferredRow, JoinOutcome, JudgedRows, Manner, Thresholds,
-    Tightening, are_joined, pointer_of,
+    CLASSES, ContextPoint, Guide, InferredRow, JoinOutcome, Manner, Thresholds, Tightening,
+    are_joined, pointer_of,
 };
 use intervals::ByteRange;
+use judged_rows::JudgedRows;
 use loop_bounds::{Effect, Variable};
 use std::alloc::Global;
 use std::collections::{BTreeMap, BTreeSet};
