@@ -14,7 +14,7 @@ use explanation_texts::{add_block, add_head, add_recursion, add_remedy, add_unbo
 use explanations::{Explored, Refusal, refusals_of, unshown_rows};
 use explored_plans::{Base, ExploredPlan, Plan, Progress, Search, SearchContext};
 use inferred_rows::Guide;
-use inferring::Worklist;
+use inferring::found_rows;
 use refusal_texts::{Wording, add_entry, add_region, add_rom_lengths, add_whole};
 use remedies::{Case, Remedies, Remedy, for_loop};
 use runner::cert_checker::Accepted;
@@ -170,7 +170,7 @@ fn refused_rom<P: Progress>(
     };
     let guide = Guide::none(alloc);
     let setting = plain_setting(&task, &guide);
-    let list = match Worklist::run(alloc, setting, VISITS) {
+    let list = match found_rows(alloc, setting, VISITS) {
         Ok(list) => list,
         Err(FlowFault::Limit) => return too_large(alloc, said, None),
         Err(FlowFault::NoMemory) => return Err(FlowFault::NoMemory),

@@ -10,7 +10,7 @@ use explanation_texts::add_head;
 use explanations::{Explored, Refusal};
 use explored_plans::copy_of_split;
 use inferred_rows::{ContextPoint, Guide};
-use inferring::Worklist;
+use inferring::found_rows;
 use intervals::ByteRange;
 use refusal_texts::{Wording, add_lacking, add_line};
 use std::alloc::Global;
@@ -43,7 +43,7 @@ pub fn outdated_in(
     };
     let guide = Guide::none(alloc);
     let setting = plain_setting(&task, &guide);
-    let list = match Worklist::run(alloc, setting, visits) {
+    let list = match found_rows(alloc, setting, visits) {
         Ok(list) => list,
         Err(FlowFault::Limit) => return Ok(None),
         Err(FlowFault::NoMemory) => return Err(FlowFault::NoMemory),

@@ -6,8 +6,8 @@ use analysis::{FlowFault, Task};
 use board_fetch::fetch;
 use explored_plans::entry_of;
 use inferred_rows::{ContextPoint, InferredRow};
-use inferring::{RowEdge, Setting, Worklist};
 use row_graph::{FlowGraph, NaturalLoop, loops_of};
+use row_worklist::{RowEdge, Setting, Worklist};
 use std::alloc::Global;
 use z80_decode::Instr;
 

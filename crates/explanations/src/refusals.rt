@@ -4,7 +4,7 @@ use crate::explored::Explored;
 use abs_step::Reason;
 use analysis::FlowFault;
 use inferred_rows::ContextPoint;
-use inferring::Worklist;
+use row_worklist::Worklist;
 use std::alloc::Global;
 use z80_decode::Instr;
 

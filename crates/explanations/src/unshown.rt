@@ -4,8 +4,8 @@ use crate::situation::all_follow;
 use analysis::{FlowFault, facts_at, names_slots_below};
 use annotations::FactNote;
 use inferred_rows::ContextPoint;
-use inferring::{RowEdge, Worklist};
 use loop_bounds::Linear;
+use row_worklist::{RowEdge, Worklist};
 use std::alloc::Global;
 
 /// The rows of an analysis, and the steps between them.

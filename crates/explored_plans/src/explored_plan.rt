@@ -5,9 +5,10 @@ use abs_state::AbsState;
 use analysis::{FlowFault, Task};
 use annotations::Annotations;
 use inferred_rows::{ContextPoint, Guide, InferredRow, Manner};
-use inferring::{RowEdge, Setting, SplitReach, Watch, Worklist};
+use inferring::{SplitReach, found_rows_with, resumed};
 use judged_rows::JudgedRows;
 use plans::Plan;
+use row_worklist::{RowEdge, Setting, Watch, Worklist};
 use std::alloc::Global;
 use std::collections::BTreeMap;
 use std::mem::replace;
@@ -164,7 +165,7 @@ impl ExploredPlan {
             return Ok(None);
         };
         let setting = exploring(&task, &guide);
-        let found = Worklist::resumed(
+        let found = resumed(
             alloc,
             setting,
             context.visits(),
@@ -197,7 +198,7 @@ impl ExploredPlan {
             return Ok(None);
         };
         let setting = exploring(&task, &guide);
-        let found = Worklist::run_with(alloc, setting, context.visits(), judged, watched);
+        let found = found_rows_with(alloc, setting, context.visits(), judged, watched);
         let list = match found {
             Ok(list) => list,
             Err(FlowFault::Limit) => return Ok(None),

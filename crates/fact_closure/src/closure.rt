@@ -5,8 +5,8 @@ use analysis::{FlowFault, MAIN, NMI, facts_at};
 use annotations::FactNote;
 use cert_fields::Facts;
 use inferred_rows::ContextPoint;
-use inferring::{RowEdge, Worklist};
 use loop_bounds::Linear;
+use row_worklist::{RowEdge, Worklist};
 use std::alloc::Global;
 use std::collections::BTreeMap;
 

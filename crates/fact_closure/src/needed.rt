@@ -7,8 +7,9 @@ use analysis::FlowFault;
 use board_fetch::fetch;
 use cert_fields::Facts;
 use inferred_rows::{ContextPoint, Guide, InferredRow, Manner, pointer_of};
-use inferring::{Setting, Watch, Worklist};
+use inferring::found_rows_with;
 use loop_bounds::{Linear, Ranges, Variable};
+use row_worklist::{Setting, Watch, Worklist};
 use std::alloc::Global;
 use std::collections::BTreeMap;
 
@@ -67,7 +68,7 @@ pub fn facts_and_rows(alloc: Global, search: &FactSearch) -> Result<NeededFacts,
             },
             ..search.setting
         };
-        let plain = Worklist::run_with(
+        let plain = found_rows_with(
             alloc,
             setting,
             search.visits,

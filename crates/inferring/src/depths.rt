@@ -1,8 +1,8 @@
 // The bytes of stack that an explored ROM needs.
 
-use crate::worklist::Worklist;
 use analysis::{FlowFault, MAIN, NMI};
 use inferred_rows::ContextPoint;
+use row_worklist::Worklist;
 use std::alloc::Global;
 use std::collections::BTreeMap;
 
@@ -22,43 +22,41 @@ fn bytes_of(proc: u32, slots: u16) -> u32 {
     }
 }
 
-impl Worklist {
-    /// The most bytes of stack that main code and the NMI routine need together, at most 65,535.
-    ///
-    /// # Errors
-    ///
-    /// `NoMemory` where memory was refused.
-    pub fn depth(&self, alloc: Global) -> Result<u32, FlowFault> {
-        let mut depths: BTreeMap<u32, u32> = BTreeMap::new(alloc);
-        for (number, row) in self.rows().iter() {
-            let proc = ContextPoint::of(*number).proc;
-            let bytes = bytes_of(proc, row.bytes);
-            let before = depths.get(&proc).copied().unwrap_or(0);
-            depths.insert(proc, before.max(bytes))?;
-        }
-        let calls = self.calls(alloc)?;
-        for _ in 0..LONGEST {
-            let mut changed = false;
-            for (callee, number) in calls.as_slice() {
-                let caller = ContextPoint::of(*number).proc;
-                let slots = match self.row(*number) {
-                    Some(row) => row.state.shape.bytes(),
-                    None => 0,
-                };
-                let below = depths.get(callee).copied().unwrap_or(0);
-                let deep = bytes_of(caller, slots).saturating_add(below).min(DEEPEST);
-                let before = depths.get(&caller).copied().unwrap_or(0);
-                if deep > before {
-                    depths.insert(caller, deep)?;
-                    changed = true;
-                }
-            }
-            if !changed {
-                break;
-            }
-        }
-        let main = depths.get(&MAIN).copied().unwrap_or(0);
-        let routine = depths.get(&NMI).copied().unwrap_or(0);
-        Ok(main.saturating_add(routine).min(DEEPEST))
+/// The most bytes of stack that main code and the NMI routine need together by the rows found, at most 65,535.
+///
+/// # Errors
+///
+/// `NoMemory` where memory was refused.
+pub fn stack_depth(alloc: Global, list: &Worklist) -> Result<u32, FlowFault> {
+    let mut depths: BTreeMap<u32, u32> = BTreeMap::new(alloc);
+    for (number, row) in list.rows().iter() {
+        let proc = ContextPoint::of(*number).proc;
+        let bytes = bytes_of(proc, row.bytes);
+        let before = depths.get(&proc).copied().unwrap_or(0);
+        depths.insert(proc, before.max(bytes))?;
     }
+    let calls = list.calls(alloc)?;
+    for _ in 0..LONGEST {
+        let mut changed = false;
+        for (callee, number) in calls.as_slice() {
+            let caller = ContextPoint::of(*number).proc;
+            let slots = match list.row(*number) {
+                Some(row) => row.state.shape.bytes(),
+                None => 0,
+            };
+            let below = depths.get(callee).copied().unwrap_or(0);
+            let deep = bytes_of(caller, slots).saturating_add(below).min(DEEPEST);
+            let before = depths.get(&caller).copied().unwrap_or(0);
+            if deep > before {
+                depths.insert(caller, deep)?;
+                changed = true;
+            }
+        }
+        if !changed {
+            break;
+        }
+    }
+    let main = depths.get(&MAIN).copied().unwrap_or(0);
+    let routine = depths.get(&NMI).copied().unwrap_or(0);
+    Ok(main.saturating_add(routine).min(DEEPEST))
 }

@@ -1,58 +1,57 @@
 // What an inferring analysis found, for the writer of certificates.
 
-use crate::worklist::{Setting, Worklist};
 use abs_state::AbsState;
 use analysis::{Flow, FlowFault, Noted, ProgramPoint, facts_at, names_slots_below};
 use annotations::FactNote;
 use cert_fields::Facts;
 use inferred_rows::{ContextPoint, InferredRow, speaks_of};
 use loop_bounds::Linear;
+use row_worklist::{Setting, Worklist};
 use std::alloc::Global;
 use std::collections::BTreeMap;
 
-impl Worklist {
-    /// What was found, for the writer of certificates. Rows at one address of a procedure count as its parts.
-    ///
-    /// # Errors
-    ///
-    /// `Limit` if there are more than 65,535 rows at an address; `NoMemory` where memory was refused.
-    pub fn into_flow(self, alloc: Global, setting: Setting) -> Result<Flow, FlowFault> {
-        let mut numbers = BTreeMap::new(alloc);
-        let mut rows = BTreeMap::new(alloc);
-        let mut facts = BTreeMap::new(alloc);
-        let mut last = None;
-        let mut part = 0u16;
-        for (number, row) in self.rows.iter() {
-            let point = ContextPoint::of(*number);
-            let here = Some((point.proc, point.address));
-            part = if here == last {
-                part.checked_add(1).ok_or(FlowFault::Limit)?
-            } else {
-                0
-            };
-            last = here;
-            let place = ProgramPoint {
-                part,
-                ..point.plain()
-            }
-            .number();
-            numbers.insert(*number, place)?;
-            rows.insert(place, noted_of(row, self.exits.get(number)))?;
-            let said = facts_at(setting.task.said().facts(), point.address);
-            let own = setting.guide.facts_of(*number);
-            if !(said.is_empty() && own.is_empty()) {
-                let all = all_facts(said, point.part, own, row.state.shape.len());
-                facts.insert(place, all)?;
-            }
+/// What an analysis found, for the writer of certificates. Rows at one address of a procedure count as its parts.
+///
+/// # Errors
+///
+/// `Limit` if there are more than 65,535 rows at an address; `NoMemory` where memory was refused.
+pub fn flow_of(alloc: Global, setting: Setting, list: Worklist) -> Result<Flow, FlowFault> {
+    let mut numbers = BTreeMap::new(alloc);
+    let mut rows = BTreeMap::new(alloc);
+    let mut facts = BTreeMap::new(alloc);
+    let mut last = None;
+    let mut part = 0u16;
+    for (number, row) in list.rows().iter() {
+        let point = ContextPoint::of(*number);
+        let here = Some((point.proc, point.address));
+        part = if here == last {
+            part.checked_add(1).ok_or(FlowFault::Limit)?
+        } else {
+            0
+        };
+        last = here;
+        let place = ProgramPoint {
+            part,
+            ..point.plain()
         }
-        let mut calls = Vec::new(alloc);
-        for (callee, number) in self.calls(alloc)? {
-            if let Some(place) = numbers.get(&number) {
-                calls.push((callee, *place))?;
-            }
+        .number();
+        numbers.insert(*number, place)?;
+        rows.insert(place, noted_of(row, list.exit_at(*number)))?;
+        let said = facts_at(setting.task.said().facts(), point.address);
+        let own = setting.guide.facts_of(*number);
+        if !(said.is_empty() && own.is_empty()) {
+            let all = all_facts(said, point.part, own, row.state.shape.len());
+            facts.insert(place, all)?;
         }
-        Flow::of(alloc, rows, facts, self.entries, &calls, self.timed)
     }
+    let mut calls = Vec::new(alloc);
+    for (callee, number) in list.calls(alloc)? {
+        if let Some(place) = numbers.get(&number) {
+            calls.push((callee, *place))?;
+        }
+    }
+    let (entries, timed) = list.into_procedures();
+    Flow::of(alloc, rows, facts, entries, &calls, timed)
 }
 
 /// The annotated facts of a row of a part, with this many slots, and those found for it, four at most.

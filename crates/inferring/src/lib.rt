@@ -1,14 +1,14 @@
-// An analysis that infers (docs/INFERENCE.md): it keeps linear relations beside the ranges of rows, distinguishes
-// contexts, and goes on after refusals. What it finds is judged by the checker.
+// Analyses that infer (docs/INFERENCE.md), from the entries or from the rows of another one, and what comes of them. They
+// go on after refusals; what they find is judged by the checker.
 #![tactic(auto)]
 
-mod arriving;
 mod depths;
+mod fixpoint;
 mod found_flow;
 mod lowering;
 mod resuming;
-mod worklist;
 
-pub use arriving::ArrivingKind;
-pub use resuming::SplitReach;
-pub use worklist::{RowEdge, Setting, Watch, Worklist};
+pub use depths::stack_depth;
+pub use fixpoint::{found_rows, found_rows_with};
+pub use found_flow::flow_of;
+pub use resuming::{SplitReach, loosened, resumed};

@@ -1,12 +1,11 @@
 // An analysis that goes on from the rows of another one: something that a plan distinguishes is added or dropped, and only
 // what it distinguishes is computed again.
 
-use crate::arriving::ArrivingKind;
-use crate::lowering::first_class;
-use crate::worklist::{RowEdge, Setting, Watch, Worklist};
+use crate::lowering::{first_class, lowered_at};
 use analysis::{FlowFault, MAIN, NMI};
-use board_fetch::fetch;
 use inferred_rows::ContextPoint;
+use row_worklist::{RowEdge, Setting, Watch, Worklist};
+use sent_states::ArrivingKind;
 use std::alloc::Global;
 use std::collections::BTreeSet;
 
@@ -20,160 +19,122 @@ pub struct SplitReach {
     pub is_longer: bool,
 }
 
-impl Worklist {
-    /// What comes of the rows of another analysis, with these steps between them, if what a plan says of these reaches
-    /// changes. The rows at the address of a reach, and those to which they lead within their procedures up to its end,
-    /// are computed again, and so are the procedures that only they call. The others stay, though less might come to
-    /// them now. In at most `visits` visits of rows. A watched row that is refused ends the analysis.
-    ///
-    /// # Errors
-    ///
-    /// `Limit` if there are more than 65,535 rows or 1,024 procedures, the visits do not suffice, or a watched row is
-    /// refused; `NoMemory` where memory was refused.
-    pub fn resumed(
-        alloc: Global,
-        setting: Setting,
-        visits: u32,
-        before: &Worklist,
-        edges: &[RowEdge],
-        reaches: &[SplitReach],
-        watched: Watch,
-    ) -> Result<Worklist, FlowFault> {
-        let lost = lost_rows(alloc, before, edges, reaches)?;
-        let mut list = Worklist::without_rows(alloc, setting, before, edges, &lost)?;
-        list.watched = watched;
-        if reaches.iter().any(|reach| reach.is_longer) {
-            list.wake_dropping(before)?;
-        }
-        for _ in 0..visits {
-            match list.take_waiting() {
-                Some(number) => list.visit(alloc, setting, number)?,
-                None => return list.lowered_anew(alloc, setting, before, &lost),
-            }
-        }
-        Err(FlowFault::Limit)
+/// What comes of the rows of another analysis, with these steps between them, if what a plan says of these reaches
+/// changes. The rows at the address of a reach, and those to which they lead within their procedures up to its end,
+/// are computed again, and so are the procedures that only they call. The others stay, though less might come to
+/// them now. In at most `visits` visits of rows. A watched row that is refused ends the analysis.
+///
+/// # Errors
+///
+/// `Limit` if there are more than 65,535 rows or 1,024 procedures, the visits do not suffice, or a watched row is
+/// refused; `NoMemory` where memory was refused.
+pub fn resumed(
+    alloc: Global,
+    setting: Setting,
+    visits: u32,
+    before: &Worklist,
+    edges: &[RowEdge],
+    reaches: &[SplitReach],
+    watched: Watch,
+) -> Result<Worklist, FlowFault> {
+    let lost = lost_rows(alloc, before, edges, reaches)?;
+    let mut list = without_rows(alloc, setting, before, edges, &lost)?;
+    list.watch(watched);
+    if reaches.iter().any(|reach| reach.is_longer) {
+        wake_dropping(&mut list, before)?;
     }
-
-    /// What comes of the rows of another analysis, with these steps between them, where a fact of the rows at an address
-    /// is missing. These rows are computed again, and all that change with them: without the fact no row has less. In at
-    /// most `visits` visits of rows. A row that is refused ends the analysis. What was widened is not lowered.
-    ///
-    /// # Errors
-    ///
-    /// As for `resumed`.
-    pub fn loosened(
-        alloc: Global,
-        setting: Setting,
-        visits: u32,
-        before: &Worklist,
-        edges: &[RowEdge],
-        at: u16,
-    ) -> Result<Worklist, FlowFault> {
-        let mut lost = BTreeSet::new(alloc);
-        for (number, _) in before.rows.iter() {
-            if ContextPoint::of(*number).address == at {
-                lost.insert(*number)?;
-            }
+    for _ in 0..visits {
+        match list.take_waiting() {
+            Some(number) => list.visit(alloc, setting, number)?,
+            None => return lowered_anew(alloc, setting, list, before, &lost),
         }
-        let mut list = Worklist::without_rows(alloc, setting, before, edges, &lost)?;
-        list.watched = Watch::Everything;
-        for _ in 0..visits {
-            match list.waiting.pop_first() {
-                Some(number) => list.visit(alloc, setting, number)?,
-                None => return Ok(list),
-            }
-        }
-        Err(FlowFault::Limit)
     }
+    Err(FlowFault::Limit)
+}
 
-    /// The rows of another analysis without those that are lost. The rows that lead to lost ones wait.
-    fn without_rows(
-        alloc: Global,
-        setting: Setting,
-        before: &Worklist,
-        edges: &[RowEdge],
-        lost: &BTreeSet<u64>,
-    ) -> Result<Worklist, FlowFault> {
-        let judged = before.judged_rows().shared(setting.task)?;
-        let mut list = Worklist::empty(alloc, setting, judged)?;
-        list.keep_rows(setting, before, lost)?;
-        list.begin_entries(alloc, setting)?;
-        for edge in edges {
-            if lost.contains(&edge.to) && !lost.contains(&edge.from) {
-                list.waiting.insert(edge.from)?;
-            }
+/// What comes of the rows of another analysis, with these steps between them, where a fact of the rows at an address
+/// is missing. These rows are computed again, and all that change with them: without the fact no row has less. In at
+/// most `visits` visits of rows. A row that is refused ends the analysis. What was widened is not lowered.
+///
+/// # Errors
+///
+/// As for `resumed`.
+pub fn loosened(
+    alloc: Global,
+    setting: Setting,
+    visits: u32,
+    before: &Worklist,
+    edges: &[RowEdge],
+    at: u16,
+) -> Result<Worklist, FlowFault> {
+    let mut lost = BTreeSet::new(alloc);
+    for (number, _) in before.rows().iter() {
+        if ContextPoint::of(*number).address == at {
+            lost.insert(*number)?;
         }
+    }
+    let mut list = without_rows(alloc, setting, before, edges, &lost)?;
+    list.watch(Watch::Everything);
+    for _ in 0..visits {
+        match list.take_first() {
+            Some(number) => list.visit(alloc, setting, number)?,
+            None => return Ok(list),
+        }
+    }
+    Err(FlowFault::Limit)
+}
+
+/// The rows of another analysis without those that are lost. The rows that lead to lost ones wait.
+fn without_rows(
+    alloc: Global,
+    setting: Setting,
+    before: &Worklist,
+    edges: &[RowEdge],
+    lost: &BTreeSet<u64>,
+) -> Result<Worklist, FlowFault> {
+    let judged = before.judged_rows().shared(setting.task)?;
+    let mut list = Worklist::empty(alloc, setting, judged)?;
+    list.keep_rows(setting, before, lost)?;
+    list.begin_entries(alloc, setting)?;
+    for edge in edges {
+        if lost.contains(&edge.to) && !lost.contains(&edge.from) {
+            list.wake(edge.from)?;
+        }
+    }
+    Ok(list)
+}
+
+/// Lets the rows wait that dropped a state in another analysis.
+fn wake_dropping(list: &mut Worklist, before: &Worklist) -> Result<(), FlowFault> {
+    for (number, row) in before.rows().iter() {
+        if row.drops && list.rows().contains_key(number) {
+            list.wake(*number)?;
+        }
+    }
+    Ok(())
+}
+
+/// What two rounds without widening leave of the rows that were computed again, if a bound of one of them was
+/// widened.
+fn lowered_anew(
+    alloc: Global,
+    setting: Setting,
+    list: Worklist,
+    before: &Worklist,
+    lost: &BTreeSet<u64>,
+) -> Result<Worklist, FlowFault> {
+    let mut places = BTreeSet::new(alloc);
+    let mut is_widened = false;
+    for (number, row) in list.rows().iter() {
+        if lost.contains(number) || !before.rows().contains_key(number) {
+            places.insert(first_class(*number))?;
+            is_widened = is_widened || row.is_widened();
+        }
+    }
+    if is_widened {
+        lowered_at(alloc, setting, list, Some(&places))
+    } else {
         Ok(list)
-    }
-
-    /// The next waiting place, which waits no more.
-    fn take_waiting(&mut self) -> Option<u64> {
-        match self.watched {
-            Watch::Callees(_) => self.waiting.pop_last(),
-            _ => self.waiting.pop_first(),
-        }
-    }
-
-    /// Lets the rows wait that dropped a state in another analysis.
-    fn wake_dropping(&mut self, before: &Worklist) -> Result<(), FlowFault> {
-        for (number, row) in before.rows.iter() {
-            if row.drops && self.rows.contains_key(number) {
-                self.waiting.insert(*number)?;
-            }
-        }
-        Ok(())
-    }
-
-    /// Takes over the rows of another analysis that are not lost, with what was found beside them.
-    fn keep_rows(
-        &mut self,
-        setting: Setting,
-        before: &Worklist,
-        lost: &BTreeSet<u64>,
-    ) -> Result<(), FlowFault> {
-        for (number, row) in before.rows.iter() {
-            if lost.contains(number) {
-                continue;
-            }
-            let address = ContextPoint::of(*number).address;
-            if let Ok((instr, _)) = fetch(setting.task.rom(), address) {
-                self.thresholds.add(&instr)?;
-            }
-            self.rows.insert(*number, row.clone()?)?;
-        }
-        for (number, exit) in before.exits.iter() {
-            if !lost.contains(number) {
-                self.exits.insert(*number, exit.copied())?;
-            }
-        }
-        for timed in before.timed.iter() {
-            self.timed.insert(*timed)?;
-        }
-        self.keep_calls(before, lost)
-    }
-
-    /// What two rounds without widening leave of the rows that were computed again, if a bound of one of them was
-    /// widened.
-    fn lowered_anew(
-        self,
-        alloc: Global,
-        setting: Setting,
-        before: &Worklist,
-        lost: &BTreeSet<u64>,
-    ) -> Result<Worklist, FlowFault> {
-        let mut places = BTreeSet::new(alloc);
-        let mut is_widened = false;
-        for (number, row) in self.rows.iter() {
-            if lost.contains(number) || !before.rows.contains_key(number) {
-                places.insert(first_class(*number))?;
-                is_widened = is_widened || row.is_widened();
-            }
-        }
-        if is_widened {
-            self.lowered_at(alloc, setting, Some(&places))
-        } else {
-            Ok(self)
-        }
     }
 }
 
@@ -192,7 +153,7 @@ fn lost_rows(
         }
     }
     let procs = called_elsewhere(alloc, before, reaches)?;
-    for (number, _) in before.rows.iter() {
+    for (number, _) in before.rows().iter() {
         if !procs.contains(&ContextPoint::of(*number).proc) {
             lost.insert(*number)?;
         }
@@ -209,12 +170,12 @@ fn lose_reach(
     lost: &mut BTreeSet<u64>,
 ) -> Result<(), FlowFault> {
     let mut todo = Vec::new(alloc);
-    for (number, _) in before.rows.iter() {
+    for (number, _) in before.rows().iter() {
         if ContextPoint::of(*number).address == reach.at && lost.insert(*number)? {
             todo.push(*number)?;
         }
     }
-    for _ in 0..before.rows.len() {
+    for _ in 0..before.rows().len() {
         let Some(number) = todo.pop() else {
             break;
         };

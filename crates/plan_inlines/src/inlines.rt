@@ -4,10 +4,10 @@ use analysis::{FlowFault, MAIN, NMI, sub_of};
 use board_fetch::fetch;
 use explored_plans::{ExploredPlan, Family, OF_CONTEXTS, Progress, REGISTERS, Search};
 use inferred_rows::ContextPoint;
-use inferring::Watch;
 use intervals::ByteRange;
 use plan_loops::try_unroll;
 use plan_splits::{Splitting, try_lookup, with_split};
+use row_worklist::Watch;
 use z80_decode::{Instr, Register8, RestartAddress, StackPair};
 
 /// The address that an instruction calls, if it is a call.

@@ -9,6 +9,7 @@ use analysis::{FlowFault, judged_row};
 use annotations::Given;
 use explored_plans::{Base, ExploredPlan, Plan, Progress, Search, SearchContext};
 use inferred_rows::ContextPoint;
+use inferring::stack_depth;
 use std::alloc::Global;
 use t_states::MAX_BUDGET;
 
@@ -147,7 +148,7 @@ fn answered<'r, P: Progress>(
     ensures { IfOk result (λ answered. IfSome answered.judged (λ judged. judged ≡ bytes.now)) }
 {
     clear(search)?;
-    let low = low_of(base, search.explored.list.depth(search.alloc)?);
+    let low = low_of(base, stack_depth(search.alloc, &search.explored.list)?);
     let judged = if is_last || low == base.region.low {
         Some(bound_and_lessen(search, bytes)?)
     } else {

@@ -9,7 +9,8 @@ use cert_writer::{WriterFault, certify_flow};
 use explored_plans::{ExploredPlan, SearchContext, exploring};
 use fact_closure::{FactSearch, NeededFacts, facts_and_rows};
 use inferred_rows::{Guide, Manner};
-use inferring::{Setting, Watch, Worklist};
+use inferring::{flow_of, found_rows_with};
+use row_worklist::{Setting, Watch};
 use std::alloc::Global;
 use std::marker::Model;
 
@@ -131,7 +132,7 @@ pub(crate) fn judge_with<'r>(
     };
     let list = match rows {
         Some(list) => list,
-        None => Worklist::run_with(
+        None => found_rows_with(
             alloc,
             setting,
             context.visits(),
@@ -139,7 +140,7 @@ pub(crate) fn judge_with<'r>(
             Watch::Nothing,
         )?,
     };
-    let flow = list.into_flow(alloc, setting)?;
+    let flow = flow_of(alloc, setting, list)?;
     match certify_flow(alloc, bytes, &explored.said, &flow) {
         Err(WriterFault::NoMemory) => Err(FlowFault::NoMemory),
         answer => Ok(Judged {

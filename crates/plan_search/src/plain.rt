@@ -7,7 +7,8 @@ use annotations::{Annotations, FactNote, Notes};
 use cert_fields::Facts;
 use explored_plans::{Family, copy_of_split};
 use inferred_rows::{ContextPoint, Guide, Manner};
-use inferring::{RowEdge, Setting, Watch, Worklist};
+use inferring::{found_rows_with, loosened};
+use row_worklist::{RowEdge, Setting, Watch, Worklist};
 use std::alloc::Global;
 
 /// The most facts of an address.
@@ -109,7 +110,7 @@ impl PlainRows {
         let guide = Guide::none(alloc);
         let setting = plain_setting(&task, &guide);
         let rows = found.explored.list.judged_rows();
-        let list = Worklist::run_with(alloc, setting, VISITS, rows, Watch::Nothing);
+        let list = found_rows_with(alloc, setting, VISITS, rows, Watch::Nothing);
         rows_and_edges(alloc, setting, list)
     }
 
@@ -133,7 +134,7 @@ impl PlainRows {
         };
         let guide = Guide::none(alloc);
         let setting = plain_setting(&task, &guide);
-        let list = Worklist::loosened(alloc, setting, VISITS, &self.list, &self.edges, at);
+        let list = loosened(alloc, setting, VISITS, &self.list, &self.edges, at);
         rows_and_edges(alloc, setting, list)
     }
 }

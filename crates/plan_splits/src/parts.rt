@@ -6,9 +6,10 @@ use explored_plans::{
     ByteSet, ExploredPlan, Family, PARTS, Plan, Progress, Search, copy_of_split, exploring,
 };
 use inferred_rows::ContextPoint;
-use inferring::{SplitReach, Watch};
+use inferring::SplitReach;
 use intervals::ByteRange;
 use row_graph::{NaturalLoop, turns_of};
+use row_worklist::Watch;
 
 /// A plan in which a split has the parts that states of a refused row lack, after those that it has. The rows of the other
 /// parts stay.

@@ -8,9 +8,9 @@ use explored_plans::{
     split_of, values_in,
 };
 use inferred_rows::ContextPoint;
-use inferring::Watch;
 use intervals::ByteRange;
 use row_graph::{FlowGraph, LocalRun};
+use row_worklist::Watch;
 use std::collections::BTreeMap;
 use z80_decode::Register8;
 

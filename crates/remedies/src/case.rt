@@ -11,6 +11,7 @@ use check_rules::nmi_of;
 use explanations::{Explored, Refusal};
 use explored_plans::Base;
 use inferred_rows::ContextPoint;
+use inferring::stack_depth;
 use std::alloc::Global;
 use t_states::MAX_BUDGET;
 use tried_notes::{answers_otherwise, with_budget, with_region, without_facts};
@@ -76,7 +77,7 @@ impl<'r> Case<'r> {
 
     /// The region with the same top that has just room for what the program needs, if the refusal goes with it.
     pub(crate) fn deep_enough(&self, refusal: &Refusal) -> Result<Remedy, FlowFault> {
-        let depth = self.explored.list.depth(self.alloc)?.max(2);
+        let depth = stack_depth(self.alloc, self.explored.list)?.max(2);
         let top = self.said.region().top;
         if depth > 0x400 {
             return Ok(Remedy::Unknown);

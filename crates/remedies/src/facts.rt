@@ -8,8 +8,8 @@ use explanations::{Refusal, RowSteps, unshown_rows};
 use explored_plans::{ExploredPlan, Progress, Search, exploring};
 use fact_closure::{FactSearch, needed_facts};
 use inferred_rows::{ContextPoint, Guide};
-use inferring::RowEdge;
 use row_graph::NaturalLoop;
+use row_worklist::RowEdge;
 use std::alloc::Global;
 use tried_notes::{has_fact, merged, only_facts};
 

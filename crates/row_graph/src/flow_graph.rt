@@ -2,7 +2,8 @@
 
 use analysis::FlowFault;
 use inferred_rows::ContextPoint;
-use inferring::{ArrivingKind, RowEdge};
+use row_worklist::RowEdge;
+use sent_states::ArrivingKind;
 use std::alloc::Global;
 use std::collections::BTreeSet;
 

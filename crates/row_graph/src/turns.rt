@@ -6,7 +6,7 @@ use abs_state::AbsState;
 use abs_step::NextKind;
 use analysis::{FlowFault, Task, joined};
 use inferred_rows::ContextPoint;
-use inferring::Worklist;
+use row_worklist::Worklist;
 use std::alloc::Global;
 
 /// The most steps of one turn.

@@ -10,7 +10,8 @@ use annotations::{Annotations, FactNote};
 use cert_writer::{WriterFault, certify};
 use explanations::{RowSteps, unshown_rows};
 use inferred_rows::{ContextPoint, Guide, Manner};
-use inferring::{Setting, Worklist};
+use inferring::found_rows;
+use row_worklist::{Setting, Worklist};
 use std::alloc::Global;
 
 /// An analysis that goes on after refusals and keeps no relations, as `check` sees a ROM.
@@ -111,7 +112,7 @@ fn seen_with(
 ) -> Result<Option<Seen>, FlowFault> {
     let guide = Guide::none(alloc);
     let setting = plain_setting(task, &guide);
-    let list = match Worklist::run(alloc, setting, asked.visits) {
+    let list = match found_rows(alloc, setting, asked.visits) {
         Ok(list) => list,
         Err(FlowFault::Limit) => return Ok(None),
         Err(FlowFault::NoMemory) => return Err(FlowFault::NoMemory),

@@ -1,18 +1,12 @@
-// The worklist solver of an inferring analysis.
+// The worklist of an inferring analysis.
 
 ghost use Rattle.std.specs.Prelude.{◌≡◌, ◌+◌, ◌*◌};
 
-use crate::arriving::{Arriving, ArrivingKind, Sent, SentState};
 use abs_state::AbsState;
 use abs_step::{Next, NextKind, Reason};
 use affine::Space;
-use analysis::{
-    Flow, FlowFault, JudgedRow, MAIN, NMI, Noted, ProgramPoint, Task, facts_at, names_slots_below,
-    sub_of,
-};
-use annotations::FactNote;
+use analysis::{FlowFault, JudgedRow, MAIN, NMI, ProgramPoint, Task, facts_at, sub_of};
 use board_fetch::fetch;
-use cert_fields::Facts;
 use cert_form::{PROC_LIMIT, ROW_LIMIT};
 use inferred_rows::{
     CLASSES, ContextPoint, Guide, InferredRow, JoinOutcome, Manner, Thresholds, Tightening,
@@ -20,7 +14,8 @@ use inferred_rows::{
 };
 use intervals::ByteRange;
 use judged_rows::JudgedRows;
-use loop_bounds::{Effect, Variable};
+use loop_bounds::Effect;
+use sent_states::{Arriving, ArrivingKind, Sent, SentState};
 use std::alloc::Global;
 use std::collections::{BTreeMap, BTreeSet};
 use std::rc::Rc;
@@ -73,7 +68,7 @@ pub struct Worklist {
     pub(crate) rows: BTreeMap<u64, Rc<InferredRow>>,
     pub(crate) waiting: BTreeSet<u64>,
     /// The entries of called procedures.
-    pub(crate) entries: BTreeSet<u16>,
+    entries: BTreeSet<u16>,
     /// The number of a called procedure, with the place of a call of it.
     calls: BTreeSet<u128>,
     /// The states in which rows leave their procedures, by the rows' numbers.
@@ -100,49 +95,12 @@ fn call_number(callee: u32, caller: u64) -> u128
 }
 
 impl Worklist {
-    /// Computes the fixpoint from the entries of main and of the NMI routine, if there is one, in at most `visits`
-    /// visits of rows. Then two rounds without widening lower what a widening raised.
+    /// Nothing found yet, and nothing watched.
     ///
     /// # Errors
     ///
-    /// `Limit` if there are more than 65,535 rows or 1,024 procedures, or the visits do not suffice; `NoMemory` where
-    /// memory was refused.
-    pub fn run(alloc: Global, setting: Setting, visits: u32) -> Result<Worklist, FlowFault> {
-        Worklist::run_with(
-            alloc,
-            setting,
-            visits,
-            &JudgedRows::none(alloc)?,
-            Watch::Nothing,
-        )
-    }
-
-    /// The same, with the judged rows of other analyses of the ROM on one map. Rows that this one judges are added. A
-    /// watched row that is refused before the fixpoint is reached ends the analysis.
-    ///
-    /// # Errors
-    ///
-    /// As for `run`; `Limit` for the refused row too.
-    pub fn run_with(
-        alloc: Global,
-        setting: Setting,
-        visits: u32,
-        judged: &JudgedRows,
-        watched: Watch,
-    ) -> Result<Worklist, FlowFault> {
-        let mut list = Worklist::begin(alloc, setting, judged.shared(setting.task)?)?;
-        list.watched = watched;
-        for _ in 0..visits {
-            match list.waiting.pop_first() {
-                Some(number) => list.visit(alloc, setting, number)?,
-                None => return list.lowered_if_widened(alloc, setting),
-            }
-        }
-        Err(FlowFault::Limit)
-    }
-
-    /// Nothing found yet.
-    pub(crate) fn empty(
+    /// `NoMemory` where memory was refused.
+    pub fn empty(
         alloc: Global,
         setting: Setting,
         judged: JudgedRows,
@@ -160,8 +118,12 @@ impl Worklist {
         })
     }
 
-    /// The rows at the entries, which wait.
-    pub(crate) fn begin(
+    /// The rows at the entries of main and of the NMI routine, if there is one. They wait.
+    ///
+    /// # Errors
+    ///
+    /// `Limit` if there are more than 65,535 rows; `NoMemory` where memory was refused.
+    pub fn begin(
         alloc: Global,
         setting: Setting,
         judged: JudgedRows,
@@ -171,12 +133,12 @@ impl Worklist {
         Ok(list)
     }
 
-    /// The states at the entries come to their places.
-    pub(crate) fn begin_entries(
-        &mut self,
-        alloc: Global,
-        setting: Setting,
-    ) -> Result<(), FlowFault> {
+    /// The states at the entries of main and of the NMI routine come to their places.
+    ///
+    /// # Errors
+    ///
+    /// `Limit` if there are more than 65,535 rows; `NoMemory` where memory was refused.
+    pub fn begin_entries(&mut self, alloc: Global, setting: Setting) -> Result<(), FlowFault> {
         let state = AbsState::of_main();
         let main = entering(ContextPoint::at(MAIN, 0), &state);
         self.take(alloc, setting, &main, &Space::full(), true)?;
@@ -190,11 +152,11 @@ impl Worklist {
     }
 
     /// Takes over the calls of another analysis by rows that are not lost, and the entries that they call.
-    pub(crate) fn keep_calls(
-        &mut self,
-        before: &Worklist,
-        lost: &BTreeSet<u64>,
-    ) -> Result<(), FlowFault> {
+    ///
+    /// # Errors
+    ///
+    /// `NoMemory` where memory was refused.
+    pub fn keep_calls(&mut self, before: &Worklist, lost: &BTreeSet<u64>) -> Result<(), FlowFault> {
         for call in before.calls.iter() {
             let caller = (*call % CALLERS) as u64;
             if !lost.contains(&caller) {
@@ -261,8 +223,13 @@ impl Worklist {
         Ok(calls)
     }
 
-    /// A state comes to a place. If its row changes, it waits. The result is whether some row has it.
-    pub(crate) fn take(
+    /// A state comes to a place. If its row changes, it waits. `widens` says whether a bound that moved often is widened.
+    /// The result is whether some row has the state.
+    ///
+    /// # Errors
+    ///
+    /// `Limit` if there are more than 65,535 rows; `NoMemory` where memory was refused.
+    pub fn take(
         &mut self,
         alloc: Global,
         setting: Setting,
@@ -345,13 +312,13 @@ impl Worklist {
         Ok(Some(outcome))
     }
 
-    /// Computes the successors of a row.
-    pub(crate) fn visit(
-        &mut self,
-        alloc: Global,
-        setting: Setting,
-        number: u64,
-    ) -> Result<(), FlowFault> {
+    /// Visits a row: its successors come to their places, and what was found of it is noted.
+    ///
+    /// # Errors
+    ///
+    /// `Limit` if there are more than 65,535 rows or 1,024 procedures, or the row is watched and refused; `NoMemory` where
+    /// memory was refused.
+    pub fn visit(&mut self, alloc: Global, setting: Setting, number: u64) -> Result<(), FlowFault> {
         let Some(row) = self.rows.get(&number) else {
             return Ok(());
         };
@@ -383,7 +350,7 @@ impl Worklist {
         let point = ContextPoint::of(number);
         self.note_calls(alloc, setting, point, judged)?;
         let sent = self.sent_by(alloc, setting, point, judged)?;
-        if self.leave(number, exit_of(setting.manner, judged))? {
+        if self.leave(number, state_at_exit(setting.manner, judged))? {
             for caller in self.callers_of(alloc, point.proc)? {
                 self.waiting.insert(caller)?;
             }
@@ -420,7 +387,11 @@ impl Worklist {
     }
 
     /// What a judged row sends on.
-    pub(crate) fn sent_by<'j>(
+    ///
+    /// # Errors
+    ///
+    /// `NoMemory` where memory was refused.
+    pub fn sent_by<'j>(
         &self,
         alloc: Global,
         setting: Setting,
@@ -461,7 +432,11 @@ impl Worklist {
     }
 
     /// Notes the calls of a judged row.
-    pub(crate) fn note_calls(
+    ///
+    /// # Errors
+    ///
+    /// `Limit` if there are more than 1,024 procedures; `NoMemory` where memory was refused.
+    pub fn note_calls(
         &mut self,
         alloc: Global,
         setting: Setting,
@@ -501,12 +476,11 @@ impl Worklist {
     }
 
     /// Notes what was found of a row.
-    pub(crate) fn note(
-        &mut self,
-        alloc: Global,
-        number: u64,
-        found: Findings,
-    ) -> Result<(), FlowFault> {
+    ///
+    /// # Errors
+    ///
+    /// `NoMemory` where memory was refused.
+    pub fn note(&mut self, alloc: Global, number: u64, found: Findings) -> Result<(), FlowFault> {
         let Some(row) = self.rows.get_mut(&number) else {
             return Ok(());
         };
@@ -524,11 +498,11 @@ impl Worklist {
     }
 
     /// Notes the state in which a row leaves its procedure, if it does. The result is whether it changed.
-    pub(crate) fn leave(
-        &mut self,
-        number: u64,
-        exit: Option<&AbsState>,
-    ) -> Result<bool, FlowFault> {
+    ///
+    /// # Errors
+    ///
+    /// `NoMemory` where memory was refused.
+    pub fn leave(&mut self, number: u64, exit: Option<&AbsState>) -> Result<bool, FlowFault> {
         let same = match (self.exits.get(&number), exit) {
             (None, None) => true,
             (Some(old), Some(new)) => old.covers(new) && new.covers(old),
@@ -562,6 +536,16 @@ impl Worklist {
             exits.push(exit.copied())?;
         }
         Ok(exits)
+    }
+
+    /// The state in which the row at the place with this number leaves its procedure, if it does.
+    pub fn exit_at(&self, number: u64) -> Option<&AbsState> {
+        self.exits.get(&number)
+    }
+
+    /// The entries of called procedures, and the numbers of timed ones.
+    pub fn into_procedures(self) -> (BTreeSet<u16>, BTreeSet<u32>) {
+        (self.entries, self.timed)
     }
 
     /// The addresses of splits to which a row sends a state that is not in parts as a whole, with the register's range.
@@ -610,7 +594,7 @@ impl Worklist {
     }
 
     /// The number of the place whose row has a state that arrives.
-    pub(crate) fn number_of(&self, task: &Task, arriving: &Arriving) -> Option<u64> {
+    pub fn number_of(&self, task: &Task, arriving: &Arriving) -> Option<u64> {
         for class in 0..CLASSES {
             let number = ContextPoint {
                 class,
@@ -671,14 +655,14 @@ fn own(alloc: Global, row: &mut Rc<InferredRow>) -> Result<&mut InferredRow, Flo
 
 /// What is noted of a row: the lowest reason against it, the bytes of slots, and whether it drops a state.
 #[derive(Clone, Copy)]
-pub(crate) struct Findings {
-    pub(crate) reason: Option<Reason>,
-    pub(crate) bytes: u16,
-    pub(crate) drops: bool,
+pub struct Findings {
+    pub reason: Option<Reason>,
+    pub bytes: u16,
+    pub drops: bool,
 }
 
 /// The most bytes of slots at a judged row and its successors.
-pub(crate) fn bytes_of(manner: Manner, row: &InferredRow, judged: &JudgedRow) -> u16 {
+pub fn bytes_of(manner: Manner, row: &InferredRow, judged: &JudgedRow) -> u16 {
     let mut bytes = row.state.shape.bytes();
     for next in nexts_of(manner, judged) {
         bytes = bytes.max(next.state.shape.bytes());
@@ -687,7 +671,7 @@ pub(crate) fn bytes_of(manner: Manner, row: &InferredRow, judged: &JudgedRow) ->
 }
 
 /// The state in which a judged row leaves its procedure, if it does.
-pub(crate) fn exit_of<'j>(manner: Manner, judged: &'j JudgedRow) -> Option<&'j AbsState> {
+pub fn state_at_exit<'j>(manner: Manner, judged: &'j JudgedRow) -> Option<&'j AbsState> {
     let mut exit = None;
     for next in nexts_of(manner, judged) {
         if next.kind == NextKind::Exit {
@@ -708,7 +692,7 @@ fn entering<'s>(to: ContextPoint, state: &'s AbsState) -> Arriving<'s> {
 }
 
 /// What is known of the variables together after a step.
-pub(crate) fn space_after(manner: Manner, space: &Space, arriving: &Arriving) -> Space {
+pub fn space_after(manner: Manner, space: &Space, arriving: &Arriving) -> Space {
     if manner.relates {
         space.after(&arriving.effect, arriving.state().shape.len())
     } else {

@@ -24,23 +24,24 @@ pub enum ArrivingKind {
 
 /// A state that is sent on: a successor's own one, or one that was made of it.
 #[derive(Drop)]
-pub(crate) enum SentState<'j> {
+pub enum SentState<'j> {
     Lent(&'j AbsState),
     Made(Box<AbsState>),
 }
 
 /// A state that arrives at a place. Its class is not known yet.
 #[derive(Drop)]
-pub(crate) struct Arriving<'j> {
-    pub(crate) to: ContextPoint,
-    pub(crate) state: SentState<'j>,
+pub struct Arriving<'j> {
+    pub to: ContextPoint,
+    pub state: SentState<'j>,
     /// How each variable comes from the variables of the row that it left.
-    pub(crate) effect: Effect,
-    pub(crate) kind: ArrivingKind,
+    pub effect: Effect,
+    pub kind: ArrivingKind,
 }
 
 impl<'j> Arriving<'j> {
-    pub(crate) fn state(&self) -> &AbsState {
+    /// The state itself.
+    pub fn state(&self) -> &AbsState {
         match &self.state {
             SentState::Lent(state) => state,
             SentState::Made(state) => state.as_ref(),
@@ -50,14 +51,15 @@ impl<'j> Arriving<'j> {
 
 /// The states that a judged row sends on.
 #[derive(Drop)]
-pub(crate) struct Sent<'j> {
-    pub(crate) states: Vec<Arriving<'j>>,
+pub struct Sent<'j> {
+    pub states: Vec<Arriving<'j>>,
     /// The addresses of splits to which a state goes that is not in parts as a whole, with the register's range.
-    pub(crate) lacking: Vec<(u16, ByteRange)>,
+    pub lacking: Vec<(u16, ByteRange)>,
 }
 
 impl<'j> Sent<'j> {
-    pub(crate) fn none(alloc: Global) -> Sent<'j> {
+    /// No states.
+    pub fn none(alloc: Global) -> Sent<'j> {
         Sent {
             states: Vec::new(alloc),
             lacking: Vec::new(alloc),
@@ -95,7 +97,11 @@ impl<'j> Sent<'j> {
     }
 
     /// Adds the state of a call at the callee's entry.
-    pub(crate) fn add_call(
+    ///
+    /// # Errors
+    ///
+    /// `NoMemory` where memory was refused.
+    pub fn add_call(
         &mut self,
         alloc: Global,
         task: &Task,
@@ -112,7 +118,11 @@ impl<'j> Sent<'j> {
     }
 
     /// Adds the state of a call that comes back from an exit of the callee, at the address after the call.
-    pub(crate) fn add_return(
+    ///
+    /// # Errors
+    ///
+    /// `NoMemory` where memory was refused.
+    pub fn add_return(
         &mut self,
         alloc: Global,
         task: &Task,
@@ -194,7 +204,11 @@ impl<'j> Sent<'j> {
     }
 
     /// Adds the states of a successor that is no call.
-    pub(crate) fn add_next(
+    ///
+    /// # Errors
+    ///
+    /// `NoMemory` where memory was refused.
+    pub fn add_next(
         &mut self,
         alloc: Global,
         task: &Task,
