@@ -1,4 +1,7 @@
 // The data reads of each instruction.
+ghost use Rattle.std.specs.Prelude.{◌≡◌};
+ghost use Rattle.data_reads.specs.Reads.{memory_addresses, pointed_addresses, place_ranges, reads_of};
+ghost use Rattle.data_reads.specs.ReadsLieIn.{ReadsLieIn, BoardReadsLieIn};
 
 use abs_state::Pairs;
 use intervals::WordRange;
@@ -7,7 +10,12 @@ use z80_decode::{Address, Index, Instr, Memory, Operand, Place};
 /// The addresses from which an instruction reads data, for registers in these ranges: a range for each byte, at most
 /// two. What it reads through SP does not count, nor do its own bytes. A block instruction reads one byte each turn. An
 /// instruction of the I/O group reads none.
-pub fn data_reads(instr: &Instr, pairs: &Pairs) -> [Option<WordRange>; 2] {
+#[tactic(auto, using(crate::proofs::Lie::table_lies, crate::proofs::Lie::table_lies_on_boards), unfolding(crate::specs::Reads::reads_of))]
+pub fn data_reads(instr: &Instr, pairs: &Pairs) -> [Option<WordRange>; 2]
+    ensures exact { result ≡ reads_of instr.now pairs.now }
+    ensures complete { ReadsLieIn result pairs.now instr.now }
+    ensures on_boards { BoardReadsLieIn result pairs.now instr.now }
+{
     match instr {
         Instr::LoadRegister(_, place)
         | Instr::Arithmetic(_, Operand::Place(place))
@@ -16,7 +24,7 @@ pub fn data_reads(instr: &Instr, pairs: &Pairs) -> [Option<WordRange>; 2] {
         | Instr::Shift(_, place)
         | Instr::TestBit(_, place)
         | Instr::SetBit(_, place)
-        | Instr::ResetBit(_, place) => [at_place(*place, pairs), None],
+        | Instr::ResetBit(_, place) => at_place(*place, pairs),
         Instr::LoadA(address) => [Some(at_address(*address, pairs)), None],
         Instr::LoadPairDirect(_, at) => {
             let low = WordRange::single(*at);
@@ -30,17 +38,31 @@ pub fn data_reads(instr: &Instr, pairs: &Pairs) -> [Option<WordRange>; 2] {
     }
 }
 
-/// The address of an operand in memory.
-fn at_place(place: Place, pairs: &Pairs) -> Option<WordRange> {
+/// The addresses of an operand that may be in memory.
+fn at_place(place: Place, pairs: &Pairs) -> [Option<WordRange>; 2]
+    ensures { result ≡ place_ranges place pairs.now }
+{
     match place {
-        Place::Register(_) => None,
-        Place::Memory(Memory::AtHl) => Some(pairs.hl.word),
-        Place::Memory(Memory::At(Index::Ix, by)) => Some(pairs.ix.word.displacement(by)),
-        Place::Memory(Memory::At(Index::Iy, by)) => Some(pairs.iy.word.displacement(by)),
+        Place::Register(_) => [None, None],
+        Place::Memory(memory) => [Some(at_memory(memory, pairs)), None],
     }
 }
 
-fn at_address(address: Address, pairs: &Pairs) -> WordRange {
+/// The addresses of an operand in memory.
+fn at_memory(memory: Memory, pairs: &Pairs) -> WordRange
+    ensures { result ≡ memory_addresses memory pairs.now }
+{
+    match memory {
+        Memory::AtHl => pairs.hl.word,
+        Memory::At(Index::Ix, by) => pairs.ix.word.displacement(by),
+        Memory::At(Index::Iy, by) => pairs.iy.word.displacement(by),
+    }
+}
+
+/// The addresses of LD A,(BC), LD A,(DE) and LD A,(nn).
+fn at_address(address: Address, pairs: &Pairs) -> WordRange
+    ensures { result ≡ pointed_addresses address pairs.now }
+{
     match address {
         Address::Bc => pairs.bc.word,
         Address::De => pairs.de.word,

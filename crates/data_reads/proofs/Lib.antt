@@ -1,0 +1,3 @@
+mod Moves
+mod Found
+pub mod Lie
