@@ -50,7 +50,7 @@ judge "no events" 0 "$run_of_none" ''
 ask run "$six.rom" "$six.cert" "$six.input" 0000000003
 judge "steps with leading zeros" 0 "$run_of_three" ''
 
-version=$'galcert 1.0.0\nproved with rattle-kit-13b logic dac8208d650f15bf\n'
+version=$'galcert 1.0.0\nproved with rattle-kit-13f logic dac8208d650f15bf\n'
 
 # Files that are not there: the first that is asked for fails, and nothing is printed.
 ask verify missing "$six.cert"

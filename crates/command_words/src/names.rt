@@ -3,7 +3,7 @@
 use clap::ArgMatches;
 
 /// What `--version` prints: the program's version, and the toolchain with which it was proved.
-pub const VERSION: &str = "galcert 1.0.0\nproved with rattle-kit-13b logic dac8208d650f15bf\n";
+pub const VERSION: &str = "galcert 1.0.0\nproved with rattle-kit-13f logic dac8208d650f15bf\n";
 
 /// The names by which what was said is found.
 pub const CERT_FILE: &str = "cert";
