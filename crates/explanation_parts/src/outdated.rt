@@ -16,7 +16,7 @@ use refusal_texts::{Wording, add_lacking, add_line};
 use std::alloc::Global;
 use tried_notes::{plain_setting, without_splits};
 
-/// What is said of outdated splits, and the annotations without them.
+/// The text about outdated splits, and the annotations without them.
 #[derive(Drop)]
 pub struct Outdated {
     pub text: String,
@@ -98,7 +98,7 @@ fn is_reached(explored: &Explored, split: &SplitNote, part: &ByteRange) -> bool 
     })
 }
 
-/// Adds what is said of a row that leads to an outdated split.
+/// Adds the text about a row that leads to an outdated split.
 fn add_outdated(
     text: &mut String,
     with: &Wording,

@@ -20,7 +20,7 @@ pub struct Judged<'r> {
     bytes: &'r [u8],
     answer: Result<Accepted<'r>, WriterFault>,
     guide: Guide,
-    /// The rows of which the writer made a certificate, if it came so far.
+    /// The rows of the writer's certificate; None if the writer made none.
     flow: Option<Flow>,
 }
 

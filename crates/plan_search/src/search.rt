@@ -107,7 +107,7 @@ pub fn helping_at<P: Progress>(
     whole_of(search, found)
 }
 
-/// A plan of which only a part may be explored, explored as a whole.
+/// A plan, explored as a whole. Before, only a part of it may have been explored.
 fn whole_of<P: Progress>(
     search: &Search<P>,
     found: Option<ExploredPlan>,

@@ -16,7 +16,7 @@ use tried_notes::{has_fact, merged, only_facts};
 /// The most facts of an address.
 const FACTS: usize = 4;
 
-/// The most facts of a remedy of which it is tried whether each is needed.
+/// A remedy with more facts than this is given whole: no fact is tried alone.
 const FEW: usize = 8;
 
 /// How many choices of facts there are.

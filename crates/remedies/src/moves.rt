@@ -5,7 +5,7 @@ use explored_plans::{ExploredPlan, Progress, Search};
 use inferred_rows::ContextPoint;
 use plan_search::helping_at;
 
-/// The most moves of which each is a dead end.
+/// The search gives up after so many moves that lead nowhere.
 const MOVES: u32 = 4;
 
 /// The first move that takes the refusals of an address away and is no dead end.

@@ -40,7 +40,7 @@ fn is_clean_at(list: &Worklist, address: u16) -> bool {
     is_there
 }
 
-/// What is asked of annotations that are tried.
+/// A question to annotations that are tried.
 #[derive(Clone, Copy)]
 pub struct TrialGoal<'a> {
     /// The address that is to be refused no more.
@@ -85,8 +85,8 @@ fn without_bad(addresses: Vec<u16>, bad: Vec<u16>) -> Vec<u16> {
     left
 }
 
-/// The addresses of a list of rows of which none is refused, rising. `unshown` has rows, rising, from which a fact does
-/// not follow.
+/// The addresses at which no row of a list is refused, in rising order. `unshown` has the rows from which a fact does not
+/// follow, in rising order.
 fn clean_addresses(alloc: Global, list: &Worklist, unshown: &[u64]) -> Result<Vec<u16>, FlowFault> {
     let mut all: Vec<u16> = Vec::new(alloc);
     let mut bad: Vec<u16> = Vec::new(alloc);

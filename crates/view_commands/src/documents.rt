@@ -3,9 +3,9 @@
 ghost use Rattle.std.specs.Prelude.{◌≡◌, ◌≢◌};
 ghost use Rattle.texts.specs.Device.{HasFailed, CountsNoFailure};
 
-use crate::buffer::Buffer;
 use crate::showing::Shown;
 use command_parts::Stop;
+use command_streams::Captured;
 use std::alloc::Global;
 use texts::{Sink, put};
 
@@ -20,7 +20,7 @@ pub(crate) fn write_document<W: Sink>(
         → CountsNoFailure (W.state out.old) (W.state out.new) }
     ensures never { result ≢ Err Stop.Refused }
 {
-    let mut part = Buffer::new(alloc);
+    let mut part = Captured::new(alloc);
     for number in 0..document.count() {
         part.clear();
         document.write_part(number, &mut part)?;

@@ -1,7 +1,6 @@
 // The commands that show an accepted program, over devices (docs/PROGRAM.md): `list`, `longest` and `report`.
 #![tactic(auto)]
 
-mod buffer;
 mod documents;
 mod showing;
 mod viewing;

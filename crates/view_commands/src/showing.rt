@@ -1,8 +1,8 @@
 // What of an accepted program is shown.
 
-use crate::buffer::Buffer;
 use cert_checker::Accepted;
 use certificate::ProcKind;
+use command_streams::Captured;
 use folded_walks::{WalkText, Walks, proc_named};
 use listing::{ListFault, Listing, View};
 use report::{FileNames, Report};
@@ -67,7 +67,7 @@ impl<'a> Shown<'a> {
     }
 
     /// Writes a part, counted from 0. The parts have to come in their order. The error is refused memory.
-    pub(crate) fn write_part(&mut self, number: u32, out: &mut Buffer) -> Result<(), AllocError> {
+    pub(crate) fn write_part(&mut self, number: u32, out: &mut Captured) -> Result<(), AllocError> {
         let written = match self {
             Shown::List(listing) => match number.checked_sub(1) {
                 Some(address) => listing.write_at((address % 0x1_0000) as u16, out),

@@ -215,7 +215,7 @@ impl<'a> Solving<'a> {
         true
     }
 
-    /// The first waiting loop, by its place, of which each loop within it waits no more, and the multiple of its counter
+    /// The first waiting loop whose inner loops wait no more, by its place, and the multiple of its counter
     /// that a turn costs.
     fn next_turn(&mut self, group: &Group) -> Option<(usize, Linear)> {
         for place in 0..group.heads.len() {
