@@ -122,9 +122,17 @@ fn board_of(table: &Table) -> Result<Option<BoardMap>, Wrong> {
 fn cells_of(alloc: Global, table: &Table, board: Option<BoardMap>) -> Result<Vec<KeptCell>, Wrong> {
     match board {
         Some(board) => cells(alloc, table, board),
-        None => match cells(alloc, table, BoardMap::Galaxian) {
-            Err(Wrong::Form) => cells(alloc, table, BoardMap::Raised),
-            found => found,
-        },
+        None => cells_of_any(alloc, table),
     }
+}
+
+/// The kept cells, in the work RAM of the first board that has all of them there.
+fn cells_of_any(alloc: Global, table: &Table) -> Result<Vec<KeptCell>, Wrong> {
+    for board in BoardMap::ALL {
+        match cells(alloc, table, board) {
+            Err(Wrong::Form) => {}
+            found => return found,
+        }
+    }
+    Err(Wrong::Form)
 }

@@ -98,30 +98,30 @@ pub(crate) fn loops(alloc: Global, table: &Table) -> Result<Vec<LoopNote>, Wrong
 pub(crate) fn cells(alloc: Global, table: &Table, board: BoardMap) -> Result<Vec<KeptCell>, Wrong>
     ensures { IfOk result (λ cells. SaysCells (table_view table.now) cells.items) }
 {
-    let mut cells = cells_written(alloc, items(table, "cell")?, board.work_start())?;
+    let mut cells = cells_written(alloc, items(table, "cell")?, board)?;
     cells.sort_unstable_by_key(|cell| cell.at);
     each_once(cells.is_sorted_by(|cell, next| cell.at < next.at))?;
     Ok(cells)
 }
 
-/// The kept cells of these tables, in their order. Work RAM begins at `start`.
-fn cells_written(alloc: Global, items: &[Value], start: u16) -> Result<Vec<KeptCell>, Wrong>
+/// The kept cells of these tables, in their order, on a board.
+fn cells_written(alloc: Global, items: &[Value], board: BoardMap) -> Result<Vec<KeptCell>, Wrong>
     ensures { IfOk result (λ cells. SayEach (items_view items.now) cells.items) }
 {
     let mut cells = Vec::new(alloc);
     for item in items {
-        keep(&mut cells, cell(item, start)?)?;
+        keep(&mut cells, cell(item, board)?)?;
     }
     Ok(cells)
 }
 
-/// The kept cell of a table. Work RAM begins at `start`.
-fn cell(item: &Value, start: u16) -> Result<KeptCell, Wrong>
+/// The kept cell of a table, on a board.
+fn cell(item: &Value, board: BoardMap) -> Result<KeptCell, Wrong>
     ensures { IfOk result (λ cell. SaysCell (view item.now) cell) }
 {
     let inner = table_with(item, &["at", "lo", "hi"])?;
     let at = number(inner, "at")?;
-    if at < start || at - start >= 0x400 {
+    if !board.is_in_work(at) {
         return Err(Wrong::Form);
     }
     Ok(KeptCell {

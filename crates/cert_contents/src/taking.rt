@@ -18,9 +18,6 @@ use cert_form::{
 };
 use cert_lines::{BoardMap, Proc, ProcKind, Row, RowPlace, Split, Version};
 
-/// How many addresses of work RAM may be cells.
-const CELL_ADDRESSES: u16 = 0x400;
-
 impl Reader {
     /// Whether a line of the list of this stage may come: the procedures are complete, and no line of a later stage was
     /// read.
@@ -296,8 +293,7 @@ fn cell_may_follow(cells: &[KeptCell], board: BoardMap, cell: &KeptCell) -> bool
     ensures { IsTrue result ↔ AreCells board (cells.now ++ cell.now ∷ []) }
 {
     is_cell(cell);
-    let start = board.work_start();
-    if cell.at < start || cell.at >= start + CELL_ADDRESSES {
+    if !board.is_in_work(cell.at) {
         return false;
     }
     match cells.last() {

@@ -20,4 +20,4 @@ pub use spelling::{
     row_line, split_line, stack_line,
 };
 pub use split::Split;
-pub use version::{BoardMap, Version};
+pub use version::{BoardMap, Version, WORK_LEN};

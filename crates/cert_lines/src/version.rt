@@ -1,6 +1,6 @@
 // The version of a certificate's text, and the board that it names.
 
-ghost use Rattle.std.specs.Prelude.{◌≡◌, ◌≤◌, length};
+ghost use Rattle.std.specs.Prelude.{◌+◌, ◌≡◌, ◌≤◌, ◌<◌, ◌↔◌, IsTrue, length};
 ghost use Rattle.texts.specs.Numbers.{Always, Reads};
 ghost use Rattle.address_map.specs.Boards.{galaxian, raised};
 ghost use Rattle.cert_lines.specs.Version.{board_name, work_start_of};
@@ -17,6 +17,9 @@ pub enum Version {
     Two,
 }
 
+/// How many addresses the stack and the kept cells may use: the first 400h of work RAM.
+pub const WORK_LEN: u16 = 0x400;
+
 /// The address maps that a certificate can name (docs/BOARD.md, "Addresses").
 #[derive(Clone, Copy, PartialEq, Eq)]
 pub enum BoardMap {
@@ -25,6 +28,9 @@ pub enum BoardMap {
 }
 
 impl BoardMap {
+    /// Every board, the one that needs no name first.
+    pub const ALL: [BoardMap; 2] = [BoardMap::Galaxian, BoardMap::Raised];
+
     /// The map with this name, for a ROM of 1 to 16,384 bytes.
     pub fn map(self, rom_len: u16) -> Map
         requires some { 1 ≤ rom_len }
@@ -60,6 +66,15 @@ impl BoardMap {
         } else {
             None
         }
+    }
+
+    /// Whether an address is one of those that the stack and the kept cells may use.
+    pub fn is_in_work(self, address: u16) -> bool
+        ensures { IsTrue result
+            ↔ ((work_start_of self ≤ address) × (address < work_start_of self + 1024)) }
+    {
+        let start = self.work_start();
+        start <= address && address - start < WORK_LEN
     }
 
     /// The first address of work RAM, 4000 or 8000.

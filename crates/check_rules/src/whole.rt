@@ -11,7 +11,7 @@ ghost use Rattle.check_rules.specs.Acceptance.{CoversEntries, EntryFails, FitsRo
 use abs_state::{AbsState, KeptCell};
 use address_map::{Map, Region, Rom};
 use cert_contents::Certificate;
-use cert_lines::Proc;
+use cert_lines::{Proc, WORK_LEN};
 use check_cover::{Arrival, Coverer};
 use loop_bounds::Effect;
 use t_states::MAX_BUDGET;
@@ -36,7 +36,7 @@ pub fn region_fits(map: &Map, region: Region, cells: &[KeptCell]) -> bool
     let start = map.work_start();
     start <= region.low
         && region.low < region.top
-        && u32::from(region.top) <= u32::from(start) + 0x400
+        && u32::from(region.top) <= u32::from(start) + u32::from(WORK_LEN)
         && all_outside(region, cells)
 }
 

@@ -6,6 +6,7 @@ ghost use Rattle.texts.specs.Device.{Gives, HasFailed, CountsNoFailure};
 ghost use Rattle.command_parts.specs.Reading.{FirstBytes, GivesUpTo};
 
 use crate::stop::Stop;
+use address_map::ROM_LIMIT;
 use std::alloc::Global;
 use texts::Source;
 
@@ -13,7 +14,7 @@ use texts::Source;
 const CHUNK_LEN: usize = 4096;
 
 /// One byte more than a ROM may have; of a longer file no more is read.
-const ROM_READ_LEN: usize = 16_385;
+const ROM_READ_LEN: usize = ROM_LIMIT as usize + 1;
 
 /// Reads the ROM's file up to its 16,385th byte.
 pub fn read_rom<R: Source>(alloc: Global, rom: &mut R) -> Result<Vec<u8>, Stop>

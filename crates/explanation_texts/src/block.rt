@@ -6,6 +6,7 @@ use crate::loops::add_time;
 use crate::remedy::add_remedy;
 use crate::whence::add_whence;
 use abs_step::{NextKind, Reason};
+use address_map::ROM_LIMIT;
 use analysis::FlowFault;
 use explanations::{Explored, Refusal, Situation, origins_of};
 use inferred_rows::{ContextPoint, pointer_of};
@@ -19,9 +20,6 @@ use refusal_texts::{
 use remedies::Remedy;
 use std::alloc::Global;
 use z80_decode::{Instr, Memory, Place};
-
-/// The address after the ROM.
-const ROM_END: u16 = 0x4000;
 
 /// The name and the number of a reason in brackets: `[6 WriteRom]`.
 fn reason_text(with: &Wording, reason: Reason) -> Result<String, FlowFault> {
@@ -183,7 +181,7 @@ fn jumps_by_ram(alloc: Global, explored: &Explored, row: u64) -> Result<bool, Fl
 fn reads_ram(instr: &Instr) -> bool {
     match instr {
         Instr::LoadRegister(_, Place::Memory(Memory::At(_, _))) => true,
-        Instr::LoadPairDirect(_, address) => *address >= ROM_END,
+        Instr::LoadPairDirect(_, address) => *address >= ROM_LIMIT,
         _ => false,
     }
 }

@@ -1,5 +1,6 @@
 // Hints about files that are not what a command takes (docs/PROGRAM.md, "Hints").
 
+use address_map::ROM_LIMIT;
 use annotation_faults::place_of_fault;
 use file_devices::{FileSource, Likeness, certified_len};
 use named_reports::numbered;
@@ -10,7 +11,7 @@ use std::rt::Files;
 use texts::Sink;
 
 /// The most bytes of a ROM.
-const MOST_ROM: u64 = 16_384;
+const MOST_ROM: u64 = ROM_LIMIT as u64;
 
 /// Says what a ROM looks like, if it is none.
 pub fn hint_rom<R: Files, N: Sink>(

@@ -1,15 +1,13 @@
 // The texts of instructions, with labels.
 
 use crate::view::View;
+use address_map::ROM_LIMIT;
 use disassembly::{InstrText, Reference, defined_bytes, shares_text, spelled};
 use std::alloc::AllocError;
 use z80_decode::{Instr, Register16};
 
 /// The columns of an instruction.
 const WIDTH: usize = 24;
-
-/// The first address above the ROM's zone.
-const ROM_END: u16 = 0x4000;
 
 /// How an instruction is listed.
 #[derive(Drop)]
@@ -80,7 +78,7 @@ impl View<'_> {
             let is_data = self.survey.is_read(word)
                 && !self.survey.rows().is_there(word)
                 && !matches!(instr, Instr::LoadPair(Register16::Bc, _));
-            if word < ROM_END && !is_data {
+            if word < ROM_LIMIT && !is_data {
                 return None;
             }
         }

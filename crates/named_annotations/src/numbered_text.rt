@@ -6,13 +6,11 @@ use crate::fault::{NamedFault, UnknownName};
 use crate::merging::Merging;
 use crate::resolving::Resolving;
 use analysis::FlowFault;
+use cert_lines::BoardMap;
 use source_notes::{NoteKind, SourceNote, SourceNotes};
 use std::alloc::Global;
 use symbols::Symbols;
 use toml::{Table, ser};
-
-/// The first 400h bytes of work RAM of the boards: of the Galaxian one and of the raised one.
-const WORK_STARTS: [u16; 2] = [0x4000, 0x8000];
 
 /// Annotations whose addresses are numbers.
 #[derive(Drop)]
@@ -106,9 +104,7 @@ fn add_notes(merging: &mut Merging, rom: &[u8], notes: &SourceNotes) -> Result<(
 fn check_cell(note: &SourceNote) -> Result<(), NamedFault> {
     match note.kind {
         NoteKind::Cell(_)
-            if !WORK_STARTS
-                .iter()
-                .any(|start| *start <= note.at && note.at - *start < 0x400) => {
+            if !BoardMap::ALL.iter().any(|board| board.is_in_work(note.at)) => {
             Err(NamedFault::Cell { line: note.line })
         }
         _ => Ok(()),

@@ -298,9 +298,8 @@ fn keep_later(
 
 /// Whether an address may be that of a cell: in the first 400h addresses of work RAM, outside the stack region.
 fn may_be_cell<P: Progress>(search: &Search<P>, at: u16) -> bool {
-    let start = search.context.base().board.work_start();
-    let region = search.context.base().region;
-    at >= start && at - start < 0x400 && !(region.low <= at && at < region.top)
+    let base = search.context.base();
+    base.board.is_in_work(at) && !(base.region.low <= at && at < base.region.top)
 }
 
 /// The data writes of a row.

@@ -7,6 +7,7 @@ use crate::search::{bound_and_lessen, clear};
 use address_map::Rom;
 use analysis::{FlowFault, judged_row};
 use annotations::Given;
+use cert_lines::WORK_LEN;
 use explored_plans::{Base, ExploredPlan, Plan, Progress, Search, SearchContext};
 use inferred_rows::ContextPoint;
 use inferring::stack_depth;
@@ -160,7 +161,7 @@ fn answered<'r, P: Progress>(
 
 /// The low end of the stack region that leaves room for this many bytes, one word at least.
 fn low_of(base: &Base, depth: u32) -> u16 {
-    let depth = depth.max(2).min(0x400) as u16;
+    let depth = depth.max(2).min(u32::from(WORK_LEN)) as u16;
     base.region
         .top
         .saturating_sub(depth)

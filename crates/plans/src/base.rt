@@ -4,7 +4,7 @@ use crate::deduced::{board_of_top, first_top};
 use address_map::{Region, Rom};
 use analysis::FlowFault;
 use annotations::Given;
-use cert_lines::BoardMap;
+use cert_lines::{BoardMap, WORK_LEN};
 use std::alloc::Global;
 use t_states::MAX_BUDGET;
 
@@ -30,10 +30,10 @@ impl<'g> Base<'g> {
         let top = match (given.top, first) {
             (Some(top), _) => top,
             (None, Some(top)) => top,
-            (None, None) => match given.board {
-                Some(board) => board.work_start().wrapping_add(0x400),
-                None => 0x4400,
-            },
+            (None, None) => {
+                let board = given.board.unwrap_or(BoardMap::Galaxian);
+                board.work_start().wrapping_add(WORK_LEN)
+            }
         };
         let board = match given.board {
             Some(board) => board,

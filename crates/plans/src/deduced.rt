@@ -87,14 +87,13 @@ pub(crate) fn first_top(alloc: Global, rom: &Rom) -> Result<Option<u16>, FlowFau
     Ok(None)
 }
 
-/// The board in whose work RAM the byte below the top of the stack lies; the Galaxian one if there is none.
+/// The first board in whose work RAM the byte below the top of the stack lies; the Galaxian one if there is none.
 pub(crate) fn board_of_top(rom: &Rom, top: u16) -> BoardMap {
     let below = top.wrapping_sub(1);
-    if BoardMap::Raised.map(rom.len()).is_work(below)
-        && !BoardMap::Galaxian.map(rom.len()).is_work(below)
-    {
-        BoardMap::Raised
-    } else {
-        BoardMap::Galaxian
+    for board in BoardMap::ALL {
+        if board.map(rom.len()).is_work(below) {
+            return board;
+        }
     }
+    BoardMap::Galaxian
 }

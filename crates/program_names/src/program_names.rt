@@ -5,11 +5,11 @@ use command_parts::{ExitStatus, Stop};
 use source_lines::{AddressNames, ListingFault, Locations, SourceLines};
 use source_notes::{NoteFault, SourceNotes};
 use std::alloc::Global;
-use symbols::{SymbolFault, Symbols};
+use symbols::{MAX_TEXT, SymbolFault, Symbols};
 use texts::{Sink, Source};
 
 /// One byte more than a symbol file or a listing may have; of a longer file no more is read.
-const READ_LEN: usize = 4_194_305;
+const READ_LEN: usize = MAX_TEXT + 1;
 
 /// How many bytes one read asks for.
 const CHUNK_LEN: usize = 4096;

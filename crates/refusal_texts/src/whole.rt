@@ -3,6 +3,7 @@
 use crate::wording::add_line;
 use address_map::Region;
 use analysis::FlowFault;
+use cert_lines::WORK_LEN;
 use std::alloc::Global;
 
 /// The numbers that reasons of the whole are about.
@@ -46,7 +47,7 @@ pub fn add_rom_lengths(
 /// `NoMemory` where memory was refused.
 pub fn add_region(text: &mut String, alloc: Global, bounds: &Bounds) -> Result<(), FlowFault> {
     let (low, top, start) = (bounds.region.low, bounds.region.top, bounds.work_start);
-    let end = start.saturating_add(0x400);
+    let end = start.saturating_add(WORK_LEN);
     let line = if low < start {
         format!(in alloc; "low is {low:04X}, below the work RAM, which begins at {start:04X}")?
     } else if low >= top {

@@ -5,7 +5,7 @@ use abs_step::Reason;
 use address_map::{Region, Rom};
 use analysis::FlowFault;
 use annotations::{Annotations, Given};
-use cert_lines::BoardMap;
+use cert_lines::{BoardMap, WORK_LEN};
 use cert_writer::certify;
 use check_rules::nmi_of;
 use explanations::{Explored, Refusal};
@@ -79,7 +79,7 @@ impl<'r> Case<'r> {
     pub(crate) fn deep_enough(&self, refusal: &Refusal) -> Result<Remedy, FlowFault> {
         let depth = stack_depth(self.alloc, self.explored.list)?.max(2);
         let top = self.said.region().top;
-        if depth > 0x400 {
+        if depth > u32::from(WORK_LEN) {
             return Ok(Remedy::Unknown);
         }
         let region = Region {

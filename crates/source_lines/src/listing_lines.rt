@@ -4,9 +4,7 @@ use crate::fault::ListingFault;
 use crate::layout::Layout;
 use crate::source_text::SourceText;
 use std::alloc::Global;
-
-/// The most bytes that a listing has: 4 MB.
-const MAX_LISTING: usize = 4_194_304;
+use symbols::MAX_TEXT;
 
 /// A line of a listing that shows a line of source.
 #[derive(Clone, Copy)]
@@ -44,7 +42,7 @@ impl<'a> SourceLines<'a> {
     /// `TooLarge` for more than 4,194,304 bytes. `NoListing` if no line shows bytes as a listing of a known assembler
     /// does. `NoMemory` where memory was refused.
     pub fn read(alloc: Global, listing: &'a [u8]) -> Result<SourceLines<'a>, ListingFault> {
-        if listing.len() > MAX_LISTING {
+        if listing.len() > MAX_TEXT {
             return Err(ListingFault::TooLarge);
         }
         let Some(layout) = Layout::of(listing) else {

@@ -3,14 +3,12 @@
 use crate::counting::file_lines;
 use crate::fault::ListingFault;
 use crate::listing_lines::SourceLines;
+use address_map::ROM_LIMIT;
 use std::alloc::{AllocError, Global};
 use std::fmt;
 
 /// How many bytes after the first of its line an address may be, and one more.
 const REACH: u16 = 256;
-
-/// The first address above the ROM's zone. The lines of code do not reach it.
-const ROM_END: u16 = 0x4000;
 
 /// A line of a file. As a text it is `raid.asm:565`, the form that editors jump to.
 #[derive(Clone, Copy, PartialEq, Eq)]
@@ -82,7 +80,7 @@ impl Locations {
         if address.saturating_sub(placed.address) >= REACH {
             return None;
         }
-        if placed.address < ROM_END && ROM_END <= address {
+        if placed.address < ROM_LIMIT && ROM_LIMIT <= address {
             return None;
         }
         Some(Location {

@@ -158,8 +158,9 @@ fn add_keys(
     if let (Some(budget), false) = (found.base.budget, has.contains(&"budget")) {
         text.push_str(format!(in alloc; "budget = {budget}\n")?.as_str())?;
     }
-    if found.base.board == BoardMap::Raised && !has.contains(&"map") {
-        text.push_str("map = \"raised\"\n")?;
+    if found.base.board != BoardMap::Galaxian && !has.contains(&"map") {
+        let name = str::from_utf8(found.base.board.name()).unwrap_or("");
+        text.push_str(format!(in alloc; "map = \"{name}\"\n")?.as_str())?;
     }
     Ok(())
 }

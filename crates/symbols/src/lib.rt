@@ -16,4 +16,4 @@ pub use fault::{ResolveFault, SymbolFault};
 pub use label::Label;
 pub use name::is_shown;
 pub use numbers::number;
-pub use symbols::Symbols;
+pub use symbols::{MAX_TEXT, Symbols};

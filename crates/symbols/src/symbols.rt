@@ -9,15 +9,16 @@ use crate::definitions::{Definition, Definitions};
 use crate::fault::SymbolFault;
 use crate::label::Label;
 use crate::name::is_shown;
+use address_map::ROM_LIMIT;
 use indexmap::IndexMap;
 use std::alloc::Global;
 use std::marker::Model;
 
-/// The most bytes that a symbol file has: 4 MB.
-const MAX_TEXT: usize = 4_194_304;
+/// The most bytes that a symbol file or a listing has: 4 MB.
+pub const MAX_TEXT: usize = 4_194_304;
 
 /// The first address above the ROM's zone. Labels below it name code, and the others name RAM and devices.
-const ROM_END: u16 = 0x4000;
+const ROM_END: u16 = ROM_LIMIT;
 
 /// How many addresses a label may name: its own and 255 more.
 const REACH: u16 = 256;

@@ -2,13 +2,13 @@
 
 use crate::fault::PotentialFault;
 use cert_contents::Certificate;
-use loop_bounds::Linear;
+use loop_bounds::{GREATEST_CONSTANT, Linear};
 use std::alloc::Global;
 use write_payments::{Choice, Payer, Unpaid, least_of_constants, multiple_of, with_constant};
 use write_requests::Requests;
 
 /// The least constant of a potential.
-const LOWEST: i32 = -1_000_000_000;
+const LOWEST: i32 = -(GREATEST_CONSTANT as i32);
 
 /// Of so many loops at most turns with loops within them are found.
 const NESTED: usize = 16;
