@@ -1,6 +1,6 @@
 -- An instruction that does not use the stack: what is known at its end holds of its draft and is that of one of its
 -- successors.
-use Rattle.std.proofs.Common.{inl, inr, ◌≡◌, ◌≢◌, ◌+◌, ◌∙◌, ℕ, Bool, true, false, not, List, ◌++◌, length, Option, Some, None, Ok, IsSomeAnd, refl, sym, ap, subst, arith}
+use Rattle.std.proofs.Common.{inl, inr, ◌≡◌, ◌≢◌, ◌+◌, ◌∙◌, ℕ, Bool, true, false, not, List, length, Option, Some, None, Ok, IsSomeAnd, refl, sym, ap, subst, arith}
 use Rattle.std.specs.Prelude.{◌||◌, ◌&&◌, option_map, if◌then◌else◌}
 use Rattle.std.specs.List.{Contains}
 use Rattle.std.proofs.lemmas.Bool.{cases_Bool}
@@ -27,27 +27,36 @@ use Rattle.abs_laws.specs.Fits.{Fits}
 use Rattle.abs_laws.specs.Lists.{MayRun}
 use Rattle.abs_laws.proofs.Lists.{parts_of_list}
 use Rattle.abs_laws.proofs.Short.{short}
-use Rattle.abs_laws.proofs.Ways.{goes_left, goes_straight, goes_taken}
+use Rattle.abs_laws.proofs.Ways.{goes_left, goes_straight, goes_taken, moves_keep_taken}
 use Rattle.z80_actions.specs.Known.{returns_if_taken}
-use Rattle.abs_step.specs.Successors.{is_call, is_empty, pops_word, pushes_word, next_kind_of, next_of, uses_stack, way_on, ways_on, writes_of}
+use Rattle.abs_step.specs.Successors.{is_call, is_empty, pops_word, pushes_word, next_kind_of, next_of, uses_stack, way_by, way_on, writes_of}
 use Rattle.abs_step.specs.declared.next.Next.{Next}
 use Rattle.abs_step.specs.declared.next.NextKind.{NextKind}
 use Rattle.abs_step.specs.declared.next.NextKind.TheVariants as kinds
 use Rattle.abs_step.proofs.KnownWrites.{inline_alikes, moves_writes}
-use Rattle.abs_step.proofs.OneCost.{one_cost}
 use Rattle.abs_step.proofs.TameInstructions.{IsTame}
 use Rattle.abs_step.proofs.TameMoves.{IsOne, are_tame, moves_pc, tame}
 
 -- what is known at the end of an instruction, which holds of its draft, and the successor made of it
-pub record End (g : GroundView) (c : ContextView) (a : AbsState) (instr : Instr) (main : Bool) (kind : NextKind) (entry : Entry) (before : Valuation) (words : List ℕ) (ws : List DataWrite) (nexts : List Next) : Type 0 where
+pub record End (g : GroundView) (c : ContextView) (a : AbsState) (instr : Instr) (main : Bool) (kind : NextKind) (entry : Entry) (before : Valuation) (words : List ℕ) (ws : List DataWrite) (ways : Bool → List Next) : Type 0 where
   pub known : AbsDraft
   pub fits : Fits g a known entry before (instr_draft c instr) words
   pub taken : Bool
-  pub listed : Contains nexts (next_of main instr taken kind known)
-  pub cost : t_of c instr ≡ cost_of instr taken
+  pub takes : (instr_draft c instr).taken ≡ taken
+  pub listed : Contains (ways taken) (next_of main instr taken kind known)
   -- an exit has no address
   pub one : (kind ≢ kinds.Exit) → IsOne known.pc
   pub writes : known.writes.items ≡ ws
+
+-- its T-states, and its place among the successors of the outcome
+pub end_costs : (g : GroundView) (c : ContextView) (a : AbsState) (instr : Instr) (main : Bool) (kind : NextKind) (entry : Entry) (before : Valuation) (words : List ℕ) (ws : List DataWrite) (ways : Bool → List Next)
+    → (e : End g c a instr main kind entry before words ws ways) → t_of c instr ≡ cost_of instr e.taken
+end_costs g c a instr main kind entry before words ws ways e = ap (cost_of instr) e.takes
+
+pub end_listed : (g : GroundView) (c : ContextView) (a : AbsState) (instr : Instr) (main : Bool) (kind : NextKind) (entry : Entry) (before : Valuation) (words : List ℕ) (ws : List DataWrite) (ways : Bool → List Next)
+    → (e : End g c a instr main kind entry before words ws ways) → Contains (ways (instr_draft c instr).taken) (next_of main instr e.taken kind e.known)
+end_listed g c a instr main kind entry before words ws ways e =
+    subst (λ (b : Bool). Contains (ways b) (next_of main instr e.taken kind e.known)) (sym e.takes) e.listed
 
 -- ---- small facts
 
@@ -89,19 +98,15 @@ jump_kind inline instr shape u =
     let q = or_false (is_call instr) (returns_if_taken instr) p.0 in
     jumps (is_call instr) (returns_if_taken instr) kinds.Jump q.0 q.1 inline (is_empty shape)
 
--- the first and the last of two successors
-pub first_way : (n : AbsDraft) (o : Option AbsDraft) (f h : AbsDraft → Next) → Contains (way_on (Some n) f ++ way_on o h) (f n)
-first_way n o f h = (0, omega arith, refl)
-
-pub last_way : (n : AbsDraft) (o : Option AbsDraft) (f h : AbsDraft → Next) → Contains (way_on o f ++ way_on (Some n) h) (h n)
-last_way n None f h = (0, omega arith, refl)
-last_way n (Some m) f h = (1, omega arith, refl)
+-- the successor of an outcome
+pub only_way : (n : AbsDraft) (f : AbsDraft → Next) → Contains (way_on (Some n) f) (f n)
+only_way n f = (0, omega arith, refl)
 
 -- ---- the successors
 
 module _ (g : GroundView) (c : ContextView) (a : AbsState) (instr : Instr) (main inline : Bool) (entry : Entry) (before : Valuation) (words : List ℕ) (address : ℕ) (io : is_io instr ≡ false) (start : Fits g a (known_before address instr a) entry before (draft_on (past (length (spelling instr)) c.state.regs)) words) (run : MayRun g (outside_of c) (known_before address instr a) (draft_on (past (length (spelling instr)) c.state.regs)) (moves_of instr)) where
   abbrev Ends : NextKind → Type 0
-  Ends kind = End g c a instr main kind entry before words (writes_of g address a (Ok instr)) (ways_on g main inline instr kind (test_of (moves_of instr)) (after_moves g inline (before_test (moves_of instr)) (known_before address instr a)))
+  Ends kind = End g c a instr main kind entry before words (writes_of g address a (Ok instr)) (way_by g main inline instr kind (test_of (moves_of instr)) (after_moves g inline (before_test (moves_of instr)) (known_before address instr a)))
 
   abbrev at_test : AbsDraft
   at_test = after_moves g inline (before_test (moves_of instr)) (known_before address instr a)
@@ -114,23 +119,22 @@ module _ (g : GroundView) (c : ContextView) (a : AbsState) (instr : Instr) (main
   straight_end kind accesses none one alike = record {
     known = at_test;
     fits = goes_straight g a (outside_of c) inline (moves_of instr) (known_before address instr a) entry before _ words run start accesses none;
-    taken = true;
-    listed = subst (λ (o : Option Test). Contains (ways_on g main inline instr kind o at_test) (next_of main instr true kind at_test)) (sym none) (0, omega arith, refl);
-    cost = sym (one_cost instr _ none io);
+    taken = false;
+    takes = moves_keep_taken (outside_of c) (moves_of instr) (draft_on (past (length (spelling instr)) c.state.regs)) none;
+    listed = subst (λ (o : Option Test). Contains (way_by g main inline instr kind o at_test false) (next_of main instr false kind at_test)) (sym none) (0, omega arith, refl);
     one = λ on. one;
     writes = writes_at alike;
   }
 
-  -- the list of a test's two successors
-  with_test : (kind : NextKind) (test : Test) (n : Next) → test_of (moves_of instr) ≡ Some test → Contains (ways_on g main inline instr kind (Some test) at_test) n
-      → Contains (ways_on g main inline instr kind (test_of (moves_of instr)) at_test) n
-  with_test kind test n is h = subst (λ (o : Option Test). Contains (ways_on g main inline instr kind o at_test) n) (sym is) h
+  -- the successors of one outcome of a test
+  with_test : (kind : NextKind) (test : Test) (taken : Bool) (n : Next) → test_of (moves_of instr) ≡ Some test → Contains (way_by g main inline instr kind (Some test) at_test taken) n
+      → Contains (way_by g main inline instr kind (test_of (moves_of instr)) at_test taken) n
+  with_test kind test taken n is h = subst (λ (o : Option Test). Contains (way_by g main inline instr kind o at_test taken) n) (sym is) h
 
   -- where the test did not hold
   pub left_end : (kind : NextKind) (test : Test) → test_of (moves_of instr) ≡ Some test → accesses_in (before_test (moves_of instr)) ≡ 0 → IsOne at_test.pc → at_test ≡ after_moves g true (before_test (moves_of instr)) (known_before address instr a)
-      → (instr_draft c instr).taken ≡ false → End g c a instr main kinds.Jump entry before words (writes_of g address a (Ok instr)) (ways_on g main inline instr kind (test_of (moves_of instr)) at_test)
+      → (instr_draft c instr).taken ≡ false → End g c a instr main kinds.Jump entry before words (writes_of g address a (Ok instr)) (way_by g main inline instr kind (test_of (moves_of instr)) at_test)
   left_end kind test is accesses one alike out =
-      let held_way : AbsDraft → Next = λ taken. next_of main instr true kind (after_moves g inline (behind_test (moves_of instr)) taken) in
       let left_way : AbsDraft → Next = λ left. next_of main instr false kinds.Jump left in
       let n = some_of _ _ (goes_left g a (outside_of c) inline (moves_of instr) (known_before address instr a) entry before _ words run start test is accesses out) in
       let rest = tested_leaves test false at_test n.known n.is in
@@ -138,8 +142,8 @@ module _ (g : GroundView) (c : ContextView) (a : AbsState) (instr : Instr) (main
         known = n.known;
         fits = n.holds;
         taken = false;
-        listed = with_test kind test _ is (subst (λ (o : Option AbsDraft). Contains (way_on (tested test true at_test) held_way ++ way_on o left_way) (next_of main instr false kinds.Jump n.known)) (sym n.is) (last_way n.known (tested test true at_test) held_way left_way));
-        cost = ap (cost_of instr) out;
+        takes = out;
+        listed = with_test kind test false _ is (subst (λ (o : Option AbsDraft). Contains (way_on o left_way) (next_of main instr false kinds.Jump n.known)) (sym n.is) (only_way n.known left_way));
         one = λ on. subst IsOne (sym rest.pc) one;
         writes = ap (λ w. w.items) rest.writes ∙ writes_at alike;
       }
@@ -149,15 +153,14 @@ module _ (g : GroundView) (c : ContextView) (a : AbsState) (instr : Instr) (main
       → (instr_draft c instr).taken ≡ true → Ends kind
   taken_end kind test is accesses behind one alike out =
       let held_way : AbsDraft → Next = λ taken. next_of main instr true kind (after_moves g inline (behind_test (moves_of instr)) taken) in
-      let left_way : AbsDraft → Next = λ left. next_of main instr false kinds.Jump left in
       let n = some_of _ _ (goes_taken g a (outside_of c) inline (moves_of instr) (known_before address instr a) entry before _ words run start test is accesses out) in
       let rest = tested_leaves test true at_test n.known n.is in
       record {
         known = after_moves g inline (behind_test (moves_of instr)) n.known;
         fits = n.holds;
         taken = true;
-        listed = with_test kind test _ is (subst (λ (o : Option AbsDraft). Contains (way_on o held_way ++ way_on (tested test false at_test) left_way) (next_of main instr true kind (after_moves g inline (behind_test (moves_of instr)) n.known))) (sym n.is) (first_way n.known (tested test false at_test) held_way left_way));
-        cost = ap (cost_of instr) out;
+        takes = out;
+        listed = with_test kind test true _ is (subst (λ (o : Option AbsDraft). Contains (way_on o held_way) (next_of main instr true kind (after_moves g inline (behind_test (moves_of instr)) n.known))) (sym n.is) (only_way n.known held_way));
         one = λ on. moves_pc g inline (behind_test (moves_of instr)) n.known behind (subst IsOne (sym rest.pc) one);
         writes = ap (λ w. w.items) (moves_writes g inline (behind_test (moves_of instr)) n.known (short instr).writes_first ∙ rest.writes) ∙ writes_at alike;
       }

@@ -31,8 +31,8 @@ use Rattle.abs_step.specs.Contained.{Goes, IsUnder, Running, seen_of}
 use Rattle.abs_step.specs.Successors.{next_of, stack_set, uses_stack}
 use Rattle.abs_step.specs.declared.next.Next.{Next}
 use Rattle.abs_step.specs.declared.next.NextKind.TheVariants as kinds
-use Rattle.abs_step.proofs.Asides.{End}
-use Rattle.abs_step.proofs.Here.{address_after, armed_after_all, here, holds_after, through_after}
+use Rattle.abs_step.proofs.Asides.{End, end_costs, end_listed}
+use Rattle.abs_step.proofs.Here.{address_after, armed_after_all, here, holds_after, moved_after, through_after}
 use Rattle.abs_step.proofs.Uses.{no_exchange, no_pop, no_push, stack_same}
 
 -- the mode and the armed cells after the known data writes hold of the board
@@ -58,8 +58,8 @@ misses_used map region s ws true [] entry (word ∷ words) under h holds low m =
 
 -- ---- how it goes
 
-module _ (g : GroundView) (s : BoardView) (env : Env) (a : AbsState) (instr : Instr) (main : Bool) (region : Region) (running : Running) (ws : List DataWrite) (nexts : List Next) (words : List ℕ) (sets : sets_sp instr ≡ false) (k : KeepsBoard g a ws (done (here g s env) instr)) (keeps : (a.mode ≢ Unset) → HasWords g.map region (done (here g s env) instr) (on_top words running.under)) where
-  pub goes_on : End g (here g s env) a instr main kinds.Jump running.entry (value_in (seen_of g.cells running.words s)) words ws nexts → Goes g.cells region running a instr nexts (here g s env)
+module _ (g : GroundView) (s : BoardView) (env : Env) (a : AbsState) (instr : Instr) (main : Bool) (region : Region) (running : Running) (ws : List DataWrite) (ways : Bool → List Next) (words : List ℕ) (sets : sets_sp instr ≡ false) (k : KeepsBoard g a ws (done (here g s env) instr)) (keeps : (a.mode ≢ Unset) → HasWords g.map region (done (here g s env) instr) (on_top words running.under)) where
+  pub goes_on : End g (here g s env) a instr main kinds.Jump running.entry (value_in (seen_of g.cells running.words s)) words ws ways → Goes g.cells region running a instr (ways (instr_draft (here g s env) instr).taken) (here g s env)
   goes_on e =
       let f = e.fits in
       let mode : HoldsMode (state_after_writes g e.known.writes.items a).mode (done (here g s env) instr).enable (done (here g s env) instr).line (done (here g s env) instr).latched =
@@ -70,8 +70,9 @@ module _ (g : GroundView) (s : BoardView) (env : Env) (a : AbsState) (instr : In
       let mode_is : (stack_set main instr e.known.state).mode ≡ (state_after_writes g ws a).mode = ap (λ (x : AbsState). x.mode) same ∙ (f.mode ∙ ap (λ xs. (state_after_writes g xs a).mode) e.writes) in
       record {
         next = next_of main instr e.taken kinds.Jump e.known;
-        listed = e.listed;
-        cost = e.cost;
+        listed = end_listed g (here g s env) a instr main kinds.Jump running.entry _ words ws ways e;
+        cost = end_costs g (here g s env) a instr main kinds.Jump running.entry _ words ws ways e;
+        takes = sym e.takes;
         stays = λ n. mode_is ∙ k.nmi n;
         arms = subst (λ (x : AbsState). a.armed ≤ x.armed) (sym same) (armed_after_all g a e.known f.armed);
         goes = record {
@@ -80,6 +81,7 @@ module _ (g : GroundView) (s : BoardView) (env : Env) (a : AbsState) (instr : In
           holds = subst (λ x. Holds x g.cells running.entry (seen_of g.cells words (done (here g s env) instr))) (sym same) (holds_after g s env a instr running e.known _ words f mode cells);
           laid = λ set. keeps (λ unset. set (mode_is ∙ k.unset unset));
           through = through_after g s env a instr running e.known words f;
+          moved = moved_after g s env a instr running e.known words f;
         };
       }
 

@@ -9,14 +9,13 @@ use Rattle.z80_decode.specs.declared.kinds.Condition.{Condition}
 use Rattle.z80_decode.specs.declared.kinds.RestartAddress.{RestartAddress}
 use Rattle.abs_draft.specs.AbsDraft.{last_slot}
 use Rattle.abs_laws.specs.Lists.{KeepsEffectAndShape, MayRun, marked}
-use Rattle.abs_laws.proofs.Ways.{goes_held}
+use Rattle.abs_laws.proofs.Ways.{goes_held, moves_keep_taken}
 use Rattle.abs_step.specs.declared.next.NextKind.{NextKind}
 use Rattle.z80_moves.specs.declared.moves.Test.TheVariants as tests
 use Rattle.intervals.specs.Domain.{Entry}
 use Rattle.loop_bounds.specs.Effect.{Valuation}
 use Rattle.stack_shape.specs.Shape.{HoldsShape}
 use Rattle.stack_shape.specs.declared.slot.Slot.{Slot}
-use Rattle.t_states.specs.Costs.{cost_of}
 use Rattle.z80_decode.specs.Spelling.{spelling}
 use Rattle.z80_decode.specs.declared.instr.Instr.{Instr}
 use Rattle.z80_decode.specs.declared.instr.Instr.TheVariants as instrs
@@ -38,15 +37,15 @@ use Rattle.board_step.specs.Step.{instr_draft}
 use Rattle.abs_state.specs.declared.state.AbsState.{AbsState}
 use Rattle.abs_draft.specs.Ground.{GroundView}
 use Rattle.abs_draft.specs.AfterMove.{after_move}
-use Rattle.abs_draft.specs.Outcomes.{after_moves, before_test, behind_test, known_before, test_of, tested}
+use Rattle.abs_draft.specs.Outcomes.{after_moves, before_test, behind_test, known_before, test_of}
 use Rattle.abs_draft.specs.declared.draft.AbsDraft.{AbsDraft}
 use Rattle.abs_laws.specs.Fits.{Fits, ReadsFit}
 use Rattle.abs_laws.proofs.AccessFreeMoves.{access_free_fits}
 use Rattle.abs_laws.proofs.StackMoves.{call_fits, exchange_fits, pop_fits, push_fits}
-use Rattle.abs_step.specs.Successors.{is_empty, next_of, way_on, ways_on, writes_of}
+use Rattle.abs_step.specs.Successors.{is_empty, next_of, way_by, way_on, writes_of}
 use Rattle.abs_step.specs.declared.next.Next.{Next}
 use Rattle.abs_step.specs.declared.next.NextKind.TheVariants as kinds
-use Rattle.abs_step.proofs.Asides.{End, Some_of, first_way, some_of, tested_leaves}
+use Rattle.abs_step.proofs.Asides.{End, Some_of, only_way, some_of, tested_leaves}
 use Rattle.abs_step.proofs.KnownWrites.{move_writes, moves_writes, push_writes}
 use Rattle.abs_step.proofs.TameMoves.{IsOne, exchange_pc, is_pc, pop_pc, push_pc}
 
@@ -103,7 +102,7 @@ module _ (g : GroundView) (c : ContextView) (a : AbsState) (main inline : Bool) 
   begin instr = draft_on (past (length (spelling instr)) c.state.regs)
 
   abbrev Ending : Instr → List ℕ → Type 0
-  Ending instr after = End g c a instr main kinds.Jump entry before after (writes_of g address a (Ok instr)) (ways_on g main inline instr kinds.Jump (test_of (moves_of instr)) (after_moves g inline (before_test (moves_of instr)) (known_before address instr a)))
+  Ending instr after = End g c a instr main kinds.Jump entry before after (writes_of g address a (Ok instr)) (way_by g main inline instr kinds.Jump (test_of (moves_of instr)) (after_moves g inline (before_test (moves_of instr)) (known_before address instr a)))
 
   pub push_end : (qq : StackPair) → length a.shape < 64 → Fits g a (known_before address (instrs.Push qq) a) entry before (begin (instrs.Push qq)) words → Ending (instrs.Push qq) (words ++ draft_word (stack_register qq) (begin (instrs.Push qq)) ∷ [])
   unfolding drafted test_of before_test after_moves
@@ -113,9 +112,9 @@ module _ (g : GroundView) (c : ContextView) (a : AbsState) (main inline : Bool) 
       record {
         known = after_move g inline (moves.Push w) k;
         fits = push_fits g a (outside_of c) k entry before (begin (instrs.Push qq)) inline words w (λ e. apart w _ (not_pc qq) e) refl room f;
-        taken = true;
+        taken = false;
+        takes = moves_keep_taken (outside_of c) (moves_of (instrs.Push qq)) (begin (instrs.Push qq)) refl;
         listed = (0, omega arith, refl);
-        cost = refl;
         one = λ on. subst IsOne (sym (push_pc g inline w k)) refl;
         writes = ap (λ ws. ws.items) (move_writes g inline (moves.Push w) k refl ∙ sym (move_writes g true (moves.Push w) k refl));
       }
@@ -128,9 +127,9 @@ module _ (g : GroundView) (c : ContextView) (a : AbsState) (main inline : Bool) 
       record {
         known = after_move g inline (moves.Pop w) k;
         fits = pop_fits g a (outside_of c) k entry before (begin (instrs.Pop qq)) inline rest word w small found f;
-        taken = true;
+        taken = false;
+        takes = moves_keep_taken (outside_of c) (moves_of (instrs.Pop qq)) (begin (instrs.Pop qq)) refl;
         listed = (0, omega arith, refl);
-        cost = refl;
         one = λ on. subst IsOne (sym (pop_pc g inline w k (not_pc qq))) refl;
         writes = ap (λ ws. ws.items) (move_writes g inline (moves.Pop w) k refl ∙ sym (move_writes g true (moves.Pop w) k refl));
       }
@@ -144,9 +143,9 @@ module _ (g : GroundView) (c : ContextView) (a : AbsState) (main inline : Bool) 
       record {
         known = after_move g inline (moves.ExchangeStack w) k;
         fits = exchange_fits g a (outside_of c) k entry before (begin (instrs.ExchangeStack p)) inline rest word w small found refl f;
-        taken = true;
+        taken = false;
+        takes = moves_keep_taken (outside_of c) (moves_of (instrs.ExchangeStack p)) (begin (instrs.ExchangeStack p)) refl;
         listed = (0, omega arith, refl);
-        cost = refl;
         one = λ on. subst IsOne (sym (exchange_pc g inline w k (pointer_not_pc p))) refl;
         writes = ap (λ ws. ws.items) (move_writes g inline (moves.ExchangeStack w) k refl ∙ sym (move_writes g true (moves.ExchangeStack w) k refl));
       }
@@ -191,7 +190,7 @@ module _ (g : GroundView) (c : ContextView) (a : AbsState) (main inline : Bool) 
   Known_of instr = known_before address instr a
 
   abbrev Out : Instr → NextKind → List ℕ → Type 0
-  Out instr kind after = End g c a instr main kind entry before after (writes_of g address a (Ok instr)) (ways_on g main inline instr kind (test_of (moves_of instr)) (after_moves g inline (before_test (moves_of instr)) (known_before address instr a)))
+  Out instr kind after = End g c a instr main kind entry before after (writes_of g address a (Ok instr)) (way_by g main inline instr kind (test_of (moves_of instr)) (after_moves g inline (before_test (moves_of instr)) (known_before address instr a)))
 
   abbrev Begun : Instr → Type 0
   Begun instr = Fits g a (known_before address instr a) entry before (first instr) words
@@ -204,12 +203,12 @@ module _ (g : GroundView) (c : ContextView) (a : AbsState) (main inline : Bool) 
   pub call_end : (nn : ℕ) (kind : NextKind) (after : List ℕ) → Fits g a (after_moves g inline (call_moves nn) (Known_of (instrs.Call nn))) entry before (drafted (outside_of c) (call_moves nn) (first (instrs.Call nn))) after → Out (instrs.Call nn) kind after
   unfolding test_of before_test after_moves after_move
   call_end nn kind after f =
-      record { known = after_moves g inline (call_moves nn) (Known_of (instrs.Call nn)); fits = f; taken = true; listed = (0, omega arith, refl); cost = refl; one = λ on. refl; writes = ap (λ ws. ws.items) (push_writes g inline registers.Pc (Known_of (instrs.Call nn)) ∙ sym (push_writes g true registers.Pc (Known_of (instrs.Call nn)))) }
+      record { known = after_moves g inline (call_moves nn) (Known_of (instrs.Call nn)); fits = f; taken = false; takes = moves_keep_taken (outside_of c) (moves_of (instrs.Call nn)) (first (instrs.Call nn)) refl; listed = (0, omega arith, refl); one = λ on. refl; writes = ap (λ ws. ws.items) (push_writes g inline registers.Pc (Known_of (instrs.Call nn)) ∙ sym (push_writes g true registers.Pc (Known_of (instrs.Call nn)))) }
 
   pub restart_end : (p : RestartAddress) (kind : NextKind) (after : List ℕ) → Fits g a (after_moves g inline (call_moves (8 * restart p)) (Known_of (instrs.Restart p))) entry before (drafted (outside_of c) (call_moves (8 * restart p)) (first (instrs.Restart p))) after → Out (instrs.Restart p) kind after
   unfolding test_of before_test after_moves after_move
   restart_end p kind after f =
-      record { known = after_moves g inline (call_moves (8 * restart p)) (Known_of (instrs.Restart p)); fits = f; taken = true; listed = (0, omega arith, refl); cost = refl; one = λ on. refl; writes = ap (λ ws. ws.items) (push_writes g inline registers.Pc (Known_of (instrs.Restart p)) ∙ sym (push_writes g true registers.Pc (Known_of (instrs.Restart p)))) }
+      record { known = after_moves g inline (call_moves (8 * restart p)) (Known_of (instrs.Restart p)); fits = f; taken = false; takes = moves_keep_taken (outside_of c) (moves_of (instrs.Restart p)) (first (instrs.Restart p)) refl; listed = (0, omega arith, refl); one = λ on. refl; writes = ap (λ ws. ws.items) (push_writes g inline registers.Pc (Known_of (instrs.Restart p)) ∙ sym (push_writes g true registers.Pc (Known_of (instrs.Restart p)))) }
 
   -- CALL cc, taken
   pub call_if_end : (condition : Condition) (nn : ℕ) (kind : NextKind) (after : List ℕ) → Runs (instrs.CallIf condition nn) → Begun (instrs.CallIf condition nn) → (instr_draft c (instrs.CallIf condition nn)).taken ≡ true
@@ -223,13 +222,12 @@ module _ (g : GroundView) (c : ContextView) (a : AbsState) (main inline : Bool) 
       let n = some_of _ _ h.0 in
       let rest = tested_leaves (tests.Flag condition) true (Known_of instr) n.known n.is in
       let held_way : AbsDraft → Next = λ taken. next_of main instr true kind (after_moves g inline (call_moves nn) taken) in
-      let left_way : AbsDraft → Next = λ left. next_of main instr false kinds.Jump left in
       record {
         known = after_moves g inline (call_moves nn) n.known;
         fits = subst (λ (x : DraftView). Fits g a (after_moves g inline (call_moves nn) n.known) entry before x after) (sym h.1) (go n.known n.holds.0.readable n.holds.1 n.holds.0);
         taken = true;
-        listed = subst (λ (o : Option AbsDraft). Contains (way_on o held_way ++ way_on (tested (tests.Flag condition) false (Known_of instr)) left_way) (next_of main instr true kind (after_moves g inline (call_moves nn) n.known))) (sym n.is) (first_way n.known (tested (tests.Flag condition) false (Known_of instr)) held_way left_way);
-        cost = ap (cost_of instr) out;
+        takes = out;
+        listed = subst (λ (o : Option AbsDraft). Contains (way_on o held_way) (next_of main instr true kind (after_moves g inline (call_moves nn) n.known))) (sym n.is) (only_way n.known held_way);
         one = λ on. refl;
         writes = ap (λ ws. ws.items) (moves_writes g inline (call_moves nn) n.known refl ∙ rest.writes);
       }
@@ -239,17 +237,17 @@ module _ (g : GroundView) (c : ContextView) (a : AbsState) (main inline : Bool) 
   pub return_end : (kind : NextKind) (after : List ℕ) → Fits g a (after_move g inline (moves.Pop registers.Pc) (Known_of instrs.Return)) entry before (instr_draft c instrs.Return) after → ((kind ≢ kinds.Exit) → IsOne (last_slot a.shape).pair.word) → Out instrs.Return kind after
   unfolding test_of before_test after_moves after_move
   return_end kind after f one =
-      record { known = after_move g inline (moves.Pop registers.Pc) (Known_of instrs.Return); fits = f; taken = true; listed = (0, omega arith, refl); cost = refl; one = one; writes = refl }
+      record { known = after_move g inline (moves.Pop registers.Pc) (Known_of instrs.Return); fits = f; taken = false; takes = moves_keep_taken (outside_of c) (moves_of instrs.Return) (first instrs.Return) refl; listed = (0, omega arith, refl); one = one; writes = refl }
 
   pub from_interrupt_end : (kind : NextKind) (after : List ℕ) → Fits g a (after_move g inline (moves.Pop registers.Pc) (Known_of instrs.ReturnFromInterrupt)) entry before (instr_draft c instrs.ReturnFromInterrupt) after → ((kind ≢ kinds.Exit) → IsOne (last_slot a.shape).pair.word) → Out instrs.ReturnFromInterrupt kind after
   unfolding test_of before_test after_moves after_move
   from_interrupt_end kind after f one =
-      record { known = after_move g inline (moves.Pop registers.Pc) (Known_of instrs.ReturnFromInterrupt); fits = f; taken = true; listed = (0, omega arith, refl); cost = refl; one = one; writes = refl }
+      record { known = after_move g inline (moves.Pop registers.Pc) (Known_of instrs.ReturnFromInterrupt); fits = f; taken = false; takes = moves_keep_taken (outside_of c) (moves_of instrs.ReturnFromInterrupt) (first instrs.ReturnFromInterrupt) refl; listed = (0, omega arith, refl); one = one; writes = refl }
 
   pub from_non_maskable_end : (kind : NextKind) (after : List ℕ) → Fits g a (after_move g inline (moves.Pop registers.Pc) (Known_of instrs.ReturnFromNonMaskable)) entry before (instr_draft c instrs.ReturnFromNonMaskable) after → ((kind ≢ kinds.Exit) → IsOne (last_slot a.shape).pair.word) → Out instrs.ReturnFromNonMaskable kind after
   unfolding test_of before_test after_moves after_move
   from_non_maskable_end kind after f one =
-      record { known = after_move g inline (moves.Pop registers.Pc) (Known_of instrs.ReturnFromNonMaskable); fits = f; taken = true; listed = (0, omega arith, refl); cost = refl; one = one; writes = refl }
+      record { known = after_move g inline (moves.Pop registers.Pc) (Known_of instrs.ReturnFromNonMaskable); fits = f; taken = false; takes = moves_keep_taken (outside_of c) (moves_of instrs.ReturnFromNonMaskable) (first instrs.ReturnFromNonMaskable) refl; listed = (0, omega arith, refl); one = one; writes = refl }
 
   -- RET cc, taken
   pub return_if_end : (condition : Condition) (kind : NextKind) (after : List ℕ) → Runs (instrs.ReturnIf condition) → Begun (instrs.ReturnIf condition) → (instr_draft c (instrs.ReturnIf condition)).taken ≡ true
@@ -264,13 +262,12 @@ module _ (g : GroundView) (c : ContextView) (a : AbsState) (main inline : Bool) 
       let n = some_of _ _ h.0 in
       let rest = tested_leaves (tests.Flag condition) true (Known_of instr) n.known n.is in
       let held_way : AbsDraft → Next = λ taken. next_of main instr true kind (after_move g inline (moves.Pop registers.Pc) taken) in
-      let left_way : AbsDraft → Next = λ left. next_of main instr false kinds.Jump left in
       record {
         known = after_move g inline (moves.Pop registers.Pc) n.known;
         fits = subst (λ (x : DraftView). Fits g a (after_move g inline (moves.Pop registers.Pc) n.known) entry before x after) (sym h.1) (go n.known n.holds.0);
         taken = true;
-        listed = subst (λ (o : Option AbsDraft). Contains (way_on o held_way ++ way_on (tested (tests.Flag condition) false (Known_of instr)) left_way) (next_of main instr true kind (after_move g inline (moves.Pop registers.Pc) n.known))) (sym n.is) (first_way n.known (tested (tests.Flag condition) false (Known_of instr)) held_way left_way);
-        cost = ap (cost_of instr) out;
+        takes = out;
+        listed = subst (λ (o : Option AbsDraft). Contains (way_on o held_way) (next_of main instr true kind (after_move g inline (moves.Pop registers.Pc) n.known))) (sym n.is) (only_way n.known held_way);
         one = λ on. slot_one a.shape n.known.state.shape n.holds.1.1 (single on);
         writes = ap (λ ws. ws.items) (move_writes g inline (moves.Pop registers.Pc) n.known refl ∙ rest.writes);
       }

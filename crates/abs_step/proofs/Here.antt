@@ -69,6 +69,15 @@ through_after g s env a instr running k words f v there =
     let same : value_in (seen_by_draft (instr_draft (here g s env) instr) words) v ≡ value_in (seen_of g.cells words (done (here g s env) instr)) v = value_same (seen_by_draft (instr_draft (here g s env) instr) words) (seen_of g.cells words (done (here g s env) instr)) (sym r.regs) refl v in
     subst (λ (n : ℕ). FollowsChange (change_of (settled k.state k.effect) v) (value_in (seen_of g.cells running.words s)) n) same (settled_follows g a k running.entry _ _ words f v there)
 
+-- and so by the effect without priority for constants
+pub moved_after : (g : GroundView) (s : BoardView) (env : Env) (a : AbsState) (instr : Instr) (running : Running) (k : AbsDraft) (words : List ℕ)
+    → Fits g a k running.entry (value_in (seen_of g.cells running.words s)) (instr_draft (here g s env) instr) words
+    → (v : Variable) → IsThere (length words) v → FollowsChange (change_of k.effect v) (value_in (seen_of g.cells running.words s)) (value_in (seen_of g.cells words (done (here g s env) instr)) v)
+moved_after g s env a instr running k words f v there =
+    let r = reaches g.map (instr_draft (here g s env) instr) s in
+    let same : value_in (seen_by_draft (instr_draft (here g s env) instr) words) v ≡ value_in (seen_of g.cells words (done (here g s env) instr)) v = value_same (seen_by_draft (instr_draft (here g s env) instr) words) (seen_of g.cells words (done (here g s env) instr)) (sym r.regs) refl v in
+    subst (λ (n : ℕ). FollowsChange (change_of k.effect v) (value_in (seen_of g.cells running.words s)) n) same (f.follows v there)
+
 -- its address is the program counter
 pub address_after : (g : GroundView) (s : BoardView) (env : Env) (a : AbsState) (instr : Instr) (running : Running) (k : AbsDraft) (before : Variable → ℕ) (words : List ℕ)
     → Fits g a k running.entry before (instr_draft (here g s env) instr) words → IsOne k.pc → (done (here g s env) instr).regs.pc ≡ k.pc.low

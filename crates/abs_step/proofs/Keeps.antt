@@ -1,7 +1,8 @@
 -- The instruction at a row does what `After` says.
-use Rattle.std.proofs.Common.{◌≡◌, ◌≢◌, ◌≤◌, ◌∙◌, ℕ, Bool, true, false, cond, List, [], length, Option, Some, None, Ok, refl, sym, ap, subst, inl, inr}
+use Rattle.std.proofs.Common.{◌≡◌, ◌≢◌, ◌≤◌, ◌<◌, ◌+◌, ◌++◌, ◌∙◌, ℕ, Bool, true, false, cond, List, [], length, Option, Some, None, Ok, refl, sym, ap, subst, inl, inr}
 use Rattle.std.specs.Prelude.{◌&&◌}
-use Rattle.std.specs.List.{AllZip}
+use Rattle.std.specs.List.{All, AllZip, Contains}
+use Rattle.std.proofs.lemmas.List.Elements.{All-contains, All-contains_itself, Contains-append_left, Contains-append_right}
 use Rattle.std.proofs.lemmas.Bool.{cases_Bool}
 use Rattle.z80_decode.specs.Spelling.{spelling}
 use Rattle.z80_decode.specs.declared.instr.Instr.{Instr}
@@ -20,16 +21,22 @@ use Rattle.board_step.specs.Hardware.{Hardware, hardware_of}
 use Rattle.board_step.specs.State.{BoardView}
 use Rattle.board_step.specs.Step.{instr_draft}
 use Rattle.board_step.specs.declared.env.Env.{Env}
+use Rattle.board_laws.specs.Region.{HasRoom}
 use Rattle.board_laws.specs.Uses.{sets_sp}
+use Rattle.abs_state.specs.Pairs.{HoldsPairs}
+use Rattle.z80_alu.specs.declared.regs.Regs.{Regs}
+use Rattle.z80_draft.specs.Registers.{IsRegs}
 use Rattle.board_laws.proofs.Brought.{reaches}
 use Rattle.abs_state.specs.Mode.{is_unset}
+use Rattle.abs_state.specs.declared.cell.KeptCell.{KeptCell}
 use Rattle.abs_state.specs.declared.state.AbsState.{AbsState}
+use Rattle.intervals.specs.Range.{Within}
 use Rattle.abs_draft.specs.Ground.{GroundView}
 use Rattle.abs_draft.specs.Outcomes.{before_test, known_before}
 use Rattle.abs_draft.specs.declared.data_write.DataWrite.{DataWrite}
 use Rattle.abs_laws.specs.Fits.{WriteLiesIn}
-use Rattle.abs_step.specs.Contained.{After, Before, IsInOrder, Keeps, Running, WritesAsKnown}
-use Rattle.abs_step.specs.Successors.{answer_by, answer_of, has_no_shape, jumps_anywhere, nexts_of, refusal, uses_stack, writes_of}
+use Rattle.abs_step.specs.Contained.{After, Before, IsInOrder, Keeps, KeepsByOutcome, OperandAsKnown, Running, WritesAsKnown}
+use Rattle.abs_step.specs.Successors.{answer_by, answer_of, has_no_shape, jumps_anywhere, nexts_by, nexts_of, operand_of, refusal, uses_stack, writes_of}
 use Rattle.abs_step.specs.declared.next.Next.{Next}
 use Rattle.abs_step.specs.declared.next.NextKind.TheVariants as kinds
 use Rattle.abs_step.specs.declared.reason.Reason.{Reason}
@@ -39,6 +46,7 @@ use Rattle.abs_step.proofs.KeepsAside.{aside_end, aside_goes, known_zip}
 use Rattle.abs_step.proofs.KeepsEach.{call_goes, call_if_goes, call_if_not_taken, from_interrupt_is, from_non_maskable_is, inline_call_goes, inline_call_if_goes, inline_restart_goes, restart_goes, return_if_is, return_if_not_taken, return_is, returns_goes}
 use Rattle.abs_step.proofs.KeepsStack.{exchange_goes, load_sp_goes, pop_goes, push_goes}
 use Rattle.abs_step.proofs.KnownWrites.{moves_writes}
+use Rattle.abs_step.proofs.Operands.{draft_is_small, operand_lies}
 use Rattle.abs_step.proofs.Scenes.{Done, Scene, Stage, is_clear, is_safe, tame_rest}
 use Rattle.abs_step.proofs.TameInstructions.{is_apart, tame_instr}
 use Rattle.abs_step.proofs.WritesAlike.{no_writes}
@@ -184,7 +192,7 @@ module _ (g : GroundView) (address : ℕ) (a : AbsState) (instr : Instr) (region
 -- ---- what an instruction keeps
 
 pub after_here : (g : GroundView) (address : ℕ) (main inline : Bool) (a : AbsState) (instr : Instr) (region : Region) (running : Running) (s : BoardView) (env : Env) → Scene g address main inline a instr region running s env
-    → After g.cells region running a instr (writes_of g address a (Ok instr)) (nexts_of g address main inline instr a) (here g s env)
+    → After g.cells region running a instr (writes_of g address a (Ok instr)) (nexts_by g address main inline instr a (instr_draft (here g s env) instr).taken) (here g s env)
 after_here g address main inline a instr region running s env x =
     let d = each_done g address main a region running s env inline instr x in
     let r = reaches g.map (instr_draft (here g s env) instr) s in
@@ -224,25 +232,78 @@ answered main inline a instr found nexts e =
     let u = not_first (jumps_anywhere instr a) _ _ r.1 in
     record { same = t.1; io = p.0; set = q.0; shape = r.0; jumps = u.0 }
 
-pub keeps : (g : GroundView) (address : ℕ) (main inline : Bool) (a : AbsState) (instr : Instr) (nexts : List Next) → length a.shape ≤ 64 → StandsAt g.rom address (Ok instr) → answer_of g address main inline a (Ok instr) ≡ Ok nexts → Keeps g address main a instr nexts
-keeps g address main inline a instr nexts fits stands e region running c hardware at is_main before order =
-    let t = answered main inline a instr (nexts_of g address main inline instr a) nexts e in
-    let all : (h : Hardware) → h ≡ hardware_of g.rom g.map → Before g.cells region running a (context_of h c.state c.env) → After g.cells region running a instr (writes_of g address a (Ok instr)) nexts (context_of h c.state c.env) = λ h is.
-    subst (λ k. Before g.cells region running a (context_of k c.state c.env) → After g.cells region running a instr (writes_of g address a (Ok instr)) nexts (context_of k c.state c.env)) (sym is) (λ b.
-    subst (λ ns. After g.cells region running a instr (writes_of g address a (Ok instr)) ns (here g c.state c.env)) t.same
-    (after_here g address main inline a instr region running c.state c.env (record {
+-- a row that is not refused keeps what it says, by the successors of the outcome alone
+pub keeps_by_outcome : (g : GroundView) (address : ℕ) (main inline : Bool) (a : AbsState) (instr : Instr) → length a.shape ≤ 64 → StandsAt g.rom address (Ok instr) → refusal main inline instr a ≡ None
+    → KeepsByOutcome g address main a instr (nexts_by g address main inline instr a)
+keeps_by_outcome g address main inline a instr fits stands none region running c hardware at is_main before order =
+    let found = nexts_of g address main inline instr a in
+    let t = answered main inline a instr found found (ap (λ (o : Option Reason). answer_by o found) none) in
+    let ways = nexts_by g address main inline instr a in
+    let ws = writes_of g address a (Ok instr) in
+    let all : (h : Hardware) → h ≡ hardware_of g.rom g.map → Before g.cells region running a (context_of h c.state c.env) → IsInOrder g region running a instr ws (ways (instr_draft (context_of h c.state c.env) instr).taken)
+    → After g.cells region running a instr ws (ways (instr_draft (context_of h c.state c.env) instr).taken) (context_of h c.state c.env) = λ h is.
+    subst (λ k. Before g.cells region running a (context_of k c.state c.env) → IsInOrder g region running a instr ws (ways (instr_draft (context_of k c.state c.env) instr).taken)
+    → After g.cells region running a instr ws (ways (instr_draft (context_of k c.state c.env) instr).taken) (context_of k c.state c.env)) (sym is) (λ b o.
+    after_here g address main inline a instr region running c.state c.env (record {
       at = at;
       is_main = is_main;
       stands = stands;
       before = b;
-      order = subst (λ ns. IsInOrder g region running a instr (writes_of g address a (Ok instr)) ns) (sym t.same) order;
+      order = o;
       fits = fits;
       io = t.io;
       set = t.set;
       shape = t.shape;
       jumps = t.jumps;
-    }))) in
-    all c.hardware hardware before
+    })) in
+    all c.hardware hardware before order
+
+-- ---- the successors of both outcomes
+
+all_by : {X : Type 0} (P : X → Type 0) (xs : List X) → ((x : X) → Contains xs x → P x) → All P xs
+all_by P xs f = λ k x within. f _ (All-contains_itself xs k x within)
+
+-- what holds of all successors holds of those of one outcome
+of_one : (P : Next → Type 0) (ways : Bool → List Next) (taken : Bool) → All P (ways true ++ ways false) → All P (ways taken)
+of_one P ways true h = all_by P (ways true) (λ n listed. All-contains P (ways true ++ ways false) n h (Contains-append_left (ways true) (ways false) n listed))
+of_one P ways false h = all_by P (ways false) (λ n listed. All-contains P (ways true ++ ways false) n h (Contains-append_right (ways true) (ways false) n listed))
+
+in_both : (ways : Bool → List Next) (taken : Bool) (n : Next) → Contains (ways taken) n → Contains (ways true ++ ways false) n
+in_both ways true n h = Contains-append_left (ways true) (ways false) n h
+in_both ways false n h = Contains-append_right (ways true) (ways false) n h
+
+pub order_of_one : (g : GroundView) (region : Region) (running : Running) (a : AbsState) (instr : Instr) (ws : List DataWrite) (ways : Bool → List Next) (taken : Bool)
+    → IsInOrder g region running a instr ws (ways true ++ ways false) → IsInOrder g region running a instr ws (ways taken)
+order_of_one g region running a instr ws ways taken o = record {
+  overwrites = o.overwrites;
+  enables = o.enables;
+  sets = o.sets;
+  keeps = o.keeps;
+  jumps = of_one (λ (n : Next). n.kind ≡ kinds.Jump → HasRoom region (length n.state.shape + length running.under)) ways taken o.jumps;
+  calls = of_one (λ (n : Next). n.kind ≡ kinds.Call → (regs : Regs) → IsRegs regs → HoldsPairs n.state.pairs running.entry regs → HasRoom region (1 + (length n.state.shape + length running.under))) ways taken o.calls;
+}
+
+pub after_both : (cells : List KeptCell) (region : Region) (running : Running) (a : AbsState) (instr : Instr) (ws : List DataWrite) (ways : Bool → List Next) (taken : Bool) (c : ContextView)
+    → After cells region running a instr ws (ways taken) c → After cells region running a instr ws (ways true ++ ways false) c
+after_both cells region running a instr ws ways taken c h =
+    let w = h.goes in
+    record {
+      goes = record { next = w.next; listed = in_both ways taken w.next w.listed; cost = w.cost; takes = w.takes; stays = w.stays; arms = w.arms; goes = w.goes };
+      safe = h.safe;
+      clear = h.clear;
+      keeps_i = h.keeps_i;
+      halts = h.halts;
+    }
+
+pub keeps : (g : GroundView) (address : ℕ) (main inline : Bool) (a : AbsState) (instr : Instr) (nexts : List Next) → length a.shape ≤ 64 → StandsAt g.rom address (Ok instr) → answer_of g address main inline a (Ok instr) ≡ Ok nexts → Keeps g address main a instr nexts
+keeps g address main inline a instr nexts fits stands e region running c hardware at is_main before order =
+    let ways = nexts_by g address main inline instr a in
+    let ws = writes_of g address a (Ok instr) in
+    let taken = (instr_draft c instr).taken in
+    let t = told (refusal main inline instr a) (nexts_of g address main inline instr a) nexts e in
+    let whole : IsInOrder g region running a instr ws (ways true ++ ways false) = subst (λ (ns : List Next). IsInOrder g region running a instr ws ns) (sym t.1) order in
+    let one = keeps_by_outcome g address main inline a instr fits stands t.0 region running c hardware at is_main before (order_of_one g region running a instr ws ways taken whole) in
+    subst (λ (ns : List Next). After g.cells region running a instr ws ns c) t.1 (after_both g.cells region running a instr ws ways taken c one)
 
 pub writes_as_known : (g : GroundView) (address : ℕ) (main inline : Bool) (a : AbsState) (instr : Instr) (nexts : List Next) → StandsAt g.rom address (Ok instr) → answer_of g address main inline a (Ok instr) ≡ Ok nexts → WritesAsKnown g address a instr
 writes_as_known g address main inline a instr nexts stands e region running c hardware at before =
@@ -250,4 +311,15 @@ writes_as_known g address main inline a instr nexts stands e region running c ha
     let all : (h : Hardware) → h ≡ hardware_of g.rom g.map → Before g.cells region running a (context_of h c.state c.env) → AllZip WriteLiesIn (writes_of g address a (Ok instr)) (instr_draft (context_of h c.state c.env) instr).writes = λ h is.
     subst (λ k. Before g.cells region running a (context_of k c.state c.env) → AllZip WriteLiesIn (writes_of g address a (Ok instr)) (instr_draft (context_of k c.state c.env) instr).writes) (sym is) (λ b.
     writes_known g address a instr region running c.state c.env (record { at = at; stands = stands; before = b; io = t.io; jumps = t.jumps })) in
+    all c.hardware hardware before
+
+pub operand_as_known : (g : GroundView) (address : ℕ) (inline : Bool) (a : AbsState) (instr : Instr) → StandsAt g.rom address (Ok instr) → OperandAsKnown g address inline a instr
+operand_as_known g address inline a instr stands region running c hardware at before =
+    let all : (h : Hardware) → h ≡ hardware_of g.rom g.map → Before g.cells region running a (context_of h c.state c.env)
+    → ((instr_draft (context_of h c.state c.env) instr).operand < 256) × Within (operand_of g address inline a instr) (instr_draft (context_of h c.state c.env) instr).operand = λ h is.
+    subst (λ k. Before g.cells region running a (context_of k c.state c.env)
+    → ((instr_draft (context_of k c.state c.env) instr).operand < 256) × Within (operand_of g address inline a instr) (instr_draft (context_of k c.state c.env) instr).operand) (sym is) (λ b.
+    let there : StandsAt g.rom c.state.regs.pc (Ok instr) = subst (λ (n : ℕ). StandsAt g.rom n (Ok instr)) (sym at) stands in
+    let small = draft_is_small (here g c.state c.env) instr (record { rom = b.rom; state = b.numbers; env = b.env }) there in
+    (small, operand_lies g address inline a instr region running c.state c.env at stands b small)) in
     all c.hardware hardware before

@@ -20,7 +20,7 @@ use Rattle.abs_draft.specs.Outcomes.{after_moves, before_test, known_before, tes
 use Rattle.abs_laws.specs.Fits.{WriteLiesIn}
 use Rattle.abs_laws.proofs.KnownWrites.{known_miss}
 use Rattle.abs_step.specs.Contained.{Running, seen_of}
-use Rattle.abs_step.specs.Successors.{next_kind_of, nexts_of, uses_stack, ways_on, writes_of}
+use Rattle.abs_step.specs.Successors.{next_kind_of, nexts_by, uses_stack, way_by, writes_of}
 use Rattle.abs_step.specs.declared.next.NextKind.{NextKind}
 use Rattle.abs_step.specs.declared.next.NextKind.TheVariants as kinds
 use Rattle.abs_step.proofs.Asides.{End, jump_kind, straight_end, tame_end}
@@ -42,7 +42,7 @@ not_not false e = absurd (cc)
 module _ (g : GroundView) (address : ℕ) (main inline : Bool) (a : AbsState) (region : Region) (running : Running) (s : BoardView) (env : Env) where
   -- the end, among the successors of an instruction of this kind
   abbrev AtEnd : Instr → NextKind → Type 0
-  AtEnd instr kind = End g (here g s env) a instr main kinds.Jump running.entry (value_in (seen_of g.cells running.words s)) running.words (writes_of g address a (Ok instr)) (ways_on g main inline instr kind (test_of (moves_of instr)) (after_moves g inline (before_test (moves_of instr)) (known_before address instr a)))
+  AtEnd instr kind = End g (here g s env) a instr main kinds.Jump running.entry (value_in (seen_of g.cells running.words s)) running.words (writes_of g address a (Ok instr)) (way_by g main inline instr kind (test_of (moves_of instr)) (after_moves g inline (before_test (moves_of instr)) (known_before address instr a)))
 
   apart_end : (instr : Instr) → is_apart instr ≡ true → Stage g address a instr region running s env → AtEnd instr kinds.Jump
   unfolding before_test test_of after_moves after_move
@@ -74,7 +74,7 @@ module _ (g : GroundView) (address : ℕ) (main inline : Bool) (a : AbsState) (r
       subst (AtEnd instr) (sym (jump_kind inline instr a.shape u)) jumping
 
   -- the data writes lie in the known ones
-  pub known_zip : (instr : Instr) (kind : NextKind) (words : List ℕ) → End g (here g s env) a instr main kind running.entry (value_in (seen_of g.cells running.words s)) words (writes_of g address a (Ok instr)) (nexts_of g address main inline instr a)
+  pub known_zip : (instr : Instr) (kind : NextKind) (words : List ℕ) → End g (here g s env) a instr main kind running.entry (value_in (seen_of g.cells running.words s)) words (writes_of g address a (Ok instr)) (nexts_by g address main inline instr a)
       → AllZip WriteLiesIn (writes_of g address a (Ok instr)) (instr_draft (here g s env) instr).writes
   known_zip instr kind words e = subst (λ ws. AllZip WriteLiesIn ws (instr_draft (here g s env) instr).writes) e.writes e.fits.writes
 
@@ -84,7 +84,7 @@ module _ (g : GroundView) (address : ℕ) (main inline : Bool) (a : AbsState) (r
       let e = aside_end instr u (stage_of g address main inline a instr region running s env x) in
       let zip = known_zip instr kinds.Jump running.words e in
       let inside = aside_inside region (here g s env) instr u in (
-        goes_on g s env a instr main region running (writes_of g address a (Ok instr)) (nexts_of g address main inline instr a) running.words sets (keeps_board g address main inline a instr region running s env x zip inside)
+        goes_on g s env a instr main region running (writes_of g address a (Ok instr)) (nexts_by g address main inline instr a) running.words sets (keeps_board g address main inline a instr region running s env x zip inside)
             (λ set. aside_keeps g s env a instr region running u sets x.before.holds.shape x.before.under (λ not. known_miss g.map region _ _ (x.order.overwrites not) zip) (x.before.laid set)) e,
         record { zip = zip; inside = inside },
       )

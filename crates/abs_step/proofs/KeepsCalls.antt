@@ -32,12 +32,12 @@ use Rattle.abs_laws.specs.Cells.{bytes_of_cells}
 use Rattle.abs_laws.specs.Fits.{state_after_writes}
 use Rattle.abs_laws.proofs.Enables.{enable_stays, set_stays}
 use Rattle.abs_step.specs.Contained.{IsUnder, Running, SameRegs, seen_of}
-use Rattle.abs_step.specs.Successors.{next_of, nexts_of, stack_set, uses_stack, writes_of}
+use Rattle.abs_step.specs.Successors.{next_of, nexts_by, stack_set, uses_stack, writes_of}
 use Rattle.abs_step.specs.declared.next.NextKind.{NextKind}
 use Rattle.abs_step.specs.declared.next.NextKind.TheVariants as kinds
-use Rattle.abs_step.proofs.Asides.{End}
+use Rattle.abs_step.proofs.Asides.{End, end_costs, end_listed}
 use Rattle.abs_step.proofs.GoesStack.{as_many}
-use Rattle.abs_step.proofs.Here.{address_after, armed_after_all, here, holds_after, through_after}
+use Rattle.abs_step.proofs.Here.{address_after, armed_after_all, here, holds_after, moved_after, through_after}
 use Rattle.abs_step.proofs.KeepsAside.{known_zip}
 use Rattle.abs_step.proofs.KeepsStack.{is_set}
 use Rattle.abs_step.proofs.Scenes.{Done, Scene, all_at, keeps_board, trap_inside}
@@ -61,7 +61,7 @@ under_is true under e h = absurd (cc)
 
 module _ (g : GroundView) (address : ℕ) (main inline : Bool) (a : AbsState) (region : Region) (running : Running) (s : BoardView) (env : Env) where
   abbrev Ends : Instr → NextKind → List ℕ → Type 0
-  Ends instr kind words = End g (here g s env) a instr main kind running.entry (value_in (seen_of g.cells running.words s)) words (writes_of g address a (Ok instr)) (nexts_of g address main inline instr a)
+  Ends instr kind words = End g (here g s env) a instr main kind running.entry (value_in (seen_of g.cells running.words s)) words (writes_of g address a (Ok instr)) (nexts_by g address main inline instr a)
 
   -- the mode and the state of a successor that neither sets SP nor writes data
   pub record Kept (instr : Instr) (kind : NextKind) (words : List ℕ) (e : Ends instr kind words) : Type 0 where
@@ -105,7 +105,7 @@ module _ (g : GroundView) (address : ℕ) (main inline : Bool) (a : AbsState) (r
       let n = next_of main instr e.taken kinds.Call e.known in
       let set = is_set a (uses_stack instr) u x.set in
       let h = x.before.laid set in
-      let room : HasRoom region (1 + (length n.state.shape + length running.under)) = all_at (λ n. n.kind ≡ kinds.Call → (regs : Regs) → IsRegs regs → HoldsPairs n.state.pairs running.entry regs → HasRoom region (1 + (length n.state.shape + length running.under))) _ n x.order.calls e.listed refl
+      let room : HasRoom region (1 + (length n.state.shape + length running.under)) = all_at (λ n. n.kind ≡ kinds.Call → (regs : Regs) → IsRegs regs → HoldsPairs n.state.pairs running.entry regs → HasRoom region (1 + (length n.state.shape + length running.under))) _ n x.order.calls (end_listed g (here g s env) a instr main kinds.Call running.entry _ running.words _ (nexts_by g address main inline instr a) e) refl
       (instr_draft (here g s env) instr).regs e.fits.regs (subst (λ (y : AbsState). HoldsPairs y.pairs running.entry (instr_draft (here g s env) instr).regs) (sym (stack_same main instr e.known.state sets)) e.fits.pairs) in
       let shape : length n.state.shape ≡ length e.known.state.shape = ap (λ (y : AbsState). length y.shape) (stack_same main instr e.known.state sets) in
       let many : length running.words ≡ length e.known.state.shape = as_many _ _ _ e.fits.shape in
@@ -114,8 +114,9 @@ module _ (g : GroundView) (address : ℕ) (main inline : Bool) (a : AbsState) (r
       let k = kept instr kinds.Call running.words sets x e (trap_inside region (here g s env) instr x.io d.trap) spared in (
         record {
           next = n;
-          listed = e.listed;
-          cost = e.cost;
+          listed = end_listed g (here g s env) a instr main kinds.Call running.entry _ running.words _ (nexts_by g address main inline instr a) e;
+          cost = end_costs g (here g s env) a instr main kinds.Call running.entry _ running.words _ (nexts_by g address main inline instr a) e;
+          takes = sym e.takes;
           stays = k.nmi;
           arms = k.arms;
           goes = record {
@@ -125,6 +126,7 @@ module _ (g : GroundView) (address : ℕ) (main inline : Bool) (a : AbsState) (r
             enable = k.enable;
             holds = k.holds;
             through = through_after g s env a instr running e.known running.words e.fits;
+            moved = moved_after g s env a instr running e.known running.words e.fits;
             laid = subst (λ w. HasWords g.map region (done (here g s env) instr) (w ∷ on_top running.words running.under)) word d.has;
           };
         },
@@ -148,8 +150,9 @@ module _ (g : GroundView) (address : ℕ) (main inline : Bool) (a : AbsState) (r
       let pc : (done (here g s env) instr).regs.pc ≡ low.word = ap (λ y. y.pc) r.regs ∙ popped in (
         record {
           next = next_of main instr e.taken kinds.Exit e.known;
-          listed = e.listed;
-          cost = e.cost;
+          listed = end_listed g (here g s env) a instr main kinds.Exit running.entry _ [] _ (nexts_by g address main inline instr a) e;
+          cost = end_costs g (here g s env) a instr main kinds.Exit running.entry _ [] _ (nexts_by g address main inline instr a) e;
+          takes = sym e.takes;
           stays = k.nmi;
           arms = k.arms;
           goes = record {

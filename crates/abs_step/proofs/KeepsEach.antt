@@ -41,7 +41,7 @@ use Rattle.abs_laws.proofs.KnownWrites.{known_miss}
 use Rattle.abs_laws.proofs.Reading.{word_is_read}
 use Rattle.abs_laws.proofs.StackMoves.{pop_fits, return_fits}
 use Rattle.abs_step.specs.Contained.{Running, seen_of}
-use Rattle.abs_step.specs.Successors.{is_empty, next_kind_of, nexts_of, returns_nowhere, uses_stack, ways_on, writes_of}
+use Rattle.abs_step.specs.Successors.{is_empty, next_kind_of, nexts_by, returns_nowhere, uses_stack, way_by, writes_of}
 use Rattle.abs_step.specs.declared.next.NextKind.{NextKind}
 use Rattle.abs_step.specs.declared.next.NextKind.TheVariants as kinds
 use Rattle.abs_step.proofs.Asides.{End, left_end}
@@ -85,7 +85,7 @@ module _ (g : GroundView) (address : ℕ) (main : Bool) (a : AbsState) (region :
 
   -- an inline call pushes a word of the activation's own
   inline_goes : (instr : Instr) (word : ℕ) → sets_sp instr ≡ false → uses_stack instr ≡ true → (x : Scene_of true instr)
-      → (e : End g (here g s env) a instr main kinds.Jump running.entry (value_in (seen_of g.cells running.words s)) (running.words ++ word ∷ []) (writes_of g address a (Ok instr)) (nexts_of g address main true instr a))
+      → (e : End g (here g s env) a instr main kinds.Jump running.entry (value_in (seen_of g.cells running.words s)) (running.words ++ word ∷ []) (writes_of g address a (Ok instr)) (nexts_by g address main true instr a))
       → is_push instr (instr_draft (here g s env) instr).taken ≡ true → pushed_word s.regs instr ≡ word → GoesAt true instr
   inline_goes instr word sets u x e pushes is =
       let h = x.before.laid (is_set a (uses_stack instr) u x.set) in
@@ -131,7 +131,7 @@ module _ (g : GroundView) (address : ℕ) (main : Bool) (a : AbsState) (region :
   call_if_goes condition nn x out =
       let instr = instrs.CallIf condition nn in
       let b = begun g address a instr region running s env x.at x.stands x.before in
-      let e : End g (here g s env) a instr main kinds.Call running.entry (value_in (seen_of g.cells running.words s)) running.words (writes_of g address a (Ok instr)) (nexts_of g address main false instr a) =
+      let e : End g (here g s env) a instr main kinds.Call running.entry (value_in (seen_of g.cells running.words s)) running.words (writes_of g address a (Ok instr)) (nexts_by g address main false instr a) =
       call_if_end g (here g s env) a main false running.entry (value_in (seen_of g.cells running.words s)) running.words address condition nn kinds.Call running.words b.run b.start out
       (λ n readable kept f. called_fits g a (outside_of (here g s env)) n running.entry (value_in (seen_of g.cells running.words s)) _ running.words nn b.run.in_range.1.1.0 (omega arith) (subst (ReadsFit g (outside_of (here g s env))) (sym readable) b.run.reads) f) in
       called_goes g address main false a region running s env instr refl refl x e out refl (call_if_spares condition nn)
@@ -143,21 +143,21 @@ module _ (g : GroundView) (address : ℕ) (main : Bool) (a : AbsState) (region :
       let b = begun g address a instr region running s env x.at x.stands x.before in
       let few : length a.shape < 64 = has_room (length a.shape) x.fits (and_true _ (or_false _ _ x.shape).0) in
       let word = (s.regs.pc + length (spelling instr)) % 65536 in
-      let e : End g (here g s env) a instr main kinds.Jump running.entry (value_in (seen_of g.cells running.words s)) (running.words ++ word ∷ []) (writes_of g address a (Ok instr)) (nexts_of g address main true instr a) =
+      let e : End g (here g s env) a instr main kinds.Jump running.entry (value_in (seen_of g.cells running.words s)) (running.words ++ word ∷ []) (writes_of g address a (Ok instr)) (nexts_by g address main true instr a) =
       call_if_end g (here g s env) a main true running.entry (value_in (seen_of g.cells running.words s)) running.words address condition nn kinds.Jump (running.words ++ word ∷ []) b.run b.start out
       (λ n readable kept f. inlined_fits g a (outside_of (here g s env)) n running.entry (value_in (seen_of g.cells running.words s)) _ running.words nn b.run.in_range.1.1.0 (omega arith) (subst (ReadsFit g (outside_of (here g s env))) (sym readable) b.run.reads) f (ap (λ y. y.slot) kept.0) (subst (λ slots. length slots < 64) (sym kept.1) few)) in
       inline_goes instr word refl refl x e out refl
 
   -- CALL cc and RET cc, not taken: the words stay
   pub not_taken_goes : (inline : Bool) (instr : Instr) → sets_sp instr ≡ false → uses_stack instr ≡ true → is_aside instr (instr_draft (here g s env) instr).taken ≡ true → (x : Scene_of inline instr)
-      → End g (here g s env) a instr main kinds.Jump running.entry (value_in (seen_of g.cells running.words s)) running.words (writes_of g address a (Ok instr)) (nexts_of g address main inline instr a) → GoesAt inline instr
+      → End g (here g s env) a instr main kinds.Jump running.entry (value_in (seen_of g.cells running.words s)) running.words (writes_of g address a (Ok instr)) (nexts_by g address main inline instr a) → GoesAt inline instr
   not_taken_goes inline instr sets u aside x e =
       let zip = known_zip g address main inline a region running s env instr kinds.Jump running.words e in
       let h = x.before.laid (is_set a (uses_stack instr) u x.set) in
       let misses = misses_used g.map region s (instr_draft (here g s env) instr).writes running.main a.shape running.entry running.words running.under h x.before.holds.shape x.before.under (λ not. known_miss g.map region _ _ (x.order.overwrites not) zip) in
       let d = aside_done (here g s env) region instr (on_top running.words running.under) h misses aside in
       let inside : some_outside region (instr_draft (here g s env) instr).stack ≡ false = ap (some_outside region) d.0 in
-      (goes_on g s env a instr main region running (writes_of g address a (Ok instr)) (nexts_of g address main inline instr a) running.words sets (keeps_board g address main inline a instr region running s env x zip inside) (λ set. d.1) e, record { zip = zip; inside = inside })
+      (goes_on g s env a instr main region running (writes_of g address a (Ok instr)) (nexts_by g address main inline instr a) running.words sets (keeps_board g address main inline a instr region running s env x zip inside) (λ set. d.1) e, record { zip = zip; inside = inside })
 
   pub call_if_not_taken : (inline : Bool) (condition : Condition) (nn : ℕ) → Scene_of inline (instrs.CallIf condition nn) → (instr_draft (here g s env) (instrs.CallIf condition nn)).taken ≡ false → GoesAt inline (instrs.CallIf condition nn)
   unfolding before_test test_of after_moves
@@ -177,7 +177,7 @@ module _ (g : GroundView) (address : ℕ) (main : Bool) (a : AbsState) (region :
 
   -- the end of a return, among its successors
   abbrev Ending : Bool → Instr → NextKind → NextKind → List ℕ → Type 0
-  Ending inline instr among kind words = End g (here g s env) a instr main kind running.entry (value_in (seen_of g.cells running.words s)) words (writes_of g address a (Ok instr)) (ways_on g main inline instr among (test_of (moves_of instr)) (after_moves g inline (before_test (moves_of instr)) (known_before address instr a)))
+  Ending inline instr among kind words = End g (here g s env) a instr main kind running.entry (value_in (seen_of g.cells running.words s)) words (writes_of g address a (Ok instr)) (way_by g main inline instr among (test_of (moves_of instr)) (after_moves g inline (before_test (moves_of instr)) (known_before address instr a)))
 
   -- what a return needs: its kind by the shape, and its two ends
   pub record Returns (inline : Bool) (instr : Instr) : Type 0 where

@@ -43,13 +43,13 @@ use Rattle.abs_laws.specs.Cells.{bytes_of_cells}
 use Rattle.abs_laws.specs.Fits.{Fits, FollowsChange, IsThere, state_after_writes}
 use Rattle.abs_laws.proofs.Reading.{word_is_read}
 use Rattle.abs_step.specs.Contained.{IsUnder, Running, seen_of}
-use Rattle.abs_step.specs.Successors.{is_empty, mode_set, next_of, nexts_of, stack_set, uses_stack, writes_of}
+use Rattle.abs_step.specs.Successors.{is_empty, mode_set, next_of, nexts_by, stack_set, uses_stack, writes_of}
 use Rattle.abs_step.specs.declared.next.NextKind.{NextKind}
 use Rattle.abs_step.specs.declared.next.NextKind.TheVariants as kinds
-use Rattle.abs_step.proofs.Asides.{End}
+use Rattle.abs_step.proofs.Asides.{End, end_costs, end_listed}
 use Rattle.abs_step.proofs.GoesAside.{goes_on}
 use Rattle.abs_step.proofs.GoesStack.{EndsIn, as_many, ends_in, exchange_end, pop_end, push_end}
-use Rattle.abs_step.proofs.Here.{IsBegun, address_after, armed_after_all, begun, here, holds_after, through_after}
+use Rattle.abs_step.proofs.Here.{IsBegun, address_after, armed_after_all, begun, here, holds_after, moved_after, through_after}
 use Rattle.abs_step.proofs.KeepsAside.{aside_end, known_zip}
 use Rattle.abs_step.proofs.Scenes.{Done, Scene, all_at, aside_inside, keeps_board, stage_of, trap_inside}
 use Rattle.abs_step.proofs.Uses.{stack_same}
@@ -91,7 +91,7 @@ module _ (g : GroundView) (address : ℕ) (main inline : Bool) (a : AbsState) (r
   load_sp_goes is_main x =
       let instr = instrs.LoadPair Sp region.top in
       let new = done (here g s env) instr in
-      let e : End g (here g s env) a instr main kinds.Jump running.entry (value_in (seen_of g.cells running.words s)) running.words (writes_of g address a (Ok instr)) (nexts_of g address main inline instr a) = aside_end g address main inline a region running s env instr refl (stage_of g address main inline a instr region running s env x) in
+      let e : End g (here g s env) a instr main kinds.Jump running.entry (value_in (seen_of g.cells running.words s)) running.words (writes_of g address a (Ok instr)) (nexts_by g address main inline instr a) = aside_end g address main inline a region running s env instr refl (stage_of g address main inline a instr region running s env x) in
       let zip = known_zip g address main inline a region running s env instr kinds.Jump running.words e in
       let k = keeps_board g address main inline a instr region running s env x zip (aside_inside region (here g s env) instr refl) in
       let f = e.fits in
@@ -104,8 +104,9 @@ module _ (g : GroundView) (address : ℕ) (main inline : Bool) (a : AbsState) (r
       record { mode = set_holds e.known.state.mode new.enable new.line new.latched h.mode; cells_hold = h.cells_hold; pairs = h.pairs; flag = h.flag; shape = tt } in (
         record {
           next = next_of main instr e.taken kinds.Jump e.known;
-          listed = e.listed;
-          cost = e.cost;
+          listed = end_listed g (here g s env) a instr main kinds.Jump running.entry _ running.words _ (nexts_by g address main inline instr a) e;
+          cost = end_costs g (here g s env) a instr main kinds.Jump running.entry _ running.words _ (nexts_by g address main inline instr a) e;
+          takes = sym e.takes;
           stays = λ n. ap (λ (y : AbsState). y.mode) set ∙ set_nmi e.known.state.mode (f.mode ∙ (ap (λ ws. (state_after_writes g ws a).mode) e.writes ∙ k.nmi n));
           arms = subst (λ (y : AbsState). a.armed ≤ y.armed) (sym set) (armed_after_all g a e.known f.armed);
           goes = record {
@@ -114,6 +115,7 @@ module _ (g : GroundView) (address : ℕ) (main inline : Bool) (a : AbsState) (r
             holds = subst (λ y. Holds y g.cells running.entry (seen_of g.cells [] new)) (sym set) held;
             laid = λ is_set. subst (λ ws. HasWords g.map region new ws) (sym under) (load_sp_done (here g s env) region x.before.is_region x.before.numbers.work.size);
             through = by_registers (settled e.known.state e.known.effect) (value_in (seen_of g.cells running.words s)) (seen_of g.cells running.words new) (seen_of g.cells [] new) (length running.words) refl (through_after g s env a instr running e.known running.words f);
+            moved = by_registers e.known.effect (value_in (seen_of g.cells running.words s)) (seen_of g.cells running.words new) (seen_of g.cells [] new) (length running.words) refl (moved_after g s env a instr running e.known running.words f);
           };
         },
         record { zip = zip; inside = aside_inside region (here g s env) instr refl },
@@ -158,7 +160,7 @@ pointer_word pointers.Iy n regs = refl
 
 module _ (g : GroundView) (address : ℕ) (main inline : Bool) (a : AbsState) (region : Region) (running : Running) (s : BoardView) (env : Env) where
   abbrev Ends : Instr → NextKind → List ℕ → Type 0
-  Ends instr kind words = End g (here g s env) a instr main kind running.entry (value_in (seen_of g.cells running.words s)) words (writes_of g address a (Ok instr)) (nexts_of g address main inline instr a)
+  Ends instr kind words = End g (here g s env) a instr main kind running.entry (value_in (seen_of g.cells running.words s)) words (writes_of g address a (Ok instr)) (nexts_by g address main inline instr a)
 
   -- what is known before the first move holds, with these words on the stack
   abbrev StartsWith : Instr → List ℕ → Type 0
@@ -171,7 +173,7 @@ module _ (g : GroundView) (address : ℕ) (main inline : Bool) (a : AbsState) (r
   pub jump_room : (instr : Instr) (words : List ℕ) → sets_sp instr ≡ false → Scene g address main inline a instr region running s env → Ends instr kinds.Jump words → HasRoom region (length words + length running.under)
   jump_room instr words sets x e =
       let n = next_of main instr e.taken kinds.Jump e.known in
-      let room : HasRoom region (length n.state.shape + length running.under) = all_at (λ n. n.kind ≡ kinds.Jump → HasRoom region (length n.state.shape + length running.under)) _ n x.order.jumps e.listed refl in
+      let room : HasRoom region (length n.state.shape + length running.under) = all_at (λ n. n.kind ≡ kinds.Jump → HasRoom region (length n.state.shape + length running.under)) _ n x.order.jumps (end_listed g (here g s env) a instr main kinds.Jump running.entry _ words _ (nexts_by g address main inline instr a) e) refl in
       let same : length n.state.shape ≡ length e.known.state.shape = ap (λ (y : AbsState). length y.shape) (stack_same main instr e.known.state sets) in
       let many : length words ≡ length e.known.state.shape = as_many _ _ _ e.fits.shape in
       subst (λ (k : ℕ). HasRoom region (k + length running.under)) (same ∙ sym many) room
@@ -181,7 +183,7 @@ module _ (g : GroundView) (address : ℕ) (main inline : Bool) (a : AbsState) (r
   stack_goes instr words sets x e d =
       let zip = known_zip g address main inline a region running s env instr kinds.Jump words e in
       let inside = trap_inside region (here g s env) instr x.io d.trap in
-      (goes_on g s env a instr main region running (writes_of g address a (Ok instr)) (nexts_of g address main inline instr a) words sets (keeps_board g address main inline a instr region running s env x zip inside) (λ set. d.has) e, record { zip = zip; inside = inside })
+      (goes_on g s env a instr main region running (writes_of g address a (Ok instr)) (nexts_by g address main inline instr a) words sets (keeps_board g address main inline a instr region running s env x zip inside) (λ set. d.has) e, record { zip = zip; inside = inside })
 
   pub push_goes : (qq : StackPair) → Scene g address main inline a (instrs.Push qq) region running s env → Done g address main inline a (instrs.Push qq) region running s env
   push_goes qq x =

@@ -9,7 +9,7 @@ pub mod KeepsCalls
 pub mod KeepsEach
 pub mod KeepsStack
 pub mod KnownWrites
-pub mod OneCost
+pub mod Operands
 pub mod Scenes
 pub mod TameInstructions
 pub mod TameMoves

@@ -36,7 +36,7 @@ use Rattle.abs_laws.proofs.Enables.{enable_stays_clear, mode_holds, nmi_stays, u
 use Rattle.abs_laws.proofs.KnownWrites.{known_taken}
 use Rattle.abs_laws.proofs.Lists.{parts_of_list, with_test, without_test}
 use Rattle.abs_step.specs.Contained.{Before, Goes, IsInOrder, Running}
-use Rattle.abs_step.specs.Successors.{has_no_shape, jumps_anywhere, nexts_of, uses_stack, writes_of}
+use Rattle.abs_step.specs.Successors.{has_no_shape, jumps_anywhere, nexts_by, uses_stack, writes_of}
 use Rattle.abs_step.proofs.GoesAside.{KeepsBoard}
 use Rattle.abs_step.proofs.Here.{here}
 use Rattle.abs_step.proofs.TameInstructions.{IsTame, is_apart, tame_instr}
@@ -48,7 +48,7 @@ pub record Scene (g : GroundView) (address : ℕ) (main inline : Bool) (a : AbsS
   pub is_main : running.main ≡ main
   pub stands : StandsAt g.rom address (Ok instr)
   pub before : Before g.cells region running a (here g s env)
-  pub order : IsInOrder g region running a instr (writes_of g address a (Ok instr)) (nexts_of g address main inline instr a)
+  pub order : IsInOrder g region running a instr (writes_of g address a (Ok instr)) (nexts_by g address main inline instr a (instr_draft (here g s env) instr).taken)
   pub fits : length a.shape ≤ 64
   pub io : is_io instr ≡ false
   pub set : (uses_stack instr && is_unset a.mode) ≡ false
@@ -75,7 +75,7 @@ pub record Reaches (g : GroundView) (address : ℕ) (a : AbsState) (instr : Inst
 -- the instruction does what one of its successors says, and its draft reaches the board
 abbrev pub Done : GroundView → ℕ → Bool → Bool → AbsState → Instr → Region → Running → BoardView → Env → Type 0
 Done g address main inline a instr region running s env =
-    Goes g.cells region running a instr (nexts_of g address main inline instr a) (here g s env) × Reaches g address a instr region s env
+    Goes g.cells region running a instr (nexts_by g address main inline instr a (instr_draft (here g s env) instr).taken) (here g s env) × Reaches g address a instr region s env
 
 -- what holds of all members of a list holds of each
 pub all_at : {X : Type 0} (P : X → Type 0) (xs : List X) (x : X) → All P xs → Contains xs x → P x

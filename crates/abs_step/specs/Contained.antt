@@ -1,11 +1,13 @@
 -- What an instruction does to a board that a row describes, where no reason applies to the row (docs/CHECKER.md, "What
 -- a step keeps").
-use Rattle.std.specs.Prelude.{ℕ, ◌+◌, ◌%◌, ◌≤◌, ◌≡◌, ◌≢◌, Bool, true, false, None, Ok, List, [], ◌∷◌, length}
+use Rattle.std.specs.Prelude.{ℕ, ◌+◌, ◌%◌, ◌≤◌, ◌<◌, ◌≡◌, ◌≢◌, Bool, true, false, None, Ok, List, [], ◌∷◌, length}
 use Rattle.std.specs.List.{All, AllZip, Contains}
 use Rattle.address_map.specs.AddressMap.{MapView}
 use Rattle.address_map.specs.declared.region.Region.{Region}
 use Rattle.intervals.specs.Domain.{Entry}
+use Rattle.intervals.specs.Range.{Within}
 use Rattle.loop_bounds.specs.Effect.{change_of}
+use Rattle.loop_bounds.specs.declared.effect.Effect.{Effect}
 use Rattle.loop_bounds.specs.declared.variable.Variable.{Variable}
 use Rattle.z80_alu.specs.declared.regs.Regs.{Regs}
 use Rattle.z80_decode.specs.Spelling.{spelling}
@@ -37,7 +39,7 @@ use Rattle.abs_draft.specs.declared.data_write.DataWrite.{DataWrite}
 use Rattle.abs_laws.specs.Cells.{bytes_of_cells}
 use Rattle.abs_laws.specs.Fits.{FollowsChange, IsThere, WriteLiesIn}
 use Rattle.abs_laws.specs.Writes.{AllKeep, IsPlaced, MissesRegion, NeverEnables, TakesData}
-use Rattle.abs_step.specs.Successors.{writes_of}
+use Rattle.abs_step.specs.Successors.{operand_of, writes_of}
 use Rattle.abs_step.specs.declared.next.Next.{Next}
 use Rattle.abs_step.specs.declared.next.NextKind.{NextKind}
 use Rattle.abs_step.specs.declared.next.NextKind.TheVariants as kinds
@@ -116,8 +118,8 @@ pub record SameRegs (old new : Regs) : Type 0 where
   pub i : new.i ≡ old.i
 
 -- each variable comes from the variables before as the effect says
-abbrev pub Through : Next → Seen → Seen → Type 0
-Through n old new = (v : Variable) → IsThere (length new.words) v → FollowsChange (change_of n.effect v) (value_in old) (value_in new v)
+abbrev pub Through : Effect → Seen → Seen → Type 0
+Through effect old new = (v : Variable) → IsThere (length new.words) v → FollowsChange (change_of effect v) (value_in old) (value_in new v)
 
 -- the activation goes on at the successor's address, with these words
 pub record Went (cells : List KeptCell) (region : Region) (running : Running) (c : ContextView) (n : Next) (new : BoardView) : Type 0 where
@@ -125,7 +127,8 @@ pub record Went (cells : List KeptCell) (region : Region) (running : Running) (c
   pub pc : new.regs.pc ≡ n.address
   pub holds : Holds n.state cells running.entry (seen_of cells words new)
   pub laid : Lies c.hardware.map region running n.state words new
-  pub through : Through n (seen_of cells running.words c.state) (seen_of cells words new)
+  pub through : Through n.effect (seen_of cells running.words c.state) (seen_of cells words new)
+  pub moved : Through n.moved (seen_of cells running.words c.state) (seen_of cells words new)
 
 -- The callee begins, with its return address on top of the words. The caller's state, restricted by the condition, holds.
 pub record Called (cells : List KeptCell) (region : Region) (running : Running) (instr : Instr) (c : ContextView) (n : Next) (new : BoardView) : Type 0 where
@@ -134,7 +137,8 @@ pub record Called (cells : List KeptCell) (region : Region) (running : Running) 
   pub same : SameRegs c.state.regs new.regs
   pub enable : new.enable ≡ c.state.enable
   pub holds : Holds n.state cells running.entry (seen_of cells running.words new)
-  pub through : Through n (seen_of cells running.words c.state) (seen_of cells running.words new)
+  pub through : Through n.effect (seen_of cells running.words c.state) (seen_of cells running.words new)
+  pub moved : Through n.moved (seen_of cells running.words c.state) (seen_of cells running.words new)
   pub laid : HasWords c.hardware.map region new ((c.state.regs.pc + length (spelling instr)) % 65536 ∷ on_top running.words running.under)
 
 -- the activation ends and takes its return address, which lay under its words
@@ -156,11 +160,13 @@ GoesBy kinds.Jump cells region running instr c n = Went cells region running c n
 GoesBy kinds.Call cells region running instr c n = Called cells region running instr c n (done c instr)
 GoesBy kinds.Exit cells region running instr c n = Ended cells region running instr c n (done c instr)
 
--- The instruction does what one of its successors says, at its T-states. Mode `n` stays, and armed cells stay armed.
+-- The instruction does what one of its successors says, at its T-states, and that successor is of the test's outcome.
+-- Mode `n` stays, and armed cells stay armed.
 pub record Goes (cells : List KeptCell) (region : Region) (running : Running) (a : AbsState) (instr : Instr) (nexts : List Next) (c : ContextView) : Type 0 where
   pub next : Next
   pub listed : Contains nexts next
   pub cost : t_of c instr ≡ next.cost
+  pub takes : next.taken ≡ (instr_draft c instr).taken
   pub stays : a.mode ≡ Nmi → next.state.mode ≡ Nmi
   pub arms : a.armed ≤ next.state.armed
   pub goes : GoesBy next.kind cells region running instr c next
@@ -187,3 +193,19 @@ Keeps g address main a instr nexts =
     (region : Region) (running : Running) (c : ContextView) → c.hardware ≡ hardware_of g.rom g.map → c.state.regs.pc ≡ address
     → running.main ≡ main → Before g.cells region running a c → IsInOrder g region running a instr (writes_of g address a (Ok instr)) nexts
     → After g.cells region running a instr (writes_of g address a (Ok instr)) nexts c
+
+-- The same with the successors of each outcome of the test apart: of these, only those of the outcome need be in order,
+-- and the instruction does what one of them says.
+abbrev pub KeepsByOutcome : GroundView → ℕ → Bool → AbsState → Instr → (Bool → List Next) → Type 0
+KeepsByOutcome g address main a instr nexts =
+    (region : Region) (running : Running) (c : ContextView) → c.hardware ≡ hardware_of g.rom g.map → c.state.regs.pc ≡ address
+    → running.main ≡ main → Before g.cells region running a c
+    → IsInOrder g region running a instr (writes_of g address a (Ok instr)) (nexts (instr_draft c instr).taken)
+    → After g.cells region running a instr (writes_of g address a (Ok instr)) (nexts (instr_draft c instr).taken) c
+
+-- on every board that the row describes, the byte in work at the end of the instruction is a byte of the known range
+abbrev pub OperandAsKnown : GroundView → ℕ → Bool → AbsState → Instr → Type 0
+OperandAsKnown g address inline a instr =
+    (region : Region) (running : Running) (c : ContextView) → c.hardware ≡ hardware_of g.rom g.map → c.state.regs.pc ≡ address
+    → Before g.cells region running a c
+    → ((instr_draft c instr).operand < 256) × Within (operand_of g address inline a instr) (instr_draft c instr).operand

@@ -1,6 +1,7 @@
 -- The successors of a row, and why it is refused for itself (docs/CHECKER.md, "The abstract step").
 use Rattle.std.specs.Prelude.{ℕ, ◌==◌, ◌&&◌, ◌||◌, not, Bool, true, false, if◌then◌else◌, List, [], ◌∷◌, ◌++◌, length, Option, Some, None, Result, Ok, Err}
 use Rattle.intervals.specs.Logic.{is_single}
+use Rattle.intervals.specs.Range.{RangeView, full}
 use Rattle.intervals.specs.declared.pair.Pair.{Pair}
 use Rattle.loop_bounds.specs.Effect.{unchanged}
 use Rattle.stack_shape.specs.declared.slot.Slot.{Slot}
@@ -120,8 +121,10 @@ next_of main instr taken kind k = record {
   address = address_of kind k.pc.low;
   state = stack_set main instr k.state;
   effect = settled k.state k.effect;
+  moved = k.effect;
   cost = cost_of instr taken;
   kind = kind;
+  taken = taken;
 }
 
 -- the successor for one outcome of the test; none where that outcome is infeasible
@@ -129,12 +132,18 @@ abbrev pub way_on : Option AbsDraft → (AbsDraft → Next) → List Next
 way_on None next = []
 way_on (Some k) next = next k ∷ []
 
+-- the successor where the test held, and where it did not; without a test it did not
+abbrev pub way_by : GroundView → Bool → Bool → Instr → NextKind → Option Test → AbsDraft → Bool → List Next
+way_by g main inline instr kind None k true = []
+way_by g main inline instr kind None k false = next_of main instr false kind k ∷ []
+way_by g main inline instr kind (Some test) k true =
+    way_on (tested test true k) (λ taken. next_of main instr true kind (after_moves g inline (behind_test (moves_of instr)) taken))
+way_by g main inline instr kind (Some test) k false =
+    way_on (tested test false k) (λ left. next_of main instr false kinds.Jump left)
+
 -- the successors: one without a test; with a test one where it is taken and one where it is not
 abbrev pub ways_on : GroundView → Bool → Bool → Instr → NextKind → Option Test → AbsDraft → List Next
-ways_on g main inline instr kind None k = next_of main instr true kind k ∷ []
-ways_on g main inline instr kind (Some test) k =
-    way_on (tested test true k) (λ taken. next_of main instr true kind (after_moves g inline (behind_test (moves_of instr)) taken))
-    ++ way_on (tested test false k) (λ left. next_of main instr false kinds.Jump left)
+ways_on g main inline instr kind test k = way_by g main inline instr kind test k true ++ way_by g main inline instr kind test k false
 
 -- the successors, from what is known before the first move
 abbrev pub ways_from : GroundView → Bool → Bool → Instr → NextKind → AbsDraft → List Next
@@ -145,9 +154,32 @@ ways_from g main inline instr kind k =
 abbrev pub nexts_of : GroundView → ℕ → Bool → Bool → Instr → AbsState → List Next
 nexts_of g address main inline instr s = ways_from g main inline instr (next_kind_of inline instr s.shape) (known_before address instr s)
 
+-- those of one outcome of its test; an instruction without a test has that of a test that did not hold
+abbrev pub nexts_by : GroundView → ℕ → Bool → Bool → Instr → AbsState → Bool → List Next
+nexts_by g address main inline instr s =
+    way_by g main inline instr (next_kind_of inline instr s.shape) (test_of (moves_of instr)) (known_at_test g address inline instr s)
+
 -- a placeholder
 abbrev pub no_next : Next
-no_next = record { address = 0; state = main_entry; effect = unchanged; cost = 0; kind = kinds.Exit }
+no_next = record {
+  address = 0;
+  state = main_entry;
+  effect = unchanged;
+  moved = unchanged;
+  cost = 0;
+  kind = kinds.Exit;
+  taken = false;
+}
+
+-- ---- the byte in work
+
+-- the range of the byte in work at the end of an instruction; full where it has a test
+abbrev pub operand_by : Option Test → RangeView → RangeView
+operand_by None operand = operand
+operand_by (Some test) operand = full 256
+
+abbrev pub operand_of : GroundView → ℕ → Bool → AbsState → Instr → RangeView
+operand_of g address inline s instr = operand_by (test_of (moves_of instr)) (known_at_test g address inline instr s).operand
 
 -- ---- answers
 

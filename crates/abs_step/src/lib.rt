@@ -3,6 +3,7 @@
 #![tactic(auto)]
 
 mod next;
+mod outcome;
 mod reason;
 mod rules;
 mod stepping;
@@ -10,5 +11,6 @@ mod stepping;
 pub use abs_draft::DataWrite;
 pub use abs_state::Mode;
 pub use next::{Next, NextKind, Nexts};
+pub use outcome::outcome_next;
 pub use reason::{Reason, Saved};
 pub use stepping::{RowStep, data_writes, row_step, successors};

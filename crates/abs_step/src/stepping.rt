@@ -10,7 +10,8 @@ ghost use Rattle.t_states.specs.Costs.{cost_of};
 ghost use Rattle.t_states.specs.Io.{is_io};
 ghost use Rattle.z80_moves.specs.Moves.{moves_of};
 ghost use Rattle.abs_step.specs.Contained.{Keeps, WritesAsKnown};
-ghost use Rattle.abs_step.specs.Successors.{address_of, stack_set, ways_on, answer_of, writes_of};
+ghost use Rattle.abs_step.specs.Successors.{address_of, stack_set, ways_on, answer_of, writes_of, operand_of};
+ghost use Rattle.intervals.specs.Range.{full};
 
 use crate::next::{Next, NextKind, Nexts};
 use crate::reason::Reason;
@@ -19,6 +20,8 @@ use abs_draft::{AbsDraft, DataWrite, Ground, Tested};
 use abs_state::{AbsState, KeptCell};
 use address_map::{Map, Rom};
 use board_fetch::fetch;
+use intervals::ByteRange;
+use loop_bounds::Effect;
 use smallvec::SmallVec;
 use std::alloc::Global;
 use t_states::{cost, is_io};
@@ -27,7 +30,7 @@ use z80_moves::moves_for;
 
 /// Finishes a successor after its moves: turns single values into constants of the effect, and lets LD SP,nn of main
 /// set the stack.
-fn finish(known: &mut AbsDraft, main: bool, instr: &Instr)
+pub(crate) fn finish(known: &mut AbsDraft, main: bool, instr: &Instr)
     ensures { known.new ≡ record known.old {
       state = stack_set main instr.now known.old.state;
       effect = settled known.old.state known.old.effect;
@@ -37,15 +40,23 @@ fn finish(known: &mut AbsDraft, main: bool, instr: &Instr)
     set_stack(main, instr, &mut known.state);
 }
 
-/// The successor made of the finished draft.
+/// The successor made of the finished draft and of its effect before that.
 #[inline]
-fn next_from(known: AbsDraft, instr: &Instr, taken: bool, kind: NextKind) -> Next
+pub(crate) fn next_from(
+    known: AbsDraft,
+    moved: Effect,
+    instr: &Instr,
+    taken: bool,
+    kind: NextKind,
+) -> Next
     ensures { result ≡ record {
       address = address_of kind known.pc.low;
       state = known.state;
       effect = known.effect;
+      moved = moved;
       cost = cost_of instr.now taken;
       kind = kind;
+      taken = taken;
     } }
 {
     let address = match kind {
@@ -56,8 +67,10 @@ fn next_from(known: AbsDraft, instr: &Instr, taken: bool, kind: NextKind) -> Nex
         address,
         state: known.state,
         effect: known.effect,
+        moved,
         cost: cost(instr, taken),
         kind,
+        taken,
     }
 }
 
@@ -82,19 +95,22 @@ fn ways_on(
     let mut nexts = SmallVec::new(alloc);
     match tested {
         None => {
+            let moved = known.effect;
             finish(&mut known, main, instr);
-            nexts.push_reserved(next_from(known, instr, true, kind));
+            nexts.push_reserved(next_from(known, moved, instr, false, kind));
         }
         Some(tested) => {
             let mut left = known.copied();
             if known.restrict(tested.test, true) {
                 known.make_all(ground, inline, tested.behind);
+                let moved = known.effect;
                 finish(&mut known, main, instr);
-                nexts.push_reserved(next_from(known, instr, true, kind));
+                nexts.push_reserved(next_from(known, moved, instr, true, kind));
             }
             if left.restrict(tested.test, false) {
+                let moved = left.effect;
                 finish(&mut left, main, instr);
-                nexts.push_reserved(next_from(left, instr, false, NextKind::Jump));
+                nexts.push_reserved(next_from(left, moved, instr, false, NextKind::Jump));
             }
         }
     }
@@ -114,6 +130,13 @@ fn writes_at_test(alloc: Global, instr: &Instr, known: &AbsDraft) -> SmallVec<Da
     writes
 }
 
+/// The range of the byte in work at the end of an instruction; full where it has a test.
+fn operand_at_end(operand: ByteRange, has_test: bool) -> ByteRange
+    ensures { result ≡ (if has_test then full 256 else operand) }
+{
+    if has_test { ByteRange::full() } else { operand }
+}
+
 /// What the abstract step makes of a row: its data writes, and its successors or the lowest reason that refuses it.
 #[derive(Drop)]
 pub struct RowStep {
@@ -122,6 +145,8 @@ pub struct RowStep {
     /// The successors, at most two, or why the step refuses the row: the lowest of the reasons 4, 5, 9 and 10 that
     /// applies, or 12 for a computed jump to more than one word (docs/CHECKER.md).
     pub answer: Result<Nexts, Reason>,
+    /// The range of the byte in work at the end of the instruction; full where it has a test.
+    pub operand: ByteRange,
 }
 
 impl RowStep {
@@ -134,6 +159,7 @@ impl RowStep {
         RowStep {
             writes: SmallVec::new(alloc),
             answer: Err(Reason::Decode(fault)),
+            operand: ByteRange::full(),
         }
     }
 }
@@ -160,11 +186,13 @@ pub fn row_step(
     ensures err { IfErr result.answer (λ reason.
         answer_of ground.now address main inline state.now (Ok instr.now) ≡ Err reason) }
     ensures fits { IfOk result.answer (λ nexts. length state.now.shape ≤ 64) }
+    ensures operand { result.operand ≡ operand_of ground.now address inline state.now instr.now }
 {
     let mut known = AbsDraft::before(address, len, state);
     let moves = moves_for(instr);
     let tested = known.make_to_test(ground, inline, moves.as_slice());
     let writes = writes_at_test(alloc, instr, &known);
+    let operand = operand_at_end(known.operand, tested.is_some());
     let answer = match refusal(main, inline, instr, state) {
         Some(reason) => Err(reason),
         None => {
@@ -172,7 +200,11 @@ pub fn row_step(
             Ok(ways_on(alloc, ground, known, main, inline, instr, kind, tested))
         }
     };
-    RowStep { writes, answer }
+    RowStep {
+        writes,
+        answer,
+        operand,
+    }
 }
 
 /// The successors of a row whose instruction is at `address`, at most two: first where the instruction is taken or has

@@ -39,7 +39,7 @@ pub fn judged_row(
             };
         }
     };
-    let RowStep { writes, answer } = row_step(
+    let RowStep { writes, answer, .. } = row_step(
         alloc,
         &task.ground(),
         place.address,

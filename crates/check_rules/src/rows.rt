@@ -26,7 +26,7 @@ pub fn check_row(alloc: Global, subject: &Subject, coverer: &mut Coverer) -> Res
     ensures err { IfErr result (λ reason. IsLowest subject.now reason) }
     ensures same { coverer.new ≡ coverer.old }
 {
-    let RowStep { writes, answer } = subject.row_step(alloc);
+    let RowStep { writes, answer, .. } = subject.row_step(alloc);
     match answer {
         Ok(nexts) => check_going(subject, writes.as_slice(), nexts.as_slice(), coverer),
         Err(refusal) => Err(lowest_of_refused(subject, writes.as_slice(), refusal)),

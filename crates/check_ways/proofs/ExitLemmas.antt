@@ -132,7 +132,7 @@ two_ways o p f h kind n taken left listed leaves =
 exit_kind : (g : GroundView) (main inline : Bool) (instr : Instr) (kind : NextKind) (test : Option Test) (k : AbsDraft) (n : Next) →
     Contains (ways_on g main inline instr kind test k) n → n.kind ≡ Exit → kind ≡ Exit
 exit_kind g main inline instr kind None k n listed leaves =
-    ap (λ (x : Next). x.kind) (in_one (next_of main instr true kind k) n listed) ∙ leaves
+    ap (λ (x : Next). x.kind) (in_one (next_of main instr false kind k) n listed) ∙ leaves
 exit_kind g main inline instr kind (Some test) k n listed leaves =
     two_ways (tested test true k) (tested test false k)
     (λ (t : AbsDraft). next_of main instr true kind (after_moves g inline (behind_test (moves_of instr)) t))
