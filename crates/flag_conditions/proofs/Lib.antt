@@ -1,0 +1,6 @@
+pub mod Values
+pub mod KeptFlags
+pub mod Operations
+pub mod WordOperations
+pub mod EachInstruction
+pub mod True

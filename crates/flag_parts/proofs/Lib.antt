@@ -1,0 +1,4 @@
+pub mod CarryLemmas
+pub mod Held
+pub mod ExcludingLemmas
+pub mod NarrowingLemmas

@@ -1,0 +1,353 @@
+-- The refined step keeps what a row says.
+use Rattle.std.proofs.Common.{◌≡◌, ◌≢◌, ◌≤◌, ◌<◌, ◌+◌, ◌∙◌, ℕ, zero, suc, Bool, true, false, List, [], ◌∷◌, ◌++◌, length, Option, Some, None, IsSomeAnd, Ok, refl, sym, ap, subst, arith, pos}
+use Rattle.std.specs.Prelude.{IfOk, IfSome, Result, Err, map, option_and_then}
+use Rattle.std.specs.List.{All, Contains}
+use Rattle.std.proofs.lemmas.List.Elements.{All-cons, All-head, All-nil}
+use Rattle.address_map.specs.declared.region.Region.{Region}
+use Rattle.intervals.specs.Domain.{Entry}
+use Rattle.intervals.specs.Range.{RangeView}
+use Rattle.loop_bounds.specs.Effect.{whole}
+use Rattle.loop_bounds.specs.Linear.{value}
+use Rattle.z80_alu.specs.Flags.{flags_of}
+use Rattle.z80_alu.specs.declared.regs.Regs.{Regs}
+use Rattle.z80_decode.specs.Spelling.{spelling}
+use Rattle.z80_decode.specs.declared.instr.Instr.{Instr}
+use Rattle.z80_decode.specs.declared.kinds.Condition.{Condition}
+use Rattle.z80_draft.specs.Arithmetic.{holds}
+use Rattle.z80_draft.specs.Draft.{DraftView, draft_of, draft_on, past}
+use Rattle.z80_draft.specs.Outside.{Outside}
+use Rattle.z80_draft.specs.Registers.{IsRegs}
+use Rattle.z80_moves.specs.Moves.{moves_of}
+use Rattle.z80_moves.specs.declared.moves.Test.{Test}
+use Rattle.board_fetch.specs.Decoded.{StandsAt}
+use Rattle.board_step.proofs.StateRangeLemmas.{done_keeps}
+use Rattle.board_step.specs.Context.{ContextView}
+use Rattle.board_step.specs.Hardware.{Hardware, hardware_of}
+use Rattle.board_step.specs.Reads.{outside_of}
+use Rattle.board_step.specs.Step.{done, instr_draft, t_of}
+use Rattle.board_laws.proofs.Brought.{reaches}
+use Rattle.board_laws.specs.Region.{HasRoom}
+use Rattle.abs_state.specs.Holds.{Holds}
+use Rattle.abs_state.specs.Pairs.{HoldsPairs}
+use Rattle.abs_state.specs.Seen.{Seen}
+use Rattle.abs_state.specs.Variables.{cut_to, range_of, value_in}
+use Rattle.abs_state.specs.declared.cell.KeptCell.{KeptCell}
+use Rattle.abs_state.specs.declared.pairs.Pairs.{Pairs}
+use Rattle.abs_state.specs.declared.state.AbsState.{AbsState}
+use Rattle.abs_draft.specs.Ground.{GroundView}
+use Rattle.abs_draft.specs.Outcomes.{known_at_test, test_of}
+use Rattle.abs_draft.specs.declared.data_write.DataWrite.{DataWrite}
+use Rattle.abs_laws.specs.Writes.{AllKeep, MissesRegion, NeverEnables, TakesData}
+use Rattle.abs_laws.proofs.Ways.{moves_keep_taken}
+use Rattle.abs_step.specs.Contained.{After, Before, Goes, GoesBy, IsInOrder, Running, Went, seen_of}
+use Rattle.abs_step.specs.Successors.{answer_by, next_kind_of, next_of, nexts_by, operand_of, refusal, way_by, writes_of}
+use Rattle.abs_step.specs.declared.next.Next.{Next}
+use Rattle.abs_step.specs.declared.next.NextKind.{NextKind}
+use Rattle.abs_step.specs.declared.next.NextKind.TheVariants as kinds
+use Rattle.abs_step.specs.declared.reason.Reason.{Reason}
+use Rattle.abs_step.proofs.Asides.{jump_kind}
+use Rattle.abs_step.proofs.Keeps.{after_both, keeps_by_outcome, operand_as_known, order_of_one}
+use Rattle.flag_parts.specs.Carry.{known_carry}
+use Rattle.flag_parts.specs.Narrowing.{narrowed}
+use Rattle.flag_parts.specs.Parts.{AreSeen, HoldsParts}
+use Rattle.flag_parts.specs.declared.part.FlagPart.{FlagPart}
+use Rattle.flag_conditions.specs.Conditions.{AreTrue, AreTrueOf, IsAsKnown, StepConditionsView, conditions_of}
+use Rattle.linear_effects.specs.Effects.{BecomesSo, IsDescribed, IsTrueEffect, effect_of}
+use Rattle.linear_effects.specs.declared.variable_effect.LinearEffect.{LinearEffect}
+use Rattle.refined_step.specs.Conditionals.{NarrowsSoundly, condition_of, conditional_nexts, conditional_way, from_narrowed, met}
+use Rattle.refined_step.specs.Kept.{AreTrueOfStep, KeepsRefined}
+use Rattle.refined_step.specs.Refined.{refined_answer, refined_by, refined_nexts, sharpened_nexts, step_conditions, step_effect}
+use Rattle.refined_step.specs.Sharpening.{sharpened, value_range, with_cut_state}
+use Rattle.refined_step.proofs.Instructions.{conditional, no_known_writes, outcome_tells, plain, register_small}
+use Rattle.refined_step.proofs.NarrowedStack.{KeepsStack, cut_some, narrowed_kept}
+use Rattle.refined_step.proofs.Refusals.{refusal_kept}
+use Rattle.refined_step.proofs.Sharpened.{IsAlike, alike, cut_holds, cut_went}
+
+-- ---- small facts
+
+record Left (o : Option AbsState) (P : AbsState → Type 0) : Type 0 where
+  state : AbsState
+  is : o ≡ Some state
+  holds : P state
+
+left_of : (o : Option AbsState) (P : AbsState → Type 0) → IsSomeAnd o P → Left o P
+left_of None P h = absurd h
+left_of (Some t) P h = record { state = t; is = refl; holds = h }
+
+at_some : (o : Option AbsState) (P : AbsState → Type 0) (t : AbsState) → o ≡ Some t → IfSome o P → P t
+at_some o P t e h = subst (λ (x : Option AbsState). IfSome x P) e h
+
+in_one : (x n : Next) → Contains (x ∷ []) n → x ≡ n
+in_one x n (zero, within, is) = is
+in_one x n (suc k, within, is) = absurd (omega (arith, within))
+
+keeps_none : (g : GroundView) (armed : ℕ) → AllKeep g armed []
+unfolding AllKeep
+keeps_none g armed = tt
+
+not_called : (P : Type 0) → kinds.Jump ≡ kinds.Call → P
+not_called P e = absurd (cc)
+
+-- ---- from a narrowed state to the row's
+
+order_at : (g : GroundView) (region : Region) (running : Running) (a t : AbsState) (instr : Instr) (ws : List DataWrite) (nexts : List Next) → IsInOrder g region running a instr ws nexts → IsInOrder g region running t instr [] nexts
+order_at g region running a t instr ws nexts o = record {
+  overwrites = λ not. All-nil (MissesRegion g.map region);
+  enables = λ unset. All-nil (NeverEnables g.map);
+  sets = o.sets;
+  keeps = keeps_none g t.armed;
+  jumps = o.jumps;
+  calls = o.calls;
+}
+
+after_at : (cells : List KeptCell) (region : Region) (running : Running) (a t : AbsState) (instr : Instr) (nexts : List Next) (c : ContextView) → KeepsStack a t → After cells region running t instr [] nexts c → After cells region running a instr [] nexts c
+after_at cells region running a t instr nexts c k h =
+    let w = h.goes in
+    record {
+      goes = record {
+        next = w.next;
+        listed = w.listed;
+        cost = w.cost;
+        takes = w.takes;
+        stays = λ n. w.stays (k.mode ∙ n);
+        arms = subst (λ (m : ℕ). m ≤ w.next.state.armed) k.armed w.arms;
+        goes = w.goes;
+      };
+      safe = h.safe;
+      clear = h.clear;
+      keeps_i = h.keeps_i;
+      halts = h.halts;
+    }
+
+module _ (g : GroundView) (address : ℕ) (main inline : Bool) (a : AbsState) (instr : Instr) (parts : List FlagPart) (fits : length a.shape ≤ 64) (stands : StandsAt g.rom address (Ok instr)) (none : refusal main inline instr a ≡ None) (region : Region) (running : Running) (c : ContextView) (hardware : c.hardware ≡ hardware_of g.rom g.map) (at : c.state.regs.pc ≡ address) (is_main : running.main ≡ main) (before : Before g.cells region running a c) where
+  abbrev ws : List DataWrite
+  ws = writes_of g address a (Ok instr)
+
+  abbrev m : Seen
+  m = seen_of g.cells running.words c.state
+
+  abbrev taken : Bool
+  taken = (instr_draft c instr).taken
+
+  -- ---- with a condition
+
+  after_narrowed : (condition : Condition) → condition_of instr ≡ Some condition → NarrowsSoundly condition parts a → AreSeen parts m → IsInOrder g region running a instr ws (conditional_nexts g address main inline instr condition parts a)
+      → After g.cells region running a instr ws (conditional_nexts g address main inline instr condition parts a) c
+  after_narrowed condition is narrows seen order =
+      let k = conditional instr condition is in
+      let ways : Bool → List Next = conditional_way g address main inline instr condition parts a in
+      let left = left_of (narrowed (met condition taken) parts a) (λ t. Holds t g.cells running.entry m) (narrows taken g.cells running.entry m before.numbers.regs before.holds seen (outcome_tells c instr condition k)) in
+      let t : AbsState = left.state in
+      let kept : KeepsStack a t = at_some (narrowed (met condition taken) parts a) (KeepsStack a) t left.is (narrowed_kept (met condition taken) parts a) in
+      let one : ways taken ≡ nexts_by g address main inline instr t taken = ap (λ (o : Option AbsState). from_narrowed g address main inline instr o taken) left.is in
+      let none_row : ws ≡ [] = no_known_writes g address a instr condition k in
+      let none_left : writes_of g address t (Ok instr) ≡ [] = no_known_writes g address t instr condition k in
+      let o : IsInOrder g region running a instr ws (nexts_by g address main inline instr t taken) = subst (λ (ns : List Next). IsInOrder g region running a instr ws ns) one (order_of_one g region running a instr ws ways taken order) in
+      let order_left : IsInOrder g region running t instr (writes_of g address t (Ok instr)) (nexts_by g address main inline instr t taken) =
+      subst (λ (xs : List DataWrite). IsInOrder g region running t instr xs (nexts_by g address main inline instr t taken)) (sym none_left) (order_at g region running a t instr ws (nexts_by g address main inline instr t taken) o) in
+      let before_left : Before g.cells region running t c = record {
+        numbers = before.numbers;
+        env = before.env;
+        rom = before.rom;
+        rom_len = before.rom_len;
+        is_region = before.is_region;
+        kept = before.kept;
+        under = before.under;
+        holds = left.holds;
+        laid = λ set. before.laid (λ unset. set (kept.mode ∙ unset));
+      } in
+      let h = keeps_by_outcome g address main inline t instr (subst (λ (n : ℕ). n ≤ 64) (sym kept.long) fits) stands (refusal_kept main inline instr a t k.jumps kept none) region running c hardware at is_main before_left order_left in
+      let bare : After g.cells region running t instr [] (nexts_by g address main inline instr t taken) c = subst (λ (xs : List DataWrite). After g.cells region running t instr xs (nexts_by g address main inline instr t taken) c) none_left h in
+      let row : After g.cells region running a instr [] (nexts_by g address main inline instr t taken) c = after_at g.cells region running a t instr (nexts_by g address main inline instr t taken) c kept bare in
+      let full : After g.cells region running a instr ws (nexts_by g address main inline instr t taken) c = subst (λ (xs : List DataWrite). After g.cells region running a instr xs (nexts_by g address main inline instr t taken) c) (sym none_row) row in
+      after_both g.cells region running a instr ws ways taken c (subst (λ (ns : List Next). After g.cells region running a instr ws ns c) (sym one) full)
+
+  -- ---- without a condition or a linear effect
+
+  after_own : IsInOrder g region running a instr ws (nexts_by g address main inline instr a true ++ nexts_by g address main inline instr a false)
+      → After g.cells region running a instr ws (nexts_by g address main inline instr a true ++ nexts_by g address main inline instr a false) c
+  after_own order =
+      let ways : Bool → List Next = nexts_by g address main inline instr a in
+      after_both g.cells region running a instr ws ways taken c
+      (keeps_by_outcome g address main inline a instr fits stands none region running c hardware at is_main before (order_of_one g region running a instr ws ways taken order))
+
+  -- ---- with a linear effect
+
+  abbrev own : Next
+  own = next_of main instr false kinds.Jump (known_at_test g address inline instr a)
+
+  -- the one successor, sharpened, with what it does
+  sharpened_goes : (o : Option AbsState) → IfSome o (KeepsStack own.state) → IsRegs (done c instr).regs → (w : Went g.cells region running c own (done c instr)) → IsSomeAnd o (λ t. Holds t g.cells running.entry (seen_of g.cells w.words (done c instr)))
+      → GoesBy (with_cut_state own o).kind g.cells region running instr c (with_cut_state own o)
+  sharpened_goes None k regs w h = absurd h
+  sharpened_goes (Some t) k regs w h = cut_went g.cells region running c own (done c instr) regs w (Some t) k h
+
+  after_sharpened : (e : LinearEffect) (byte : RangeView) (carry : Option Bool) → effect_of instr a.pairs byte carry ≡ Some e → BecomesSo e m (instr_draft c instr) → IsRegs (done c instr).regs → (done c instr).regs ≡ (instr_draft c instr).regs
+      → IsInOrder g region running a instr ws (map (sharpened a e) (nexts_by g address main inline instr a false))
+      → After g.cells region running a instr ws (map (sharpened a e) (nexts_by g address main inline instr a false)) c
+  after_sharpened e byte carry is becomes regs same order =
+      let p = plain instr a.pairs byte carry e is in
+      let left : taken ≡ false = moves_keep_taken (outside_of c) (moves_of instr) (draft_on (past (length (spelling instr)) c.state.regs)) p.test in
+      let known = known_at_test g address inline instr a in
+      let only : nexts_by g address main inline instr a false ≡ own ∷ [] =
+      ap (λ (q : NextKind). way_by g main inline instr q (test_of (moves_of instr)) known false) (jump_kind inline instr a.shape p.stack)
+      ∙ ap (λ (o : Option Test). way_by g main inline instr kinds.Jump o known false) p.test in
+      let by_outcome : nexts_by g address main inline instr a taken ≡ own ∷ [] = ap (nexts_by g address main inline instr a) left ∙ only in
+      let cut : Option AbsState = option_and_then (cut_to own.state e.variable) (value_range (range_of a) e.linear) in
+      let stack : IfSome cut (KeepsStack own.state) = cut_some (value_range (range_of a) e.linear) own.state e.variable in
+      let like : IsAlike own (sharpened a e own) = alike own cut stack in
+      let o : IsInOrder g region running a instr ws (sharpened a e own ∷ []) = subst (λ (ns : List Next). IsInOrder g region running a instr ws (map (sharpened a e) ns)) only order in
+      let room : kinds.Jump ≡ kinds.Jump → HasRoom region (length own.state.shape + length running.under) = λ jump.
+      subst (λ (k : ℕ). HasRoom region (k + length running.under)) like.stack.long
+      (All-head (λ (n : Next). n.kind ≡ kinds.Jump → HasRoom region (length n.state.shape + length running.under)) (sharpened a e own) [] o.jumps like.kind) in
+      let order_own : IsInOrder g region running a instr ws (own ∷ []) = record {
+        overwrites = o.overwrites;
+        enables = o.enables;
+        sets = o.sets;
+        keeps = o.keeps;
+        jumps = All-cons (λ (n : Next). n.kind ≡ kinds.Jump → HasRoom region (length n.state.shape + length running.under)) own [] room (All-nil (λ (n : Next). n.kind ≡ kinds.Jump → HasRoom region (length n.state.shape + length running.under)));
+        calls =
+            All-cons (λ (n : Next). n.kind ≡ kinds.Call → (r : Regs) → IsRegs r → HoldsPairs n.state.pairs running.entry r → HasRoom region (1 + (length n.state.shape + length running.under))) own [] (λ call. not_called _ call)
+            (All-nil (λ (n : Next). n.kind ≡ kinds.Call → (r : Regs) → IsRegs r → HoldsPairs n.state.pairs running.entry r → HasRoom region (1 + (length n.state.shape + length running.under))));
+      } in
+      let h = keeps_by_outcome g address main inline a instr fits stands none region running c hardware at is_main before (subst (λ (ns : List Next). IsInOrder g region running a instr ws ns) (sym by_outcome) order_own) in
+      let w : Goes g.cells region running a instr (own ∷ []) c = subst (λ (ns : List Next). Goes g.cells region running a instr ns c) by_outcome h.goes in
+      let is_own : own ≡ w.next = in_one own w.next w.listed in
+      let went : Went g.cells region running c own (done c instr) = subst (λ (n : Next). GoesBy n.kind g.cells region running instr c n) (sym is_own) w.goes in
+      let found : pos (value_in (seen_of g.cells went.words (done c instr)) e.variable) ≡ value (whole (value_in m)) e.linear = becomes (seen_of g.cells went.words (done c instr)) same in
+      let holds_left : IsSomeAnd cut (λ t. Holds t g.cells running.entry (seen_of g.cells went.words (done c instr))) =
+      cut_holds a own.state g.cells g.cells running.entry m (seen_of g.cells went.words (done c instr)) e.variable e.linear before.numbers.regs before.holds regs went.holds found (register_small e.variable (seen_of g.cells went.words (done c instr)) regs p.register) in
+      record {
+        goes = record {
+          next = sharpened a e own;
+          listed = subst (λ (ns : List Next). Contains (map (sharpened a e) ns) (sharpened a e own)) (sym only) (0, omega arith, refl);
+          cost = w.cost ∙ (ap (λ (n : Next). n.cost) (sym is_own) ∙ sym like.cost);
+          takes = like.taken ∙ (ap (λ (n : Next). n.taken) is_own ∙ w.takes);
+          stays = λ n. like.stack.mode ∙ (ap (λ (x : Next). x.state.mode) is_own ∙ w.stays n);
+          arms = subst (λ (k : ℕ). a.armed ≤ k) (ap (λ (x : Next). x.state.armed) (sym is_own) ∙ sym like.stack.armed) w.arms;
+          goes = sharpened_goes cut stack regs went holds_left;
+        };
+        safe = h.safe;
+        clear = h.clear;
+        keeps_i = h.keeps_i;
+        halts = h.halts;
+      }
+
+-- ---- the truths of a step
+
+effect_told : (effect : Option LinearEffect) (instr : Instr) (pairs : Pairs) (byte : RangeView) (carry : Option Bool) (o : Outside) (entry : Entry) (m : Seen) → IsTrueEffect effect instr pairs byte carry → IsDescribed instr pairs byte carry o entry m
+    → IfSome effect (λ e. BecomesSo e m (draft_of o m.regs instr))
+unfolding IsTrueEffect
+effect_told None instr pairs byte carry o entry m h d = tt
+effect_told (Some e) instr pairs byte carry o entry m h d = h o entry m d
+
+conditions_told : (conditions : StepConditionsView) (instr : Instr) (byte : RangeView) (parts : List FlagPart) (carry : Option Bool) (o : Outside) (m : Seen) → AreTrue conditions instr byte parts carry → IsAsKnown instr byte parts carry o m
+    → AreTrueOf conditions m (draft_of o m.regs instr)
+unfolding AreTrue
+conditions_told conditions instr byte parts carry o m h k = h o m k
+
+step_truths : (conditions : StepConditionsView) (effect : Option LinearEffect) (m : Seen) (d : DraftView) → AreTrueOf conditions m d → IfSome effect (λ e. BecomesSo e m d) → AreTrueOfStep conditions effect m d.regs
+step_truths conditions effect m d t e = record { before = t.before; after = t.after; becomes = e }
+
+-- what the carry that is known says of each machine
+abbrev pub TellsCarry : Option Bool → List FlagPart → AbsState → Type 0
+TellsCarry carry parts a =
+    (cells : List KeptCell) (entry : Entry) (m : Seen) → IsRegs m.regs → Holds a cells entry m → AreSeen parts m → IfSome carry (λ k. (flags_of m.regs.main.f).carry ≡ k)
+
+-- ---- all together
+
+pub refined_keeps : (g : GroundView) (address : ℕ) (main inline : Bool) (a : AbsState) (instr : Instr) (parts : List FlagPart) → length a.shape ≤ 64 → StandsAt g.rom address (Ok instr) → refusal main inline instr a ≡ None
+    → TellsCarry (known_carry (range_of a) parts) parts a
+    → AreTrue (step_conditions g address inline instr parts a) instr (operand_of g address inline a instr) parts (known_carry (range_of a) parts)
+    → IsTrueEffect (step_effect g address inline instr parts a) instr a.pairs (operand_of g address inline a instr) (known_carry (range_of a) parts)
+    → ((condition : Condition) → condition_of instr ≡ Some condition → NarrowsSoundly condition parts a)
+    → KeepsRefined g address main a instr parts (refined_nexts g address main inline instr parts a) (step_conditions g address inline instr parts a) (step_effect g address inline instr parts a)
+refined_keeps g address main inline a instr parts fits stands none tells conditions_true effect_true narrows region running c hardware at is_main before seen order =
+    (after (condition_of instr) refl order, truths)
+  where
+    m : Seen
+    m = seen_of g.cells running.words c.state
+
+    carry : Option Bool
+    carry = known_carry (range_of a) parts
+
+    byte : RangeView
+    byte = operand_of g address inline a instr
+
+    effect : Option LinearEffect
+    effect = step_effect g address inline instr parts a
+
+    conditions : StepConditionsView
+    conditions = step_conditions g address inline instr parts a
+
+    carry_is : IfSome carry (λ k. (flags_of m.regs.main.f).carry ≡ k)
+    carry_is = tells g.cells running.entry m before.numbers.regs before.holds seen
+
+    same : (done c instr).regs ≡ (instr_draft c instr).regs
+    same = (reaches c.hardware.map (instr_draft c instr) c.state).regs
+
+    regs : IsRegs (done c instr).regs
+    regs =
+        let there : StandsAt c.hardware.rom c.state.regs.pc (Ok instr) = subst (λ (rom : List ℕ). StandsAt rom c.state.regs.pc (Ok instr)) (sym (ap (λ (h : Hardware). h.rom) hardware)) (subst (λ (n : ℕ). StandsAt g.rom n (Ok instr)) (sym at) stands) in
+        let k = done_keeps c instr (record { rom = before.rom; state = before.numbers; env = before.env }) there in
+        k.regs
+
+    becomes : IfSome effect (λ e. BecomesSo e m (instr_draft c instr))
+    becomes =
+        let op = operand_as_known g address inline a instr stands region running c hardware at before in
+        effect_told effect instr a.pairs byte carry (outside_of c) running.entry m effect_true
+        (record { regs = before.numbers.regs; pairs_hold = before.holds.pairs; carry_is = carry_is; operand_byte = op.0; operand_within = op.1 })
+
+    truths : AreTrueOfStep conditions effect m (done c instr).regs
+    truths =
+        let op = operand_as_known g address inline a instr stands region running c hardware at before in
+        let t = conditions_told conditions instr byte parts carry (outside_of c) m conditions_true
+        (record { regs = before.numbers.regs; parts_hold = seen; carry_is = carry_is; operand_byte = op.0; operand_within = op.1 }) in
+        subst (λ (r : Regs). AreTrueOfStep conditions effect m r) (sym same) (step_truths conditions effect m (instr_draft c instr) t becomes)
+
+    unconditional : (o : Option LinearEffect) → effect ≡ o → IsInOrder g region running a instr (writes_of g address a (Ok instr)) (sharpened_nexts g address main inline instr o a)
+        → After g.cells region running a instr (writes_of g address a (Ok instr)) (sharpened_nexts g address main inline instr o a) c
+    unconditional None is ordered = after_own g address main inline a instr parts fits stands none region running c hardware at is_main before ordered
+    unconditional (Some e) is ordered =
+        let found : BecomesSo e m (instr_draft c instr) = subst (λ (o : Option LinearEffect). IfSome o (λ x. BecomesSo x m (instr_draft c instr))) is becomes in
+        after_sharpened g address main inline a instr parts fits stands none region running c hardware at is_main before e byte carry is found regs same ordered
+
+    after : (o : Option Condition) → condition_of instr ≡ o → IsInOrder g region running a instr (writes_of g address a (Ok instr)) (refined_by o g address main inline instr parts a)
+        → After g.cells region running a instr (writes_of g address a (Ok instr)) (refined_by o g address main inline instr parts a) c
+    after (Some condition) is ordered = after_narrowed g address main inline a instr parts fits stands none region running c hardware at is_main before condition is (narrows condition is) seen ordered
+    after None is ordered = unconditional effect refl ordered
+
+-- ---- by the answer
+
+ok_same : (found nexts : List Next) → answer_by None found ≡ Ok nexts → found ≡ nexts
+ok_same found nexts e = cc
+
+told : (o : Option Reason) (found nexts : List Next) → answer_by o found ≡ Ok nexts → (o ≡ None) × (found ≡ nexts)
+told None found nexts e = (refl, ok_same found nexts e)
+told (Some r) found nexts e = absurd (cc)
+
+module _ (g : GroundView) (address : ℕ) (main inline : Bool) (a : AbsState) (instr : Instr) (parts : List FlagPart) where
+  abbrev Keeping : RangeView → Option Bool → StepConditionsView → Option LinearEffect → Type 0
+  Keeping b k s e =
+      TellsCarry k parts a → AreTrue s instr b parts k → IsTrueEffect e instr a.pairs b k → KeepsRefined g address main a instr parts (refined_nexts g address main inline instr parts a) s e
+
+  -- the same for an answer, given what the calls before it answered
+  pub answered_keeps : (nexts : List Next) (byte : RangeView) (carry : Option Bool) (conditions : StepConditionsView) (effect : Option LinearEffect)
+      → byte ≡ operand_of g address inline a instr → carry ≡ known_carry (range_of a) parts → conditions ≡ conditions_of instr byte parts carry → effect ≡ effect_of instr a.pairs byte carry
+      → length a.shape ≤ 64 → refined_answer g address main inline instr parts a ≡ Ok nexts → TellsCarry carry parts a → AreTrue conditions instr byte parts carry → IsTrueEffect effect instr a.pairs byte carry
+      → ((condition : Condition) → condition_of instr ≡ Some condition → NarrowsSoundly condition parts a) → StandsAt g.rom address (Ok instr) → KeepsRefined g address main a instr parts nexts conditions effect
+  answered_keeps nexts byte carry conditions effect is_byte is_carry is_conditions is_effect fits answer tells conditions_true effect_true narrows stands =
+      let t = told (refusal main inline instr a) (refined_nexts g address main inline instr parts a) nexts answer in
+      let byte_is : RangeView = operand_of g address inline a instr in
+      let carry_is : Option Bool = known_carry (range_of a) parts in
+      let start : Keeping byte_is carry_is (conditions_of instr byte_is parts carry_is) (effect_of instr a.pairs byte_is carry_is) = λ tells_it conditions_hold effect_holds.
+      refined_keeps g address main inline a instr parts fits stands t.0 tells_it conditions_hold effect_holds narrows in
+      let by_byte = subst (λ (b : RangeView). Keeping b carry_is (conditions_of instr b parts carry_is) (effect_of instr a.pairs b carry_is)) (sym is_byte) start in
+      let by_carry = subst (λ (k : Option Bool). Keeping byte k (conditions_of instr byte parts k) (effect_of instr a.pairs byte k)) (sym is_carry) by_byte in
+      let by_conditions = subst (λ (s : StepConditionsView). Keeping byte carry s (effect_of instr a.pairs byte carry)) (sym is_conditions) by_carry in
+      let all : Keeping byte carry conditions effect = subst (λ (e : Option LinearEffect). Keeping byte carry conditions e) (sym is_effect) by_conditions in
+      subst (λ (ns : List Next). KeepsRefined g address main a instr parts ns conditions effect) t.1 (all tells conditions_true effect_true)
+
+pub three_ok : {X Y : Type 0} (r : Result X Y) (P Q R S : X → Type 0) → IfOk r P → IfOk r Q → IfOk r R → ((x : X) → P x → Q x → R x → S x) → IfOk r S
+three_ok (Ok x) P Q R S p q r f = f x p q r
+three_ok (Err y) P Q R S p q r f = tt

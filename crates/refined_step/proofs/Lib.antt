@@ -1,0 +1,6 @@
+pub mod Assembled
+pub mod Flags
+pub mod Instructions
+pub mod NarrowedStack
+pub mod Refusals
+pub mod Sharpened

@@ -1,0 +1,192 @@
+// The refined step of a row with flag parts.
+ghost use Rattle.std.specs.Prelude.{◌≡◌, ◌≤◌, length, Ok, Err, Some, IfOk, IfErr};
+ghost use Rattle.board_fetch.specs.Decoded.{StandsAt};
+ghost use Rattle.z80_decode.specs.Spelling.{spelling};
+ghost use Rattle.z80_decode.specs.declared.kinds.Condition.{Condition as ConditionKind};
+ghost use Rattle.abs_step.specs.Successors.{answer_of, nexts_of, writes_of};
+ghost use Rattle.refined_step.specs.Conditionals.{condition_of, NarrowsSoundly};
+ghost use Rattle.refined_step.specs.Kept.{KeepsRefined};
+ghost use Rattle.refined_step.specs.Refined.{step_conditions, step_effect, sharpened_nexts, refined_nexts, refined_answer};
+
+use crate::conditionals::{condition_of, conditional_nexts};
+use crate::sharpening::sharpen;
+use abs_draft::Ground;
+use abs_state::AbsState;
+use abs_step::{DataWrite, Nexts, Reason, RowStep, outcome_next, row_step};
+use flag_conditions::{StepConditions, conditions};
+use flag_parts::{FlagParts, known_carry};
+use linear_effects::{LinearEffect, linear_effect};
+use smallvec::SmallVec;
+use std::alloc::Global;
+use z80_decode::Instr;
+
+/// What the refined step makes of a row with flag parts.
+#[derive(Drop)]
+pub struct RefinedStep {
+    /// The data writes of the instruction, a byte each, in order.
+    pub writes: SmallVec<DataWrite, 2>,
+    /// The successors, at most two, or why the step refuses the row, as in `RowStep`. The parts change no reason.
+    pub answer: Result<Nexts, Reason>,
+    /// What the step makes of the flags.
+    pub conditions: StepConditions,
+    /// The variable that the step makes a linear of the variables before it, if there is one.
+    pub linear: Option<LinearEffect>,
+}
+
+/// The successors of a row whose instruction has no condition: with a linear effect its one successor, sharpened.
+fn sharpened_nexts(
+    alloc: Global,
+    ground: &Ground,
+    address: u16,
+    main: bool,
+    inline: bool,
+    instr: &Instr,
+    len: u8,
+    linear: &Option<LinearEffect>,
+    state: &AbsState,
+    own: Nexts,
+) -> Nexts
+    requires cells { length ground.now.cells ≤ 256 }
+    requires len { len ≡ length (spelling instr.now) }
+    requires own { own.items ≡ nexts_of ground.now address main inline instr.now state.now }
+    ensures { result.items
+        ≡ sharpened_nexts ground.now address main inline instr.now linear.now state.now }
+{
+    let Some(effect) = linear else {
+        return own;
+    };
+    let mut nexts = SmallVec::new(alloc);
+    if let Some(next) = outcome_next(ground, address, main, inline, instr, len, state, false) {
+        let mut next = next;
+        sharpen(&mut next, effect, state);
+        nexts.push_reserved(next);
+    }
+    nexts
+}
+
+/// The refined successors of a row that is not refused, from its own.
+fn refined_nexts(
+    alloc: Global,
+    ground: &Ground,
+    address: u16,
+    main: bool,
+    inline: bool,
+    instr: &Instr,
+    len: u8,
+    parts: &FlagParts,
+    linear: &Option<LinearEffect>,
+    state: &AbsState,
+    own: Nexts,
+) -> Nexts
+    requires cells { length ground.now.cells ≤ 256 }
+    requires len { len ≡ length (spelling instr.now) }
+    requires own { own.items ≡ nexts_of ground.now address main inline instr.now state.now }
+    requires linear { linear.now ≡ step_effect ground.now address inline instr.now parts.now state.now }
+    ensures value { result.items
+        ≡ refined_nexts ground.now address main inline instr.now parts.now state.now }
+    ensures narrows { (condition : ConditionKind) → condition_of instr.now ≡ Some condition
+        → NarrowsSoundly condition parts.now state.now }
+{
+    match condition_of(instr) {
+        Some(condition) => conditional_nexts(
+            alloc, ground, address, main, inline, instr, len, condition, parts, state,
+        ),
+        None => sharpened_nexts(
+            alloc, ground, address, main, inline, instr, len, linear, state, own,
+        ),
+    }
+}
+
+/// The refined answer to a row, from that of the abstract step.
+fn refined_answer(
+    alloc: Global,
+    ground: &Ground,
+    address: u16,
+    main: bool,
+    inline: bool,
+    instr: &Instr,
+    len: u8,
+    parts: &FlagParts,
+    linear: &Option<LinearEffect>,
+    state: &AbsState,
+    answer: Result<Nexts, Reason>,
+) -> Result<Nexts, Reason>
+    requires cells { length ground.now.cells ≤ 256 }
+    requires len { len ≡ length (spelling instr.now) }
+    requires linear { linear.now ≡ step_effect ground.now address inline instr.now parts.now state.now }
+    requires ok { IfOk answer (λ nexts.
+        answer_of ground.now address main inline state.now (Ok instr.now) ≡ Ok nexts.items) }
+    requires err { IfErr answer (λ reason.
+        answer_of ground.now address main inline state.now (Ok instr.now) ≡ Err reason) }
+    requires fits { IfOk answer (λ nexts. length state.now.shape ≤ 64) }
+    ensures ok { IfOk result (λ nexts.
+        refined_answer ground.now address main inline instr.now parts.now state.now ≡ Ok nexts.items) }
+    ensures err { IfErr result (λ reason.
+        refined_answer ground.now address main inline instr.now parts.now state.now ≡ Err reason) }
+    ensures fits { IfOk result (λ nexts. length state.now.shape ≤ 64) }
+    ensures narrows { IfOk result (λ nexts. (condition : ConditionKind)
+        → condition_of instr.now ≡ Some condition → NarrowsSoundly condition parts.now state.now) }
+{
+    match answer {
+        Ok(own) => Ok(refined_nexts(
+            alloc, ground, address, main, inline, instr, len, parts, linear, state, own,
+        )),
+        Err(reason) => Err(reason),
+    }
+}
+
+/// Makes the refined step of a row with flag parts. `instr` is the instruction at the row's address, 0 to 65,535, and
+/// `len` its length, 1 to 4 bytes. `main` says whether the row is main code's, and `inline` whether the address is that
+/// of an inline call. There are at most 256 kept cells. It takes no memory.
+///
+/// At JP cc, JR cc, CALL cc and RET cc there is a successor for each outcome of the condition, from the state that the
+/// parts leave there, and none where they leave nothing. A step with a linear effect has its successor cut to the values
+/// of the linear. All other successors are those of `row_step`, and so are data writes and reasons
+/// (docs/CHECKER.md, "The refined step").
+///
+/// On every board of which the row and its parts hold, if no reason that the certificate decides applies to the row, the
+/// instruction does what one of these successors says, and the conditions and the linear effect are true.
+pub fn refined_step(
+    alloc: Global,
+    ground: &Ground,
+    address: u16,
+    main: bool,
+    inline: bool,
+    instr: &Instr,
+    len: u8,
+    state: &AbsState,
+    parts: &FlagParts,
+) -> RefinedStep
+    requires cells { length ground.now.cells ≤ 256 }
+    requires len { len ≡ length (spelling instr.now) }
+    ensures writes { result.writes.items ≡ writes_of ground.now address state.now (Ok instr.now) }
+    ensures conditions { result.conditions
+        ≡ step_conditions ground.now address inline instr.now parts.now state.now }
+    ensures linear { result.linear
+        ≡ step_effect ground.now address inline instr.now parts.now state.now }
+    ensures ok { IfOk result.answer (λ nexts.
+        refined_answer ground.now address main inline instr.now parts.now state.now ≡ Ok nexts.items) }
+    ensures err { IfErr result.answer (λ reason.
+        refined_answer ground.now address main inline instr.now parts.now state.now ≡ Err reason) }
+    ensures keeps { IfOk result.answer (λ nexts. StandsAt ground.now.rom address (Ok instr.now)
+        → KeepsRefined ground.now address main state.now instr.now parts.now nexts.items
+        result.conditions result.linear) }
+{
+    let RowStep {
+        writes,
+        answer,
+        operand,
+    } = row_step(alloc, ground, address, main, inline, instr, len, state);
+    let carry = known_carry(parts, state);
+    let found = conditions(instr, operand, parts, carry);
+    let linear = linear_effect(instr, &state.pairs, operand, carry);
+    let refined = refined_answer(
+        alloc, ground, address, main, inline, instr, len, parts, &linear, state, answer,
+    );
+    RefinedStep {
+        writes,
+        answer: refined,
+        conditions: found,
+        linear,
+    }
+}
