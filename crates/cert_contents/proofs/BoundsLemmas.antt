@@ -8,7 +8,7 @@ use Rattle.cert_lines.specs.declared.proc.Proc.{Proc}
 use Rattle.cert_lines.specs.declared.proc.ProcKind.TheVariants.{Sub}
 use Rattle.cert_lines.specs.declared.row.Row.{Row}
 use Rattle.cert_lines.specs.declared.version.Version.{Version}
-use Rattle.cert_lines.specs.declared.version.Version.TheVariants.{One, Two}
+use Rattle.cert_lines.specs.declared.version.Version.TheVariants.{One, Two, Three}
 use Rattle.loop_bounds.specs.Linear.{LinearView}
 use Rattle.cert_form.specs.Contents.{CertificateView}
 use Rattle.cert_form.specs.Form.{AreInOrder, AreRows, AreSplits, AreSubs, IsInForm, IsRowOf, SuitsVersion, place_number}
@@ -20,6 +20,7 @@ use Rattle.cert_contents.specs.Bounds.{with_bounds_at, with_potential_at, with_b
 suits : (v : Version) (c d : CertificateView) → d.board ≡ c.board → d.cells ≡ c.cells → SuitsVersion v c → SuitsVersion v d
 suits One c d board cells old = record { board = board ∙ old.board; cells = cells ∙ old.cells }
 suits Two c d board cells any = tt
+suits Three c d board cells any = tt
 
 -- ---- a procedure
 
@@ -81,7 +82,7 @@ row_with_potential : (v : Version) (row : Row) (potential : LinearView) → IsRo
 row_with_potential v row potential form sum = record {
   place = form.place;
   pairs = form.pairs;
-  flag = form.flag;
+  flags = form.flags;
   facts = form.facts;
   shape = form.shape;
   slots = form.slots;
@@ -129,7 +130,7 @@ potential_in_form c id potential row many form at any short below =
         cells = form.limits.cells;
         rows = omega (arith, length_changed (with_potential potential) id c.rows, form.limits.rows);
         short = all_changed IsShortRow (with_potential potential) id c.rows form.limits.short
-            (λ other there is. record { shape = is.shape; facts = is.facts; potential = short });
+            (λ other there is. record { shape = is.shape; parts = is.parts; facts = is.facts; potential = short });
       };
     }
 

@@ -7,3 +7,4 @@ pub mod PartsLemmas
 pub mod PlaceLemmas
 pub mod ProcLemmas
 pub mod RowPlaces
+pub mod BoardLemmas

@@ -84,7 +84,7 @@ impl Certificate {
         Some(self.row(id)?.pairs)
     }
 
-    /// The flag fact of a row; `Some(None)` if it has none.
+    /// The flag fact of a row; `Some(None)` if it has none, as each row of version 3. The flag parts are in `row`.
     pub fn flag(&self, id: RowId) -> Option<Option<FlagFact>>
         ensures { result ≡ option_map (λ row. row.state.flag) (slice_get self.now.rows id) }
     {

@@ -92,14 +92,18 @@ impl Reader {
         self.take(Line::Budget(parts.budget))
     }
 
-    /// Reads the line of the board's map, if the version has one.
+    /// Reads the line of the board's map, if the version has one. A version without one is for the Galaxian board, so
+    /// that the line of another board is a bad one.
     fn take_board_lines(&mut self, version: Version, board: BoardMap) -> Result<(), CertFault>
         requires { IsProgress self.old }
         ensures { TakesLines self.old (board_lines version board) result self.new }
     {
-        match (version, board) {
-            (Version::One, BoardMap::Galaxian) => Ok(()),
-            _ => self.take(Line::Board(board)),
+        if version.names_board() {
+            return self.take(Line::Board(board));
+        }
+        match board {
+            BoardMap::Galaxian => Ok(()),
+            BoardMap::Raised => self.take(Line::Board(board)),
         }
     }
 

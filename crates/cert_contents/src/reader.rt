@@ -6,7 +6,7 @@ ghost use Rattle.cert_form.specs.Text.{list_lines};
 
 use crate::value::{Certificate, Unfinished};
 use cert_form::{CertFault, Stage};
-use cert_lines::{Line, ReadLine, Version};
+use cert_lines::{Line, ReadLine};
 use std::alloc::Global;
 use std::marker::Model;
 
@@ -40,10 +40,11 @@ impl Reader {
     }
 
     /// The number of the next line, from 1.
+    #[tactic(auto, using(crate::proofs::BoardLemmas::board_line_count))]
     pub fn number(&self) -> u64
         ensures { result ≡ suc (length (lines_read self.now)) }
     {
-        let board = u64::from(self.draft.version == Version::Two);
+        let board = u64::from(self.draft.version.names_board());
         match self.stage {
             Stage::Header => 1,
             Stage::Rom => 2,
@@ -104,7 +105,7 @@ impl Reader {
     ///
     /// # Errors
     ///
-    /// As for `take`. `Limit` comes also for a row with too many slots, facts or terms.
+    /// As for `take`. `Limit` comes also for a row with too many slots, flag parts, facts or terms.
     pub fn line(&mut self, text: &[u8]) -> Result<(), CertFault>
         ensures line { TakesText self.old text.now result self.new }
         ensures err { OnErr result (self.new ≡ self.old) }

@@ -12,6 +12,7 @@ use crate::reader::Reader;
 use abs_state::{KeptCell, Mode};
 use address_map::Region;
 use cert_fields::{are_facts, is_linear, is_shape};
+use cert_flags::are_parts;
 use cert_form::{
     CELL_LIMIT, CertFault, INLINE_LIMIT, PROC_LIMIT, ROW_LIMIT, Rows, SPLIT_LIMIT, Stage,
     place_number,
@@ -54,7 +55,7 @@ impl Reader {
         self.draft.rom_len = len;
         self.stage = match self.draft.version {
             Version::One => Stage::Stack,
-            Version::Two => Stage::Board,
+            Version::Two | Version::Three => Stage::Board,
         };
         Ok(())
     }
@@ -154,9 +155,9 @@ impl Reader {
         ensures err { OnErr result (self.new ≡ self.old) }
     {
         is_cell(&cell);
-        let old = self.draft.version == Version::One;
+        let named = self.draft.version.names_board();
         let follows = cell_may_follow(&self.draft.cells, self.draft.board, &cell);
-        if old || !follows || !self.is_open_to(Stage::Cells) {
+        if !named || !follows || !self.is_open_to(Stage::Cells) {
             return Err(self.bad_line());
         }
         if self.draft.cells.len() == CELL_LIMIT {
@@ -216,7 +217,7 @@ impl Reader {
         Ok(())
     }
 
-    /// The fault of a row with too many slots, facts or terms: `Limit` if a row may have its place, else a bad line.
+    /// The fault of a row with too many slots, flag parts, facts or terms: `Limit` if a row may have its place, else a bad line.
     pub(crate) fn crowded(&self, place: RowPlace) -> CertFault
         ensures { TellsCrowded self.now place result }
     {
@@ -323,11 +324,12 @@ fn place_may_follow(rows: &Rows, place: RowPlace) -> bool
     }
 }
 
-/// A law: by their types, a row's slots, facts and terms are within their limits.
+/// A law: by their types, a row's slots, flag parts, facts and terms are within their limits.
 fn is_short(row: &Row)
     ensures { IsShortRow row.now }
 {
     is_shape(&row.state.shape);
+    are_parts(&row.parts);
     are_facts(&row.facts);
     if let Some(linear) = row.potential {
         is_linear(&linear);

@@ -6,7 +6,7 @@ use Rattle.cert_lines.specs.declared.line.Line.TheVariants as lines
 use Rattle.cert_lines.specs.declared.version.BoardMap.{BoardMap}
 use Rattle.cert_lines.specs.declared.version.BoardMap.TheVariants.{Galaxian, Raised}
 use Rattle.cert_lines.specs.declared.version.Version.{Version}
-use Rattle.cert_lines.specs.declared.version.Version.TheVariants.{One, Two}
+use Rattle.cert_lines.specs.declared.version.Version.TheVariants.{One, Two, Three}
 use Rattle.cert_form.specs.Contents.{CertificateView}
 use Rattle.cert_form.specs.Text.{board_lines, head_lines, list_lines, lines_of}
 use Rattle.cert_form.proofs.Lists.{Longer, BeginsFrom, begins_earlier, begins_map, peel, skip, with_tail}
@@ -142,6 +142,7 @@ same_board One Raised Raised r s xs ys same = (refl, ap (drop 1) same)
 same_board One Galaxian Raised r s xs ys same = cc
 same_board One Raised Galaxian r s xs ys same = cc
 same_board Two b e r s xs ys same = (cc, ap (drop 1) same)
+same_board Three b e r s xs ys same = (cc, ap (drop 1) same)
 
 pub head_then : (c : CertificateView) (tail : List Line) →
     head_lines c ++ tail ≡ lines.Header c.version ∷ lines.Rom c.rom_len ∷

@@ -9,7 +9,7 @@ use Rattle.cert_lines.specs.Version.{version_digit}
 use Rattle.cert_lines.specs.declared.line.Line.{Line}
 use Rattle.cert_lines.specs.declared.line.Line.TheVariants as lines
 use Rattle.cert_lines.specs.declared.version.Version.{Version}
-use Rattle.cert_lines.specs.declared.version.Version.TheVariants.{One, Two}
+use Rattle.cert_lines.specs.declared.version.Version.TheVariants.{One, Two, Three}
 use Rattle.cert_form.specs.Text.{IsShortText, text_of_lines}
 use Rattle.cert_form.proofs.Lists.{same_cons}
 use Rattle.texts.specs.Fields.{fields_in}
@@ -103,6 +103,11 @@ digit_injective One One e = refl
 digit_injective One Two e = absurd (omega (arith, ap (λ xs. get_or xs 0 0) e))
 digit_injective Two One e = absurd (omega (arith, ap (λ xs. get_or xs 0 0) e))
 digit_injective Two Two e = refl
+digit_injective One Three e = absurd (omega (arith, ap (λ xs. get_or xs 0 0) e))
+digit_injective Two Three e = absurd (omega (arith, ap (λ xs. get_or xs 0 0) e))
+digit_injective Three One e = absurd (omega (arith, ap (λ xs. get_or xs 0 0) e))
+digit_injective Three Two e = absurd (omega (arith, ap (λ xs. get_or xs 0 0) e))
+digit_injective Three Three e = refl
 
 header_injective : (v w : Version) (xs ys : List (List (List ℕ))) →
     fields_of v (lines.Header v) ∷ xs ≡ fields_of w (lines.Header w) ∷ ys → v ≡ w

@@ -1,7 +1,7 @@
 -- A line with which a certificate continues after the lines that were read may come next.
-use Rattle.std.proofs.Common.{◌≡◌, ◌≢◌, ◌≤◌, ◌<◌, ℕ, suc, ◌∷◌, [], ◌++◌, List, length, take, drop, Option, Some, None, refl, sym, ap, subst, subst₂, ◌∙◌, inl, inr, arith, append_assoc, take-append-drop}
+use Rattle.std.proofs.Common.{◌≡◌, ◌≢◌, ◌≤◌, ◌<◌, ℕ, suc, true, ◌∷◌, [], ◌++◌, List, length, take, drop, Option, Some, None, refl, sym, ap, subst, subst₂, ◌∙◌, inl, inr, arith, append_assoc, take-append-drop}
 use Rattle.std.specs.List.{AllByRecursion}
-use Rattle.std.proofs.lemmas.Bool.{cases_lt}
+use Rattle.std.proofs.lemmas.Bool.{cases_lt, false≢true}
 use Rattle.abs_state.specs.declared.cell.KeptCell.{KeptCell}
 use Rattle.address_map.specs.declared.region.Region.{Region}
 use Rattle.cert_lines.specs.Line.{IsLine, IsShortLine, fields_of}
@@ -12,7 +12,8 @@ use Rattle.cert_lines.specs.declared.proc.Proc.{Proc}
 use Rattle.cert_lines.specs.declared.version.BoardMap.{BoardMap}
 use Rattle.cert_lines.specs.declared.version.BoardMap.TheVariants.{Galaxian, Raised}
 use Rattle.cert_lines.specs.declared.version.Version.{Version}
-use Rattle.cert_lines.specs.declared.version.Version.TheVariants.{One, Two}
+use Rattle.cert_lines.specs.declared.version.Version.TheVariants.{One, Two, Three}
+use Rattle.cert_lines.specs.Version.{names_board}
 use Rattle.cert_form.specs.Contents.{CertificateView}
 use Rattle.cert_form.specs.Form.{IsCertificate, IsWithinLimits, SuitsVersion, AreSubs, AreInOrder, AreSplits, AreInlines, AreCells, AreRows, IsSplit, IsCell, IsRowOf}
 use Rattle.cert_form.specs.Text.{board_lines, head_lines, list_lines, lines_of}
@@ -63,9 +64,10 @@ not_rows : (s : Stage) (d : CertificateView) → SuitsStage s d → d.rows ≡ [
 not_rows stages.Rows d some none e = absurd (omega (arith, ap length none))
 not_rows _ d some none e = absurd (omega arith)
 
-has_two : (v : Version) (c : CertificateView) → SuitsVersion v c → 0 < length c.cells → v ≡ Two
-has_two One c suits some = absurd (omega (arith, ap length suits.cells))
-has_two Two c suits some = refl
+has_board : (v : Version) (c : CertificateView) → SuitsVersion v c → 0 < length c.cells → names_board v ≡ true
+has_board One c suits some = absurd (omega (arith, ap length suits.cells))
+has_board Two c suits some = refl
+has_board Three c suits some = refl
 
 first_line : (line other : Line) (more rest : List Line) → line ∷ more ≡ other ∷ rest → other ≡ line
 first_line line other more rest e = cc
@@ -110,7 +112,7 @@ module _ (p : ReaderView) (c : CertificateView) (line : Line) (more : List Line)
       let some = longer_length lines.Cell c.cells p.contents.cells (line ∷ more) l in
       subst (MayFollow p) (first_line line (lines.Cell l.next) more l.rest l.begins) (
         record { from = from; to = omega arith; procs = complete_procs procs },
-        sym head.version ∙ has_two c.version c form.version (omega arith),
+        ap names_board (sym head.version) ∙ has_board c.version c form.version (omega arith),
         record { each = all_front _ _ l.more are.each; rising = follow_front _ _ l.more are.rising },
       )
   may_from (by_row procs splits inlines cells l) =
@@ -128,6 +130,7 @@ module _ (p : ReaderView) (c : CertificateView) (line : Line) (more : List Line)
 old_board : (v : Version) (c : CertificateView) → SuitsVersion v c → v ≡ One → c.board ≡ Galaxian
 old_board One c suits e = suits.board
 old_board Two c suits e = cc
+old_board Three c suits e = cc
 
 -- after the line of the board, if there is one, comes the stack's
 board_then : (v : Version) (b e : BoardMap) (r : Region) (xs : List Line) (line : Line) (more : List Line) →
@@ -137,6 +140,14 @@ board_then One Galaxian Galaxian r xs line more old same = cc
 board_then One Galaxian Raised r xs line more old same = cc
 board_then One Raised e r xs line more old same = let no : Raised ≡ Galaxian = old refl in cc
 board_then Two b e r xs line more old same = cc
+board_then Three b e r xs line more old same = cc
+
+-- a version that names the board has its line first
+board_first : (v : Version) (b : BoardMap) (xs : List Line) (line : Line) (more : List Line) → names_board v ≡ true →
+    board_lines v b ++ xs ≡ line ∷ more → lines.Board b ≡ line
+board_first One b xs line more named same = absurd (false≢true named)
+board_first Two b xs line more named same = cc
+board_first Three b xs line more named same = cc
 
 first_version : (v w : Version) (xs ys : List Line) → lines.Header v ∷ xs ≡ lines.Header w ∷ ys → v ≡ w
 first_version v w xs ys e = cc
@@ -149,12 +160,10 @@ at_head stages.Header c d line more early suits stage e = cc
 at_head stages.Rom c d line more early suits stage e = cc
 at_head stages.Board c d line more early suits stage e =
     let whole = sym (head_then c (list_lines c ++ lines.End ∷ [])) ∙ e in
-    let two : c.version ≡ Two = first_version c.version d.version _ _ whole ∙ stage in
-    let Boards : Version →
-    Type 0 = λ v. board_lines v c.board ++ lines.Stack c.region ∷ lines.Budget c.budget ∷
-    (list_lines c ++ lines.End ∷ []) ≡ line ∷ more in
-    let boards : Boards Two = subst Boards two (ap (drop 2) whole) in
-    cc
+    let named = ap names_board (first_version c.version d.version _ _ whole) ∙ stage in
+    let behind = lines.Stack c.region ∷ lines.Budget c.budget ∷ (list_lines c ++ lines.End ∷ []) in
+    let boards : board_lines c.version c.board ++ behind ≡ line ∷ more = ap (drop 2) whole in
+    board_first c.version c.board behind line more named boards
 at_head stages.Stack c d line more early suits stage e =
     let whole = sym (head_then c (list_lines c ++ lines.End ∷ [])) ∙ e in
     let version = first_version c.version d.version _ _ whole in
@@ -193,6 +202,7 @@ board_is_line : (v w : Version) (b : BoardMap) → AllByRecursion (IsLine w) (bo
 board_is_line One w Galaxian = tt
 board_is_line One w Raised = (tt, tt)
 board_is_line Two w b = (tt, tt)
+board_is_line Three w b = (tt, tt)
 
 -- each line of a certificate is in form
 pub lines_in_form : (c : CertificateView) → IsCertificate c → AllByRecursion (IsLine c.version) (lines_of c)

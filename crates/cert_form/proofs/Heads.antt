@@ -5,7 +5,7 @@ use Rattle.cert_lines.specs.declared.line.Line.TheVariants as lines
 use Rattle.cert_lines.specs.declared.version.BoardMap.{BoardMap}
 use Rattle.cert_lines.specs.declared.version.BoardMap.TheVariants.{Galaxian}
 use Rattle.cert_lines.specs.declared.version.Version.{Version}
-use Rattle.cert_lines.specs.declared.version.Version.TheVariants.{One, Two}
+use Rattle.cert_lines.specs.declared.version.Version.TheVariants.{One, Two, Three}
 use Rattle.cert_form.specs.Contents.{CertificateView}
 use Rattle.cert_form.specs.Form.{SuitsVersion}
 use Rattle.cert_form.specs.Text.{HasHead, board_lines, head_lines, list_lines}
@@ -19,11 +19,13 @@ use Rattle.cert_form.proofs.Texts.{Stands}
 galaxian : (v : Version) (c : CertificateView) → SuitsVersion v c → v ≡ One → c.board ≡ Galaxian
 galaxian One c suits old = suits.board
 galaxian Two c suits old = cc
+galaxian Three c suits old = cc
 
 length_board : (v : Version) (b d : BoardMap) → (v ≡ One → b ≡ Galaxian) → (v ≡ One → d ≡ Galaxian) →
     length (board_lines v b) ≡ length (board_lines v d)
 length_board One b d here there = rw (here refl, there refl) refl
 length_board Two b d here there = refl
+length_board Three b d here there = refl
 
 -- certificates of one version have the same number of lines up to the budget
 length_head : (c d : CertificateView) → c.version ≡ d.version → SuitsVersion c.version c → SuitsVersion d.version d →

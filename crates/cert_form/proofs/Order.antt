@@ -1,6 +1,7 @@
 -- What reading a line does to a reader: it has one more line, and is still in form.
-use Rattle.std.proofs.Common.{◌≡◌, ◌≤◌, ◌<◌, ℕ, ◌∷◌, [], ◌++◌, length, Option, None, IfSome, refl, sym, ap, subst, ◌∙◌, arith, append_assoc, append-nil}
+use Rattle.std.proofs.Common.{◌≡◌, ◌≤◌, ◌<◌, ℕ, true, ◌∷◌, [], ◌++◌, length, Option, None, IfSome, refl, sym, ap, subst, ◌∙◌, arith, append_assoc, append-nil}
 use Rattle.std.specs.List.{AllByRecursion}
+use Rattle.std.proofs.lemmas.Bool.{false≢true}
 use Rattle.abs_state.specs.declared.cell.KeptCell.{KeptCell}
 use Rattle.address_map.specs.declared.region.Region.{Region}
 use Rattle.cert_lines.specs.Line.{IsLine}
@@ -14,7 +15,8 @@ use Rattle.cert_lines.specs.declared.split.Split.{Split}
 use Rattle.cert_lines.specs.declared.version.BoardMap.{BoardMap}
 use Rattle.cert_lines.specs.declared.version.BoardMap.TheVariants.{Galaxian}
 use Rattle.cert_lines.specs.declared.version.Version.{Version}
-use Rattle.cert_lines.specs.declared.version.Version.TheVariants.{One, Two}
+use Rattle.cert_lines.specs.declared.version.Version.TheVariants.{One, Two, Three}
+use Rattle.cert_lines.specs.Version.{names_board}
 use Rattle.cert_form.specs.Contents.{CertificateView}
 use Rattle.cert_form.specs.Form.{SuitsVersion, IsWithinLimits, AreInOrder, AreSplits, AreInlines, AreCells, AreRows}
 use Rattle.cert_form.specs.Text.{board_lines, head_lines, list_lines}
@@ -122,6 +124,7 @@ behind_header p version = record { stage = stages.Rom; contents = record (p.cont
 abbrev pub stage_behind_rom : Version → Stage
 stage_behind_rom One = stages.Stack
 stage_behind_rom Two = stages.Board
+stage_behind_rom Three = stages.Board
 
 abbrev pub behind_rom : ReaderView → ℕ → ReaderView
 behind_rom p len = record { stage = stage_behind_rom p.contents.version; contents = record (p.contents) { rom_len = len } }
@@ -228,11 +231,13 @@ new_is_progress = head_progress stages.Header new_progress.contents (omega arith
 suits_with : (v : Version) (d : CertificateView) → d.board ≡ Galaxian → d.cells ≡ [] → SuitsVersion v d
 suits_with One d board cells = record { board = board; cells = cells }
 suits_with Two d board cells = tt
+suits_with Three d board cells = tt
 
 pub suits_again : (v : Version) (c d : CertificateView) → d.board ≡ c.board → d.cells ≡ c.cells → SuitsVersion v c →
     SuitsVersion v d
 suits_again One c d board cells suits = record { board = board ∙ suits.board; cells = cells ∙ suits.cells }
 suits_again Two c d board cells suits = tt
+suits_again Three c d board cells suits = tt
 
 pub after_header : (p : ReaderView) (version : Version) → IsProgress p → MayFollow p (lines.Header version) →
     Adds p (lines.Header version) (behind_header p version)
@@ -247,16 +252,19 @@ after_header p version h at =
 
 rom_suits_stage : (v : Version) (d : CertificateView) → d.version ≡ v → SuitsStage (stage_behind_rom v) d
 rom_suits_stage One d is = tt
-rom_suits_stage Two d is = is
+rom_suits_stage Two d is = ap names_board is
+rom_suits_stage Three d is = ap names_board is
 
 rom_rank : (v : Version) → stage_rank (stage_behind_rom v) ≤ 5
 rom_rank One = omega arith
 rom_rank Two = omega arith
+rom_rank Three = omega arith
 
 rom_lines : (v : Version) (d : CertificateView) → d.version ≡ v → SuitsVersion v d →
     lines_before (stage_behind_rom v) d ≡ lines.Header d.version ∷ lines.Rom d.rom_len ∷ []
 rom_lines One d is suits = rw (is, suits.board) refl
 rom_lines Two d is suits = refl
+rom_lines Three d is suits = refl
 
 pub after_rom : (p : ReaderView) (len : ℕ) → IsProgress p → IsLine p.contents.version (lines.Rom len) →
     MayFollow p (lines.Rom len) → Adds p (lines.Rom len) (behind_rom p len)
@@ -270,15 +278,27 @@ after_rom p len h word at =
           word h.region h.budget (λ _. h.no_board (omega arith)) (empty_before p h (omega arith)),
     )
 
+-- a version that names the board has its line
+pub named_board : (v : Version) (board : BoardMap) → names_board v ≡ true → board_lines v board ≡ lines.Board board ∷ []
+named_board One board named = absurd (false≢true named)
+named_board Two board named = refl
+named_board Three board named = refl
+
+-- and may have cells
+pub named_suits : (v : Version) (d : CertificateView) → names_board v ≡ true → SuitsVersion v d
+named_suits One d named = absurd (false≢true named)
+named_suits Two d named = tt
+named_suits Three d named = tt
+
 pub after_board : (p : ReaderView) (board : BoardMap) → IsProgress p → MayFollow p (lines.Board board) →
     Adds p (lines.Board board) (behind_board p board)
 after_board p board h at =
     let rank : stage_rank p.stage ≡ 2 = ap stage_rank at in
     let new = (behind_board p board).contents in
-    let two : p.contents.version ≡ Two = subst (λ s. SuitsStage s p.contents) at h.stage in (
-      ap (λ v. lines.Header p.contents.version ∷ lines.Rom p.contents.rom_len ∷ board_lines v board) two
+    let named : names_board p.contents.version ≡ true = subst (λ s. SuitsStage s p.contents) at h.stage in (
+      ap (λ ls. lines.Header p.contents.version ∷ lines.Rom p.contents.rom_len ∷ ls) (named_board p.contents.version board named)
           ∙ sym (ap (λ s. lines_before s p.contents ++ lines.Board board ∷ []) at),
-      head_progress stages.Stack new (omega arith) (subst (λ v. SuitsVersion v new) (sym two) tt) tt
+      head_progress stages.Stack new (omega arith) (named_suits p.contents.version new named) tt
           h.rom_len h.region h.budget (λ early. absurd (omega arith)) (empty_before p h (omega arith)),
     )
 

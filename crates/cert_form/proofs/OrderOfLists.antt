@@ -11,13 +11,13 @@ use Rattle.cert_lines.specs.declared.proc.Proc.{Proc}
 use Rattle.cert_lines.specs.declared.row.Row.{Row}
 use Rattle.cert_lines.specs.declared.split.Split.{Split}
 use Rattle.cert_form.specs.Contents.{CertificateView}
-use Rattle.cert_form.specs.Form.{SuitsVersion, AreSplits, AreRows}
+use Rattle.cert_form.specs.Form.{AreSplits, AreRows}
 use Rattle.cert_form.specs.Text.{head_lines, list_lines}
 use Rattle.cert_form.specs.Reader.{ReaderView, IsProgress, MayFollow, HasRoomFor, stage_rank, lines_before, lines_read}
 use Rattle.cert_form.specs.declared.stage.Stage.{Stage}
 use Rattle.cert_form.specs.declared.stage.Stage.TheVariants as stages
 use Rattle.cert_form.proofs.Lists.{all_push}
-use Rattle.cert_form.proofs.Order.{Adds, IsOrdered, Orders, ordered, within_limits, behind_proc, behind_split, behind_inline, behind_cell, behind_row, behind_end, suits_again}
+use Rattle.cert_form.proofs.Order.{Adds, IsOrdered, Orders, ordered, within_limits, behind_proc, behind_split, behind_inline, behind_cell, behind_row, behind_end, suits_again, named_suits}
 
 -- the lines that were read at the stages of the lists
 pub at_lists : (s : Stage) (d : CertificateView) → 5 ≤ stage_rank s → stage_rank s ≤ 9 →
@@ -218,7 +218,7 @@ order_cell p cell h may =
           (push_under (map lines.Inline d.inlines) _ _ (lines.Cell cell)
           (push_last lines.Cell d.cells cell (map lines.Row d.rows) (rw rows refl))))),
       record {
-        version = subst (λ v. SuitsVersion v new) (sym may.1) tt;
+        version = named_suits d.version new may.1;
         stage = omega (arith, length_push d.cells cell);
         rom_len = h.rom_len;
         region = h.region;

@@ -11,7 +11,7 @@ use Rattle.cert_lines.specs.declared.row.Row.{Row}
 use Rattle.cert_lines.specs.declared.version.BoardMap.{BoardMap}
 use Rattle.cert_lines.specs.declared.version.BoardMap.TheVariants.{Galaxian, Raised}
 use Rattle.cert_lines.specs.declared.version.Version.{Version}
-use Rattle.cert_lines.specs.declared.version.Version.TheVariants.{One, Two}
+use Rattle.cert_lines.specs.declared.version.Version.TheVariants.{One, Two, Three}
 use Rattle.cert_form.specs.Contents.{CertificateView}
 use Rattle.cert_form.specs.Form.{IsCertificate, IsInForm, IsRowOf}
 use Rattle.cert_form.specs.Text.{BeginsWith, HasTooMany, IsReadable, IsShortText, LINE_LIMIT, board_lines, head_lines, list_lines, lines_of, text_of_lines}
@@ -35,6 +35,7 @@ unfolding TellsShort
 board_tells_short told v One Galaxian = tt
 board_tells_short told v One Raised = (λ form. told.short v (lines.Board Raised) form tt, tt)
 board_tells_short told v Two b = (λ form. told.short v (lines.Board b) form tt, tt)
+board_tells_short told v Three b = (λ form. told.short v (lines.Board b) form tt, tt)
 
 -- a certificate can be read if its rows can
 pub readable_with_rows : LinesAreTold → (c : CertificateView) → IsCertificate c →

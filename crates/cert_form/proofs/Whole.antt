@@ -10,7 +10,7 @@ use Rattle.cert_lines.specs.declared.split.Split.{Split}
 use Rattle.cert_lines.specs.declared.version.BoardMap.{BoardMap}
 use Rattle.cert_lines.specs.declared.version.BoardMap.TheVariants.{Galaxian, Raised}
 use Rattle.cert_lines.specs.declared.version.Version.{Version}
-use Rattle.cert_lines.specs.declared.version.Version.TheVariants.{One, Two}
+use Rattle.cert_lines.specs.declared.version.Version.TheVariants.{One, Two, Three}
 use Rattle.cert_form.specs.Contents.{CertificateView}
 use Rattle.cert_form.specs.Text.{board_lines, head_lines, list_lines, lines_of}
 use Rattle.cert_form.specs.Reader.{ReaderView, stage_rank, lines_before, lines_read}
@@ -72,6 +72,7 @@ length-board_lines : (v : Version) (b : BoardMap) → length (board_lines v b) �
 length-board_lines One Galaxian = omega arith
 length-board_lines One Raised = omega arith
 length-board_lines Two b = omega arith
+length-board_lines Three b = omega arith
 
 short_before : (s : Stage) (d : CertificateView) → stage_rank s < 5 → length (lines_before s d) ≤ 4
 short_before stages.Header d early = omega arith

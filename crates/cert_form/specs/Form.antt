@@ -14,7 +14,7 @@ use Rattle.cert_lines.specs.declared.split.Split.{Split}
 use Rattle.cert_lines.specs.declared.version.BoardMap.{BoardMap}
 use Rattle.cert_lines.specs.declared.version.BoardMap.TheVariants.{Galaxian}
 use Rattle.cert_lines.specs.declared.version.Version.{Version}
-use Rattle.cert_lines.specs.declared.version.Version.TheVariants.{One, Two}
+use Rattle.cert_lines.specs.declared.version.Version.TheVariants.{One, Two, Three}
 use Rattle.cert_fields.specs.Pair.{IsRange}
 use Rattle.texts.specs.Numbers.{IsWord}
 use Rattle.cert_form.specs.Contents.{CertificateView}
@@ -110,6 +110,7 @@ pub record IsOld (c : CertificateView) : Type 0 where
 abbrev pub SuitsVersion : Version → CertificateView → Type 0
 SuitsVersion One c = IsOld c
 SuitsVersion Two c = Unit {0}
+SuitsVersion Three c = Unit {0}
 
 -- a certificate in form, except that its counts may be above their limits
 pub record IsCertificate (c : CertificateView) : Type 0 where

@@ -1,5 +1,5 @@
 -- How much of a certificate was read, and which line may come next.
-use Rattle.std.specs.Prelude.{ℕ, ◌<◌, ◌≤◌, ◌≡◌, ◌≢◌, suc, List, [], ◌∷◌, ◌++◌, length, take, slice_get, Option, Some, None, IfSome, Result, Ok, Err}
+use Rattle.std.specs.Prelude.{ℕ, ◌<◌, ◌≤◌, ◌≡◌, ◌≢◌, suc, true, List, [], ◌∷◌, ◌++◌, length, take, slice_get, Option, Some, None, IfSome, Result, Ok, Err}
 use Rattle.std.specs.List.{AllByRecursion}
 use Rattle.cert_lines.specs.Line.{IsLine, IsShortLine, fields_of}
 use Rattle.cert_lines.specs.Proc.{IsProc}
@@ -11,7 +11,7 @@ use Rattle.texts.specs.Fields.{fields_in}
 use Rattle.cert_lines.specs.declared.proc.Proc.{Proc}
 use Rattle.cert_lines.specs.declared.proc.ProcKind.TheVariants.{Main, Nmi}
 use Rattle.cert_lines.specs.declared.version.BoardMap.TheVariants.{Galaxian}
-use Rattle.cert_lines.specs.declared.version.Version.TheVariants.{Two}
+use Rattle.cert_lines.specs.Version.{names_board}
 use Rattle.cert_form.specs.Contents.{CertificateView}
 use Rattle.cert_form.specs.Form.{IsWithinLimits, SuitsVersion, AreSubs, AreInOrder, AreSplits, AreInlines, AreCells, AreRows, MayArm, place_number}
 use Rattle.cert_form.specs.Text.{IsReadable, head_lines, board_lines, list_lines, lines_of}
@@ -60,9 +60,9 @@ AreFirstProcs None (main ∷ subs) = (main.kind ≡ Main) × AreSubs subs
 AreFirstProcs (Some budget) (main ∷ []) = main.kind ≡ Main
 AreFirstProcs (Some budget) (main ∷ nmi ∷ subs) = (main.kind ≡ Main) × (nmi.kind ≡ Nmi) × AreSubs subs
 
--- only version 2 waits for the board's line; the stage of a list begins after its first line
+-- only a version that names the board waits for its line; the stage of a list begins after its first line
 abbrev pub SuitsStage : Stage → CertificateView → Type 0
-SuitsStage stages.Board c = c.version ≡ Two
+SuitsStage stages.Board c = names_board c.version ≡ true
 SuitsStage stages.Splits c = 0 < length c.splits
 SuitsStage stages.Inlines c = 0 < length c.inlines
 SuitsStage stages.Cells c = 0 < length c.cells
@@ -108,7 +108,7 @@ MayFollow p (lines.Budget budget) = p.stage ≡ stages.Budget
 MayFollow p (lines.Proc proc) = (p.stage ≡ stages.Procs) × AreFirstProcs p.contents.budget (p.contents.procs ++ proc ∷ [])
 MayFollow p (lines.Split split) = IsOpenTo 6 p × AreSplits (length p.contents.procs) (p.contents.splits ++ split ∷ [])
 MayFollow p (lines.Inline address) = IsOpenTo 7 p × AreInlines (p.contents.inlines ++ address ∷ [])
-MayFollow p (lines.Cell cell) = IsOpenTo 8 p × (p.contents.version ≡ Two) × AreCells p.contents.board (p.contents.cells ++ cell ∷ [])
+MayFollow p (lines.Cell cell) = IsOpenTo 8 p × (names_board p.contents.version ≡ true) × AreCells p.contents.board (p.contents.cells ++ cell ∷ [])
 MayFollow p (lines.Row row) = IsOpenTo 9 p × AreRows p.contents.version (length p.contents.procs) (length p.contents.cells) (p.contents.rows ++ row ∷ [])
 MayFollow p lines.End = IsOpenTo 9 p
 
@@ -149,7 +149,7 @@ pub record MayStandAt (p : ReaderView) (place : RowPlace) : Type 0 where
   pub armed : MayArm (length p.contents.cells) place.mode place.armed
   pub above : (i : ℕ) (row : Row) → slice_get p.contents.rows i ≡ Some row → place_number row.proc row.address ≤ place_number place.proc place.address
 
--- the fault of a row with too many slots, facts or terms
+-- the fault of a row with too many slots, flag parts, facts or terms
 abbrev pub TellsCrowded : ReaderView → RowPlace → CertFault → Type 0
 TellsCrowded p place (faults.Line n) = (n ≡ suc (length (lines_read p))) × (MayStandAt p place → ⊥)
 TellsCrowded p place faults.Limit = MayStandAt p place

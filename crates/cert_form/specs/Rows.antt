@@ -12,6 +12,7 @@ row_with_shape row shape = record {
   proc = row.proc;
   address = row.address;
   state = record { mode = row.mode; armed = row.armed; pairs = row.pairs; flag = row.flag; shape = shape };
+  parts = row.parts;
   facts = row.facts;
   potential = row.potential;
 }

@@ -7,7 +7,7 @@ use Rattle.cert_lines.specs.declared.line.Line.TheVariants as lines
 use Rattle.cert_lines.specs.declared.version.BoardMap.{BoardMap}
 use Rattle.cert_lines.specs.declared.version.BoardMap.TheVariants.{Galaxian, Raised}
 use Rattle.cert_lines.specs.declared.version.Version.{Version}
-use Rattle.cert_lines.specs.declared.version.Version.TheVariants.{One, Two}
+use Rattle.cert_lines.specs.declared.version.Version.TheVariants.{One, Two, Three}
 use Rattle.cert_form.specs.Contents.{CertificateView}
 use Rattle.cert_form.specs.Form.{IsCertificate, IsInForm}
 
@@ -20,6 +20,7 @@ abbrev pub board_lines : Version → BoardMap → List Line
 board_lines One Galaxian = []
 board_lines One Raised = lines.Board Raised ∷ []
 board_lines Two board = lines.Board board ∷ []
+board_lines Three board = lines.Board board ∷ []
 
 -- the lines before the procedures
 abbrev pub head_lines : CertificateView → List Line

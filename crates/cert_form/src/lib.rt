@@ -1,10 +1,11 @@
-// A whole certificate of either version: what it says, the order of its lines, that its text determines it, and the
+// A whole certificate of each version: what it says, the order of its lines, that its text determines it, and the
 // list of its rows (docs/CERTIFICATE.md).
 #![tactic(auto)]
 
 mod fault;
 mod laws;
 mod limits;
+mod migrated;
 mod rows;
 mod shapes;
 mod stage;
@@ -14,5 +15,6 @@ pub use laws::{lines_read_begin_a_certificate, other_lines_begin_none, texts_tel
 pub use limits::{
     CELL_LIMIT, INLINE_LIMIT, PROC_LIMIT, ROW_LIMIT, SPLIT_LIMIT, limits_of_a_certificate,
 };
+pub use migrated::migrated_version;
 pub use rows::{NumberedRow, Rows, place_number};
 pub use stage::Stage;

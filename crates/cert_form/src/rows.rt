@@ -10,6 +10,7 @@ use abs_state::{AbsState, FlagFact, Mode, Pairs};
 use call_graph::ProcId;
 use cert_fields::Facts;
 use cert_lines::{Row, RowRef};
+use flag_parts::FlagParts;
 use loop_bounds::Linear;
 use stack_shape::Shape;
 use std::alloc::{AllocError, Global};
@@ -24,6 +25,7 @@ pub struct NumberedRow {
     armed: u16,
     pairs: Pairs,
     flag: Option<FlagFact>,
+    parts: FlagParts,
     facts: Facts,
     potential: Option<Linear>,
     shape: usize,
@@ -41,6 +43,7 @@ impl NumberedRow {
             armed: self.armed,
             pairs: &self.pairs,
             flag: self.flag,
+            parts: &self.parts,
             facts: &self.facts,
             shape,
             potential: self.potential,
@@ -92,6 +95,7 @@ impl Rows {
             proc,
             address,
             state,
+            parts,
             facts,
             potential,
         } = row;
@@ -110,6 +114,7 @@ impl Rows {
             armed,
             pairs,
             flag,
+            parts,
             facts,
             potential,
             shape: number,

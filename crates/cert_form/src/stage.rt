@@ -8,7 +8,7 @@ ghost use Rattle.cert_form.specs.Reader.{stage_rank};
 pub enum Stage {
     Header,
     Rom,
-    /// The board's map, in version 2.
+    /// The board's map, from version 2 on.
     Board,
     Stack,
     Budget,

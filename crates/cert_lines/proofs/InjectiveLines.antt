@@ -20,7 +20,7 @@ use Rattle.cert_lines.specs.declared.split.Split.{Split}
 use Rattle.cert_lines.specs.declared.version.BoardMap.{BoardMap}
 use Rattle.cert_lines.specs.declared.version.BoardMap.TheVariants.{Galaxian, Raised}
 use Rattle.cert_lines.specs.declared.version.Version.{Version}
-use Rattle.cert_lines.specs.declared.version.Version.TheVariants.{One, Two}
+use Rattle.cert_lines.specs.declared.version.Version.TheVariants.{One, Two, Three}
 use Rattle.cert_fields.proofs.InjectiveLaws.{register_letter_injective}
 use Rattle.cert_fields.proofs.NameLemmas.{code}
 use Rattle.cert_fields.specs.Names.{register_letter}
@@ -109,6 +109,11 @@ version_injective One One e = refl
 version_injective One Two e = absurd (omega (arith, ap code e))
 version_injective Two One e = absurd (omega (arith, ap code e))
 version_injective Two Two e = refl
+version_injective One Three e = absurd (omega (arith, ap code e))
+version_injective Two Three e = absurd (omega (arith, ap code e))
+version_injective Three One e = absurd (omega (arith, ap code e))
+version_injective Three Two e = absurd (omega (arith, ap code e))
+version_injective Three Three e = refl
 
 board_injective : (b c : BoardMap) → board_name b ≡ board_name c → b ≡ c
 board_injective Galaxian Galaxian e = refl

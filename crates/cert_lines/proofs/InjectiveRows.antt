@@ -2,21 +2,24 @@
 use Rattle.std.proofs.Common.{◌≡◌, ◌<◌, ◌^◌, ℕ, List, [], ◌∷◌, ◌++◌, get_or, length, map, Option, refl, sym, ap, subst, ◌∙◌, arith}
 use Rattle.std.proofs.lemmas.Fmt.{decimal_injective}
 use Rattle.std.specs.Fmt.{decimal}
-use Rattle.abs_state.specs.declared.fact.FlagFact.{FlagFact}
 use Rattle.abs_state.specs.declared.pairs.Pairs.{Pairs}
 use Rattle.cert_lines.proofs.RowLists.{pairs_in}
-use Rattle.cert_lines.specs.Row.{IsArmed, IsPlace, IsRow, armed_field, fields_of_row, last_fields, pair_fields, place_fields, place_of}
+use Rattle.cert_lines.specs.Row.{IsArmed, IsPlace, IsRow, armed_field, fields_of_row, last_fields, pair_fields, place_fields, place_of, row_flags}
+use Rattle.cert_lines.specs.Version.{flag_form}
 use Rattle.cert_lines.specs.declared.row.RowPlace.{RowPlace}
 use Rattle.cert_lines.specs.declared.row.Row.{Row}
 use Rattle.cert_lines.specs.declared.version.Version.{Version}
-use Rattle.cert_lines.specs.declared.version.Version.TheVariants.{One, Two}
+use Rattle.cert_lines.specs.declared.version.Version.TheVariants.{One, Two, Three}
 use Rattle.intervals.specs.declared.pair.Pair.{Pair}
 use Rattle.loop_bounds.specs.Linear.{LinearView}
 use Rattle.cert_fields.proofs.LinearInjectiveLaws.{potential_text_injective}
-use Rattle.cert_fields.proofs.InjectiveLaws.{facts_text_injective, flag_text_injective, mode_letter_injective, pair_text_injective, shape_text_injective}
+use Rattle.cert_fields.proofs.InjectiveLaws.{facts_text_injective, mode_letter_injective, pair_text_injective, shape_text_injective}
 use Rattle.cert_fields.specs.Facts.{AreFacts}
 use Rattle.cert_fields.specs.Linear.{IsPotential}
 use Rattle.cert_fields.specs.Pair.{pair_text}
+use Rattle.cert_flags.proofs.FlagsLaws.{flags_text_injective}
+use Rattle.cert_flags.specs.Flags.{AreFlags}
+use Rattle.cert_flags.specs.declared.flags.RowFlags.{RowFlags}
 use Rattle.stack_shape.specs.declared.slot.Slot.{Slot}
 use Rattle.texts.proofs.NumberLemmas.{hex4_injective}
 use Rattle.texts.specs.Numbers.{IsWord}
@@ -42,10 +45,12 @@ same_parts (x ∷ xs) (y ∷ ys) us vs count e =
 same_armed : (v : Version) (m n : ℕ) → IsArmed v m → IsArmed v n → armed_field v m ≡ armed_field v n → m ≡ n
 same_armed One m n small too e = small ∙ sym too
 same_armed Two m n small too e = word_injective m n small too (ap (field 0) e)
+same_armed Three m n small too e = word_injective m n small too (ap (field 0) e)
 
 length_armed : (v : Version) (m n : ℕ) → length (armed_field v m) ≡ length (armed_field v n)
 length_armed One m n = refl
 length_armed Two m n = refl
+length_armed Three m n = refl
 
 same_place : (v : Version) (p q : RowPlace) → IsPlace v p → IsPlace v q → place_fields v p ≡ place_fields v q → p ≡ q
 same_place v p q form too e =
@@ -87,33 +92,35 @@ same_pairs : (p q : Pairs) → pair_fields p ≡ pair_fields q → p ≡ q
 same_pairs p q e = ap (pairs_of p.af) (pair_texts_injective (pairs_in p) (pairs_in q) e)
 
 -- the parts of a row
-abbrev row_of : RowPlace → Pairs → Option FlagFact → List LinearView → List Slot → Option LinearView → Row
-row_of place pairs flag facts shape potential = record {
+abbrev row_of : RowPlace → Pairs → RowFlags → List LinearView → List Slot → Option LinearView → Row
+row_of place pairs flags facts shape potential = record {
   proc = place.proc;
   address = place.address;
-  state = record { mode = place.mode; armed = place.armed; pairs = pairs; flag = flag; shape = shape };
+  state = record { mode = place.mode; armed = place.armed; pairs = pairs; flag = flags.fact; shape = shape };
+  parts = flags.parts;
   facts = facts;
   potential = potential;
 }
 
 module _ (v : Version) (r s : Row) (form : IsRow v r) (too : IsRow v s) where
-  same_last : place_of r ≡ place_of s → r.state.pairs ≡ s.state.pairs → last_fields r ≡ last_fields s → r ≡ s
+  same_last : place_of r ≡ place_of s → r.state.pairs ≡ s.state.pairs → last_fields v r ≡ last_fields v s → r ≡ s
   same_last place pairs e =
       let few = form.slots in
       let slots : length r.state.shape < 2 ^ 64 = omega (arith, few) in
-      let flag = flag_text_injective r.state.flag s.state.flag (ap (field 0) e) in
       let shape = shape_text_injective r.state.shape s.state.shape form.shape too.shape (ap (field 2) e) in
       let count = sym (ap length shape) in
+      let flags = flags_text_injective (flag_form v) (length r.state.shape) slots (row_flags r) (row_flags s) form.flags
+      (subst (λ n. AreFlags (flag_form v) n (row_flags s)) count too.flags) (ap (field 0) e) in
       let facts = facts_text_injective (length r.state.shape) slots r.facts s.facts form.facts
       (subst (λ n. AreFacts n s.facts) count too.facts) (ap (field 1) e) in
       let potential = potential_text_injective (length r.state.shape) slots r.potential s.potential form.potential
       (subst (λ n. IsPotential n s.potential) count too.potential) (ap (field 3) e) in
-      ap (λ p. row_of p r.state.pairs r.state.flag r.facts r.state.shape r.potential) place
-      ∙ ap (λ ps. row_of (place_of s) ps r.state.flag r.facts r.state.shape r.potential) pairs
-      ∙ ap (λ f. row_of (place_of s) s.state.pairs f r.facts r.state.shape r.potential) flag
-      ∙ ap (λ fs. row_of (place_of s) s.state.pairs s.state.flag fs r.state.shape r.potential) facts
-      ∙ ap (λ slots. row_of (place_of s) s.state.pairs s.state.flag s.facts slots r.potential) shape
-      ∙ ap (λ p. row_of (place_of s) s.state.pairs s.state.flag s.facts s.state.shape p) potential
+      ap (λ p. row_of p r.state.pairs (row_flags r) r.facts r.state.shape r.potential) place
+      ∙ ap (λ ps. row_of (place_of s) ps (row_flags r) r.facts r.state.shape r.potential) pairs
+      ∙ ap (λ f. row_of (place_of s) s.state.pairs f r.facts r.state.shape r.potential) flags
+      ∙ ap (λ fs. row_of (place_of s) s.state.pairs (row_flags s) fs r.state.shape r.potential) facts
+      ∙ ap (λ slots. row_of (place_of s) s.state.pairs (row_flags s) s.facts slots r.potential) shape
+      ∙ ap (λ p. row_of (place_of s) s.state.pairs (row_flags s) s.facts s.state.shape p) potential
 
   pub row_injective : fields_of_row v r ≡ fields_of_row v s → r ≡ s
   unfolding fields_of_row

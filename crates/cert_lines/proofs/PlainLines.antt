@@ -1,12 +1,12 @@
 -- Each byte of a line's fields is above the space.
-use Rattle.std.proofs.Common.{ℕ, ◌≤◌, List, [], ◌∷◌, codes, map, Option, Some, None, IfSome, refl, arith}
+use Rattle.std.proofs.Common.{ℕ, ◌≤◌, List, [], ◌∷◌, codes, length, map, Option, Some, None, IfSome, refl, arith}
 use Rattle.std.specs.Fmt.{decimal}
 use Rattle.abs_state.specs.declared.pairs.Pairs.{Pairs}
 use Rattle.cert_lines.proofs.RowLists.{every_append, pairs_in}
 use Rattle.cert_lines.specs.Line.{IsLine, fields_of}
 use Rattle.cert_lines.specs.Proc.{IsProc, decimal_or_dash, kind_word, proc_fields}
-use Rattle.cert_lines.specs.Row.{IsArmed, IsPlace, IsRow, armed_field, fields_of_row, last_fields, pair_fields, place_fields, place_of}
-use Rattle.cert_lines.specs.Version.{board_name, version_digit}
+use Rattle.cert_lines.specs.Row.{IsArmed, IsPlace, IsRow, armed_field, fields_of_row, last_fields, pair_fields, place_fields, place_of, row_flags}
+use Rattle.cert_lines.specs.Version.{board_name, flag_form, version_digit}
 use Rattle.cert_lines.specs.declared.line.Line.{Line}
 use Rattle.cert_lines.specs.declared.line.Line.TheVariants as lines
 use Rattle.cert_lines.specs.declared.proc.Proc.{Proc}
@@ -17,11 +17,12 @@ use Rattle.cert_lines.specs.declared.row.Row.{Row}
 use Rattle.cert_lines.specs.declared.version.BoardMap.{BoardMap}
 use Rattle.cert_lines.specs.declared.version.BoardMap.TheVariants.{Galaxian, Raised}
 use Rattle.cert_lines.specs.declared.version.Version.{Version}
-use Rattle.cert_lines.specs.declared.version.Version.TheVariants.{One, Two}
+use Rattle.cert_lines.specs.declared.version.Version.TheVariants.{One, Two, Three}
 use Rattle.intervals.specs.declared.pair.Pair.{Pair}
 use Rattle.cert_fields.proofs.LinearPlainLaws.{plain_potential}
-use Rattle.cert_fields.proofs.PlainLaws.{plain_facts, plain_flag_fact, plain_mode, plain_pair, plain_register, plain_shape}
+use Rattle.cert_fields.proofs.PlainLaws.{plain_facts, plain_mode, plain_pair, plain_register, plain_shape}
 use Rattle.cert_fields.specs.Pair.{pair_text}
+use Rattle.cert_flags.proofs.FlagsLaws.{plain_flags}
 use Rattle.texts.proofs.PlainLemmas.{ArePlain, IsPlain, plain_decimal, plain_from_test, plain_hex2, plain_hex4}
 use Rattle.texts.specs.Numbers.{IsWord}
 
@@ -31,6 +32,7 @@ plain_word n small = plain_decimal n (omega (arith, small))
 plain_version : (v : Version) → IsPlain (version_digit v)
 plain_version One = plain_from_test (codes "1") refl
 plain_version Two = plain_from_test (codes "2") refl
+plain_version Three = plain_from_test (codes "3") refl
 
 plain_board : (b : BoardMap) → IsPlain (board_name b)
 plain_board Galaxian = plain_from_test (codes "galaxian") refl
@@ -64,6 +66,7 @@ plain_proc p form = (
 plain_armed : (v : Version) (armed : ℕ) → IsArmed v armed → ArePlain (armed_field v armed)
 plain_armed One armed form = tt
 plain_armed Two armed form = (plain_word armed form, tt)
+plain_armed Three armed form = (plain_word armed form, tt)
 
 plain_place : (v : Version) (place : RowPlace) → IsPlace v place → ArePlain (place_fields v place)
 plain_place v place form = (
@@ -81,10 +84,10 @@ plain_texts (p ∷ ps) = (plain_pair p, plain_texts ps)
 plain_pairs : (p : Pairs) → ArePlain (pair_fields p)
 plain_pairs p = plain_texts (pairs_in p)
 
-plain_last : (v : Version) (row : Row) → IsRow v row → ArePlain (last_fields row)
+plain_last : (v : Version) (row : Row) → IsRow v row → ArePlain (last_fields v row)
 plain_last v row form =
     let slots = form.slots in (
-      plain_flag_fact row.state.flag,
+      plain_flags (flag_form v) (length row.state.shape) (row_flags row) (omega arith) form.flags,
       (
         plain_facts _ row.facts (omega arith) form.facts,
         (plain_shape row.state.shape, (plain_potential _ row.potential (omega arith) form.potential, tt)),
@@ -95,7 +98,7 @@ plain_row : (v : Version) (row : Row) → IsRow v row → ArePlain (fields_of_ro
 unfolding fields_of_row
 plain_row v row form =
     every_append IsPlain (place_fields v (place_of row)) _ (plain_place v (place_of row) form.place)
-    (every_append IsPlain (pair_fields row.state.pairs) (last_fields row) (plain_pairs row.state.pairs)
+    (every_append IsPlain (pair_fields row.state.pairs) (last_fields v row) (plain_pairs row.state.pairs)
     (plain_last v row form))
 
 pub plain : (v : Version) (line : Line) → IsLine v line → ArePlain (fields_of v line)

@@ -4,16 +4,17 @@ use Rattle.abs_state.specs.declared.mode.Mode.TheVariants.{Unset}
 use Rattle.abs_state.specs.declared.pairs.Pairs.{Pairs}
 use Rattle.cert_lines.specs.Read.{IsLast, MakesRowOf, ReadsRow, TellsCounted, row_with}
 use Rattle.cert_lines.specs.Row.{ArePairs, IsPlace, IsRow, IsShortRow, Last, fields_of_row, last_fields, last_of, last_texts, pair_fields, place_fields, place_of}
+use Rattle.cert_lines.specs.Version.{flag_form}
 use Rattle.cert_lines.specs.declared.row.RowPlace.{RowPlace}
 use Rattle.cert_lines.specs.declared.row.Row.{Row}
 use Rattle.cert_lines.specs.declared.row_reading.ReadRow.{ReadRow}
 use Rattle.cert_lines.specs.declared.row_reading.ReadRow.TheVariants as rows
 use Rattle.cert_lines.specs.declared.version.Version.{Version}
-use Rattle.cert_lines.specs.declared.version.Version.TheVariants.{One, Two}
+use Rattle.cert_lines.specs.declared.version.Version.TheVariants.{One, Two, Three}
 use Rattle.cert_lines.proofs.FieldLemmas.{same_first, same_others}
 use Rattle.cert_fields.specs.Counted.{ReadsCounted}
 use Rattle.cert_fields.specs.Facts.{facts_text}
-use Rattle.cert_fields.specs.Flag.{flag_text}
+use Rattle.cert_flags.specs.Flags.{flags_text}
 use Rattle.cert_fields.specs.Linear.{potential_text}
 use Rattle.cert_fields.specs.Shape.{IsShape, IsShortShape, ReadsSlots, shape_text}
 use Rattle.cert_fields.specs.declared.counted.Counted.{Counted}
@@ -44,7 +45,7 @@ count_is seen count kept reads slots form same =
     is ∙ ap length (shape_text_injective own slots own_form form (sym text ∙ same))
 
 -- the four last fields, one by one
-module _ (a b c d : List ℕ) (rest : List (List ℕ)) (last : Last) (same : a ∷ b ∷ c ∷ d ∷ rest ≡ last_texts last) where
+module _ (v : Version) (a b c d : List ℕ) (rest : List (List ℕ)) (last : Last) (same : a ∷ b ∷ c ∷ d ∷ rest ≡ last_texts v last) where
   behind_flag : b ∷ c ∷ d ∷ rest ≡ facts_text last.facts ∷ shape_text last.shape ∷ potential_text last.potential ∷ []
   behind_flag = same_others _ _ _ _ same
 
@@ -60,19 +61,20 @@ module _ (a b c d : List ℕ) (rest : List (List ℕ)) (last : Last) (same : a �
   pub none_left : rest ≡ []
   none_left = same_others _ _ _ _ behind_shape
 
-pub flag_is : (a : List ℕ) (rest : List (List ℕ)) (last : Last) → a ∷ rest ≡ last_texts last → a ≡ flag_text last.flag
-flag_is a rest last same = same_first _ _ _ _ same
+pub flags_is : (v : Version) (a : List ℕ) (rest : List (List ℕ)) (last : Last) → a ∷ rest ≡ last_texts v last → a ≡ flags_text (flag_form v) last.flags
+flags_is v a rest last same = same_first _ _ _ _ same
 
-pub facts_is : (a b : List ℕ) (rest : List (List ℕ)) (last : Last) → a ∷ b ∷ rest ≡ last_texts last → b ≡ facts_text last.facts
-facts_is a b rest last same = same_first _ _ _ _ (same_others _ _ _ _ same)
+pub facts_is : (v : Version) (a b : List ℕ) (rest : List (List ℕ)) (last : Last) → a ∷ b ∷ rest ≡ last_texts v last → b ≡ facts_text last.facts
+facts_is v a b rest last same = same_first _ _ _ _ (same_others _ _ _ _ same)
 
-pub shape_is : (a b c : List ℕ) (rest : List (List ℕ)) (last : Last) → a ∷ b ∷ c ∷ rest ≡ last_texts last → c ≡ shape_text last.shape
-shape_is a b c rest last same = same_first _ _ _ _ (same_others _ _ _ _ (same_others _ _ _ _ same))
+pub shape_is : (v : Version) (a b c : List ℕ) (rest : List (List ℕ)) (last : Last) → a ∷ b ∷ c ∷ rest ≡ last_texts v last → c ≡ shape_text last.shape
+shape_is v a b c rest last same = same_first _ _ _ _ (same_others _ _ _ _ (same_others _ _ _ _ same))
 
 -- after the fields of a place come the same fields
 pub behind_place : (v : Version) (p q : RowPlace) (xs ys : List (List ℕ)) → place_fields v p ++ xs ≡ place_fields v q ++ ys → xs ≡ ys
 behind_place One p q xs ys e = ap (drop 3) e
 behind_place Two p q xs ys e = ap (drop 4) e
+behind_place Three p q xs ys e = ap (drop 4) e
 
 -- the fields of a place determine the mode
 pub mode_told : (v : Version) (p q : RowPlace) (xs ys : List (List ℕ)) → place_fields v p ++ xs ≡ place_fields v q ++ ys → p.mode ≡ q.mode
@@ -83,21 +85,21 @@ pub behind_pairs : (p q : Pairs) (xs ys : List (List ℕ)) → pair_fields p ++ 
 behind_pairs p q xs ys e = ap (drop 10) e
 
 -- the last fields of a row in form
-pub last_form : (v : Version) (row : Row) → IsRow v row → IsLast (last_of row)
-last_form v row form = record { flag = form.flag; facts = form.facts; shape = form.shape; slots = form.slots; potential = form.potential }
+pub last_form : (v : Version) (row : Row) → IsRow v row → IsLast v (last_of row)
+last_form v row form = record { flags = form.flags; facts = form.facts; shape = form.shape; slots = form.slots; potential = form.potential }
 
 -- the fields of a row, in three parts
-pub row_parts : (v : Version) (row : Row) (seen : List (List ℕ)) → seen ≡ fields_of_row v row → seen ≡ place_fields v (place_of row) ++ (pair_fields row.state.pairs ++ last_fields row)
+pub row_parts : (v : Version) (row : Row) (seen : List (List ℕ)) → seen ≡ fields_of_row v row → seen ≡ place_fields v (place_of row) ++ (pair_fields row.state.pairs ++ last_fields v row)
 unfolding fields_of_row
 row_parts v row seen e = e
 
-pub parts_row : (v : Version) (row : Row) (seen : List (List ℕ)) → seen ≡ place_fields v (place_of row) ++ (pair_fields row.state.pairs ++ last_fields row) → seen ≡ fields_of_row v row
+pub parts_row : (v : Version) (row : Row) (seen : List (List ℕ)) → seen ≡ place_fields v (place_of row) ++ (pair_fields row.state.pairs ++ last_fields v row) → seen ≡ fields_of_row v row
 unfolding fields_of_row
 parts_row v row seen e = e
 
 -- last fields with the same texts have shapes of one length
-pub same_shapes : (a b : Last) → IsLast a → IsLast b → last_texts a ≡ last_texts b → length a.shape ≡ length b.shape
-same_shapes a b form_a form_b e = ap length (shape_text_injective a.shape b.shape form_a.shape form_b.shape (shape_is _ _ _ _ b e))
+pub same_shapes : (v : Version) (a b : Last) → IsLast v a → IsLast v b → last_texts v a ≡ last_texts v b → length a.shape ≡ length b.shape
+same_shapes v a b form_a form_b e = ap length (shape_text_injective a.shape b.shape form_a.shape form_b.shape (shape_is v _ _ _ _ b e))
 
 none_length : (slots : List Slot) → slots ≡ [] → length slots ≡ 0
 none_length slots e = ap length e
@@ -111,12 +113,12 @@ no_slot [] none = refl
 no_slot (s ∷ slots) none = absurd (none (omega arith))
 
 -- the row with these parts is in form
-pub made_form : (v : Version) (place : RowPlace) (pairs : Pairs) (last : Last) → IsPlace v place → ArePairs pairs → IsLast last → (place.mode ≡ Unset → 0 < length last.shape → ⊥) →
+pub made_form : (v : Version) (place : RowPlace) (pairs : Pairs) (last : Last) → IsPlace v place → ArePairs pairs → IsLast v last → (place.mode ≡ Unset → 0 < length last.shape → ⊥) →
     IsRow v (row_with place pairs last)
 made_form v place pairs last place_form pairs_form form unset = record {
   place = place_form;
   pairs = pairs_form;
-  flag = form.flag;
+  flags = form.flags;
   facts = form.facts;
   shape = form.shape;
   slots = form.slots;

@@ -10,8 +10,8 @@ use Rattle.z80_decode.specs.declared.operands.Register8.TheVariants as registers
 use Rattle.cert_lines.proofs.RowLists.{every_append, pairs_in}
 use Rattle.cert_lines.specs.Line.{IsLine, IsShortLine, fields_of, line_text}
 use Rattle.cert_lines.specs.Proc.{decimal_or_dash, kind_word}
-use Rattle.cert_lines.specs.Row.{IsArmed, IsPlace, IsRow, IsShortRow, armed_field, fields_of_row, last_fields, pair_fields, place_fields, place_of}
-use Rattle.cert_lines.specs.Version.{board_name, version_digit}
+use Rattle.cert_lines.specs.Row.{IsArmed, IsPlace, IsRow, IsShortRow, armed_field, fields_of_row, last_fields, pair_fields, place_fields, place_of, row_flags}
+use Rattle.cert_lines.specs.Version.{board_name, flag_form, version_digit}
 use Rattle.cert_lines.specs.declared.line.Line.{Line}
 use Rattle.cert_lines.specs.declared.line.Line.TheVariants as lines
 use Rattle.cert_lines.specs.declared.proc.ProcKind.{ProcKind}
@@ -21,9 +21,10 @@ use Rattle.cert_lines.specs.declared.row.Row.{Row}
 use Rattle.cert_lines.specs.declared.version.BoardMap.{BoardMap}
 use Rattle.cert_lines.specs.declared.version.BoardMap.TheVariants.{Galaxian, Raised}
 use Rattle.cert_lines.specs.declared.version.Version.{Version}
-use Rattle.cert_lines.specs.declared.version.Version.TheVariants.{One, Two}
+use Rattle.cert_lines.specs.declared.version.Version.TheVariants.{One, Two, Three}
 use Rattle.cert_fields.proofs.LinearLengthLaws.{length_potential}
-use Rattle.cert_fields.proofs.LengthLaws.{length_facts, length_flag_fact, length_pair, length_shape}
+use Rattle.cert_fields.proofs.LengthLaws.{length_facts, length_pair, length_shape}
+use Rattle.cert_flags.proofs.FlagsLaws.{length_flags}
 use Rattle.intervals.specs.declared.pair.Pair.{Pair}
 use Rattle.cert_fields.specs.Names.{mode_letter, register_letter}
 use Rattle.cert_fields.specs.Pair.{pair_text}
@@ -46,6 +47,7 @@ length_join (field ∷ next ∷ fields) brief =
 brief_version : (v : Version) → IsBrief (version_digit v)
 brief_version One = omega arith
 brief_version Two = omega arith
+brief_version Three = omega arith
 
 brief_board : (b : BoardMap) → IsBrief (board_name b)
 brief_board Galaxian = omega arith
@@ -90,6 +92,7 @@ brief_time (Some n) small = omega (arith, length_decimal_32 n (omega (arith, sma
 brief_armed : (v : Version) (armed : ℕ) → IsArmed v armed → AreBrief (armed_field v armed)
 brief_armed One armed form = tt
 brief_armed Two armed form = (brief_word armed form, tt)
+brief_armed Three armed form = (brief_word armed form, tt)
 
 brief_place : (v : Version) (place : RowPlace) → IsPlace v place → AreBrief (place_fields v place)
 brief_place v place form = (
@@ -107,9 +110,9 @@ brief_texts (p ∷ ps) = (omega (arith, length_pair p), brief_texts ps)
 brief_pairs : (p : Pairs) → AreBrief (pair_fields p)
 brief_pairs p = brief_texts (pairs_in p)
 
-brief_last : (v : Version) (row : Row) → IsRow v row → IsShortRow row → AreBrief (last_fields row)
+brief_last : (v : Version) (row : Row) → IsRow v row → IsShortRow row → AreBrief (last_fields v row)
 brief_last v row form few = (
-  omega (arith, length_flag_fact row.state.flag),
+  omega (arith, length_flags (flag_form v) (length row.state.shape) (row_flags row) form.flags few.parts),
   (
     omega (arith, length_facts _ row.facts form.facts few.facts),
     (
@@ -122,18 +125,19 @@ brief_last v row form few = (
 length_armed : (v : Version) (armed : ℕ) → length (armed_field v armed) ≤ 1
 length_armed One armed = omega arith
 length_armed Two armed = omega arith
+length_armed Three armed = omega arith
 
 brief_row : (v : Version) (row : Row) → IsRow v row → IsShortRow row → AreBrief (fields_of_row v row)
 unfolding fields_of_row
 brief_row v row form few =
     every_append IsBrief (place_fields v (place_of row)) _ (brief_place v (place_of row) form.place)
-    (every_append IsBrief (pair_fields row.state.pairs) (last_fields row) (brief_pairs row.state.pairs)
+    (every_append IsBrief (pair_fields row.state.pairs) (last_fields v row) (brief_pairs row.state.pairs)
     (brief_last v row form few))
 
 count_row : (v : Version) (row : Row) → length (fields_of_row v row) ≤ 18
 unfolding fields_of_row
 count_row v row =
-    let behind = pair_fields row.state.pairs ++ last_fields row in
+    let behind = pair_fields row.state.pairs ++ last_fields v row in
     omega (arith, length-append (place_fields v (place_of row)) behind, length_armed v row.state.armed)
 
 brief : (v : Version) (line : Line) → IsLine v line → IsShortLine line → AreBrief (fields_of v line)

@@ -25,7 +25,7 @@ join_parts (x ∷ z ∷ xs) (y ∷ ys) some more =
 -- the line of a row, part by part
 pub row_text : (v : Version) (row : Row) →
     codes "row " ++ (join_with_byte 32 (place_fields v (place_of row)) ++ 32 ∷
-    (join_with_byte 32 (pair_fields row.state.pairs) ++ 32 ∷ (join_with_byte 32 (last_fields row) ++ 10 ∷ []))) ≡
+    (join_with_byte 32 (pair_fields row.state.pairs) ++ 32 ∷ (join_with_byte 32 (last_fields v row) ++ 10 ∷ []))) ≡
     join_with_byte 32 (codes "row" ∷ fields_of_row v row) ++ 10 ∷ []
 unfolding fields_of_row
 row_text v row =
@@ -33,8 +33,8 @@ row_text v row =
     let pairs = pair_fields row.state.pairs in
     let place : List ℕ = join_with_byte 32 places in
     let pair : List ℕ = join_with_byte 32 pairs in
-    let last : List ℕ = join_with_byte 32 (last_fields row) in
-    let whole = join_parts places (pairs ++ last_fields row) (omega arith) (omega arith)
-    ∙ ap (λ t. place ++ 32 ∷ t) (join_parts pairs (last_fields row) (omega arith) (omega arith)) in
+    let last : List ℕ = join_with_byte 32 (last_fields v row) in
+    let whole = join_parts places (pairs ++ last_fields v row) (omega arith) (omega arith)
+    ∙ ap (λ t. place ++ 32 ∷ t) (join_parts pairs (last_fields v row) (omega arith) (omega arith)) in
     ap (λ t. codes "row " ++ t) (ap (λ t. place ++ 32 ∷ t) (sym (append_assoc pair (32 ∷ last) (10 ∷ [])))
     ∙ sym (append_assoc place (32 ∷ (pair ++ 32 ∷ last)) (10 ∷ [])) ∙ ap (λ t. t ++ 10 ∷ []) (sym whole))

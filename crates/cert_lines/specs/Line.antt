@@ -34,7 +34,7 @@ line_text version line = join_with_byte 32 (fields_of version line)
 abbrev pub fed_line : Version → Line → List ℕ
 fed_line version line = line_text version line ++ 10 ∷ []
 
--- a line in form by itself, except that a row may have too many slots, facts or terms
+-- a line in form by itself, except that a row may have too many slots, flag parts, facts or terms
 abbrev pub IsLine : Version → Line → Type 0
 IsLine version (lines.Header v) = Unit {0}
 IsLine version (lines.Rom len) = IsWord len
@@ -48,7 +48,7 @@ IsLine version (lines.Cell cell) = IsWord cell.at × IsRange 255 cell.range
 IsLine version (lines.Row row) = IsRow version row
 IsLine version lines.End = Unit {0}
 
--- a row's slots, facts and terms are within their limits; other lines have no such counts
+-- a row's slots, flag parts, facts and terms are within their limits; other lines have no such counts
 abbrev pub IsShortLine : Line → Type 0
 IsShortLine (lines.Row row) = IsShortRow row
 IsShortLine _ = Unit {0}

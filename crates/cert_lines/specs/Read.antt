@@ -2,6 +2,7 @@
 use Rattle.std.specs.Prelude.{ℕ, ◌<◌, ◌≡◌, ◌≢◌, List, ◌++◌, length, Option, Some, None}
 use Rattle.abs_state.specs.declared.pairs.Pairs.{Pairs}
 use Rattle.cert_lines.specs.Line.{IsLine, IsShortLine, fields_of}
+use Rattle.cert_lines.specs.Version.{flag_form}
 use Rattle.cert_lines.specs.Row.{Last, last_texts, IsRow, IsShortRow, fields_of_row, place_of}
 use Rattle.cert_lines.specs.declared.line.Line.{Line}
 use Rattle.cert_lines.specs.declared.line.Line.TheVariants as lines
@@ -10,7 +11,7 @@ use Rattle.cert_lines.specs.declared.reading.ReadLine.TheVariants.{Whole, Crowde
 use Rattle.cert_lines.specs.declared.row_reading.ReadLast.{ReadLast}
 use Rattle.cert_lines.specs.declared.row_reading.ReadRow.{ReadRow}
 use Rattle.cert_fields.specs.Facts.{AreFacts, AreFewFacts}
-use Rattle.cert_fields.specs.Flag.{IsFlag}
+use Rattle.cert_flags.specs.Flags.{AreFewFlags, AreFlags}
 use Rattle.cert_fields.specs.Linear.{IsPotential, IsShortPotential}
 use Rattle.cert_fields.specs.Shape.{IsShape, IsShortShape}
 use Rattle.cert_fields.specs.declared.counted.Counted.{Counted}
@@ -26,8 +27,8 @@ TakesFields fields InForm old (Some x) new = InForm x × (old ≡ fields x ++ ne
 TakesFields {X} {F} fields InForm old None new = (x : X) (rest : List F) → InForm x → old ≢ fields x ++ rest
 
 -- the last fields of a row in form
-pub record IsLast (last : Last) : Type 0 where
-  pub flag : IsFlag last.flag
+pub record IsLast (version : Version) (last : Last) : Type 0 where
+  pub flags : AreFlags (flag_form version) (length last.shape) last.flags
   pub facts : AreFacts (length last.shape) last.facts
   pub shape : IsShape last.shape
   pub slots : length last.shape < 1048576
@@ -40,18 +41,19 @@ TellsCounted Few x TooMany = Few x → ⊥
 
 -- what is kept of the last fields
 pub record TellsLast (last : Last) (read : ReadLast) : Type 0 where
-  pub flag : read.flag ≡ last.flag
+  pub flags : TellsCounted AreFewFlags last.flags read.flags
   pub count : read.count ≡ length last.shape
   pub shape : TellsCounted IsShortShape last.shape read.shape
   pub facts : TellsCounted AreFewFacts last.facts read.facts
   pub potential : TellsCounted IsShortPotential last.potential read.potential
 
-abbrev pub ReadsLast : List (List ℕ) → Option ReadLast → Type 0
-ReadsLast seen (Some read) = (last : Last) × IsLast last × TellsLast last read × (seen ≡ last_texts last)
-ReadsLast seen None = (last : Last) → IsLast last → seen ≢ last_texts last
+abbrev pub ReadsLast : Version → List (List ℕ) → Option ReadLast → Type 0
+ReadsLast version seen (Some read) =
+    (last : Last) × IsLast version last × TellsLast last read × (seen ≡ last_texts version last)
+ReadsLast version seen None = (last : Last) → IsLast version last → seen ≢ last_texts version last
 
 -- the answer to the fields after `row`: the row; or the place of a row that is out of form only because it has too many
--- slots, facts or terms; or None, and the fields are those of no row in form
+-- slots, flag parts, facts or terms; or None, and the fields are those of no row in form
 abbrev pub ReadsRow : Version → List (List ℕ) → Option ReadRow → Type 0
 ReadsRow version seen (Some (rows.Whole row)) = IsRow version row × IsShortRow row × (seen ≡ fields_of_row version row)
 ReadsRow version seen (Some (rows.Crowded place)) =
@@ -70,7 +72,8 @@ abbrev pub row_with : RowPlace → Pairs → Last → Row
 row_with place pairs last = record {
   proc = place.proc;
   address = place.address;
-  state = record { mode = place.mode; armed = place.armed; pairs = pairs; flag = last.flag; shape = last.shape };
+  state = record { mode = place.mode; armed = place.armed; pairs = pairs; flag = last.flags.fact; shape = last.shape };
+  parts = last.flags.parts;
   facts = last.facts;
   potential = last.potential;
 }

@@ -14,7 +14,7 @@ pub enum Line {
     Header(Version),
     /// The ROM's length in bytes.
     Rom(u16),
-    /// The board's map, in version 2.
+    /// The board's map, from version 2 on.
     Board(BoardMap),
     /// The stack region.
     Stack(Region),
@@ -24,7 +24,7 @@ pub enum Line {
     Split(Split),
     /// The address of a call whose callee takes its return address from the stack.
     Inline(u16),
-    /// A kept cell, in version 2.
+    /// A kept cell, from version 2 on.
     Cell(KeptCell),
     Row(Row),
     End,

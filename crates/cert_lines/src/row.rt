@@ -3,14 +3,17 @@
 ghost use Rattle.std.specs.Prelude.{◌≡◌, ◌↔◌, IsTrue};
 ghost use Rattle.abs_state.specs.declared.mode.Mode.TheVariants.{Unset};
 ghost use Rattle.cert_lines.specs.Row.{ArePairs, IsPlace, IsRow, place_of};
+ghost use Rattle.cert_lines.specs.Version.{flag_form};
 ghost use Rattle.cert_fields.specs.Facts.{AreFacts};
-ghost use Rattle.cert_fields.specs.Flag.{IsFlag};
+ghost use Rattle.cert_flags.specs.Flags.{AreFlags, flags_with};
 ghost use Rattle.cert_fields.specs.Linear.{IsPotential};
 
 use crate::version::Version;
 use abs_state::{AbsState, FlagFact, Mode, Pairs};
 use call_graph::ProcId;
 use cert_fields::{Facts, are_facts, facts_stay_within, is_pair, is_shape, stays_within};
+use cert_flags::flags_are_in_form;
+use flag_parts::FlagParts;
 use loop_bounds::Linear;
 use stack_shape::Shape;
 use std::marker::Model;
@@ -24,6 +27,8 @@ pub struct Row {
     pub address: u16,
     /// The state at the instruction.
     pub state: AbsState,
+    /// What the flags say there of linears; the state has a flag fact in their place before version 3.
+    pub parts: FlagParts,
     /// Linears that are 0 there.
     pub facts: Facts,
     /// The potential: an upper bound for the T-states that are left until the end of the procedure's return. None if
@@ -52,8 +57,9 @@ impl Row {
         }
     }
 
-    /// Whether the row is in form by itself: no fact and no potential names a slot beyond the shape; in mode `u` the
-    /// shape is empty; in version 1 no cell is armed.
+    /// Whether the row is in form by itself: no flag part, fact or potential names a slot beyond the shape; in mode `u`
+    /// the shape is empty; in version 1 no cell is armed; there are no flag parts before version 3, and no flag fact in
+    /// it.
     pub fn is_in_form(&self, version: Version) -> bool
         ensures { IsTrue result ↔ IsRow version self.now }
     {
@@ -61,9 +67,9 @@ impl Row {
         let slots = state.shape.len();
         are_pairs(&state.pairs);
         is_shape(&state.shape);
-        is_flag(state.flag);
         place_is_in_form(version, self.place())
             && mode_is_in_form(state.mode, slots)
+            && flags_suit(version, state.flag, &self.parts, slots)
             && facts_are_within(&self.facts, slots)
             && potential_is_within(self.potential, slots)
     }
@@ -75,7 +81,7 @@ fn place_is_in_form(version: Version, place: RowPlace) -> bool
 {
     match version {
         Version::One => place.armed == 0,
-        Version::Two => true,
+        Version::Two | Version::Three => true,
     }
 }
 
@@ -86,10 +92,12 @@ fn mode_is_in_form(mode: Mode, slots: usize) -> bool
     mode != Mode::Unset || slots == 0
 }
 
-/// A law: by its type, a flag fact compares A with a byte.
-fn is_flag(flag: Option<FlagFact>)
-    ensures { IsFlag flag }
-{}
+/// Whether a row of this version with this many slots may say this of the flags.
+fn flags_suit(version: Version, flag: Option<FlagFact>, parts: &FlagParts, slots: usize) -> bool
+    ensures { IsTrue result ↔ AreFlags (flag_form version) slots (flags_with flag parts.now) }
+{
+    flags_are_in_form(version.flag_form(), flag, parts, slots)
+}
 
 /// A law: by their types, pairs have ranges of words and of bytes.
 fn are_pairs(pairs: &Pairs)
@@ -134,6 +142,7 @@ pub struct RowRef<'a> {
     pub armed: u16,
     pub pairs: &'a Pairs,
     pub flag: Option<FlagFact>,
+    pub parts: &'a FlagParts,
     pub facts: &'a Facts,
     pub shape: &'a Shape,
     pub potential: Option<Linear>,
@@ -148,6 +157,7 @@ impl<'a> Model for RowRef<'a> {
       proc = r.proc;
       address = r.address;
       state = record { mode = r.mode; armed = r.armed; pairs = r.pairs.now; flag = r.flag; shape = r.shape.now };
+      parts = r.parts.now;
       facts = r.facts.now;
       potential = r.potential;
     } };

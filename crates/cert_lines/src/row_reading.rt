@@ -1,16 +1,19 @@
 // How a row is read from the fields of its line.
 
 ghost use Rattle.std.specs.Prelude.{◌≡◌};
+ghost use Rattle.cert_fields.specs.Counted.{ReadsCounted};
+ghost use Rattle.cert_flags.specs.Flags.{AreFewFlags, AreFlags, flags_text};
 ghost use Rattle.cert_lines.specs.Read.{MakesRow, ReadsLast, ReadsRow, TakesFields};
 ghost use Rattle.cert_lines.specs.Row.{ArePairs, IsArmed, IsPlace, armed_field, pair_fields, place_fields};
+ghost use Rattle.cert_lines.specs.Version.{flag_form};
 
 use crate::row::{Row, RowPlace};
 use crate::version::Version;
-use abs_state::{AbsState, FlagFact, Mode, Pairs};
+use abs_state::{AbsState, Mode, Pairs};
 use cert_fields::{
-    Counted, Facts, ReadShape, facts_field, flag_fact_field, mode_field, pair_field,
-    potential_field, shape_field,
+    Counted, Facts, ReadShape, facts_field, mode_field, pair_field, potential_field, shape_field,
 };
+use cert_flags::{RowFlags, flags_field};
 use loop_bounds::Linear;
 use stack_shape::Shape;
 use texts::{Fields, decimal_field, hex4_field};
@@ -22,7 +25,7 @@ const SLOT_BOUND: usize = 1_048_576;
 #[derive(Drop)]
 pub enum ReadRow {
     Whole(Row),
-    /// A row that is out of form only because it has too many slots, facts or terms; only its place is given.
+    /// A row that is out of form only because it has too many slots, flag parts, facts or terms; only its place is given.
     Crowded(RowPlace),
 }
 
@@ -32,11 +35,11 @@ fn take_armed(version: Version, fields: &mut Fields) -> Option<u16>
 {
     match version {
         Version::One => Some(0),
-        Version::Two => decimal_field(fields.next()?),
+        Version::Two | Version::Three => decimal_field(fields.next()?),
     }
 }
 
-/// `PROC ADDR MODE`, and in version 2 `ARMED`.
+/// `PROC ADDR MODE`, and from version 2 on `ARMED`.
 fn take_place(version: Version, fields: &mut Fields) -> Option<RowPlace>
     ensures { TakesFields (place_fields version) (IsPlace version) fields.old result fields.new }
 {
@@ -72,7 +75,7 @@ fn take_pairs(fields: &mut Fields) -> Option<Pairs>
 /// What was read of a row's last fields.
 #[derive(Drop)]
 pub struct ReadLast {
-    pub flag: Option<FlagFact>,
+    pub flags: Counted<RowFlags>,
     /// How many slots the shape has, which may be more than 64.
     pub count: usize,
     pub shape: Counted<Shape>,
@@ -80,20 +83,29 @@ pub struct ReadLast {
     pub potential: Counted<Option<Linear>>,
 }
 
-/// `FLAG FACTS SHAPE POT`, with nothing after them.
-fn read_last(mut fields: Fields) -> Option<ReadLast>
-    ensures { ReadsLast fields.entry result }
+/// The FLAG field of a row of this version with this many slots.
+fn read_flags(version: Version, field: &[u8], slots: usize) -> Option<Counted<RowFlags>>
+    ensures { ReadsCounted (flags_text (flag_form version)) (AreFlags (flag_form version) slots)
+        AreFewFlags field.now result }
 {
-    let flag = flag_fact_field(fields.next()?)?;
+    flags_field(version.flag_form(), field, slots)
+}
+
+/// `FLAG FACTS SHAPE POT`, with nothing after them.
+fn read_last(version: Version, mut fields: Fields) -> Option<ReadLast>
+    ensures { ReadsLast version fields.entry result }
+{
+    let flag_text = fields.next()?;
     let facts_text = fields.next()?;
     let ReadShape { count, shape } = shape_field(fields.next()?)?;
+    let flags = read_flags(version, flag_text, count)?;
     let facts = facts_field(facts_text, count)?;
     let potential = potential_field(fields.next()?, count)?;
     if !fields.is_empty() || count >= SLOT_BOUND {
         return None;
     }
     Some(ReadLast {
-        flag,
+        flags,
         count,
         shape,
         facts,
@@ -106,17 +118,21 @@ fn row_of(place: RowPlace, pairs: Pairs, last: ReadLast) -> ReadRow
     ensures { MakesRow place pairs last result }
 {
     let ReadLast {
-        flag,
+        flags,
         shape,
         facts,
         potential,
         ..
     } = last;
-    let (Counted::Fits(shape), Counted::Fits(facts), Counted::Fits(potential)) = (
-        shape, facts, potential,
-    ) else {
+    let (
+        Counted::Fits(flags),
+        Counted::Fits(shape),
+        Counted::Fits(facts),
+        Counted::Fits(potential),
+    ) = (flags, shape, facts, potential) else {
         return ReadRow::Crowded(place);
     };
+    let RowFlags { fact, parts } = flags;
     let RowPlace {
         proc,
         address,
@@ -130,9 +146,10 @@ fn row_of(place: RowPlace, pairs: Pairs, last: ReadLast) -> ReadRow
             mode,
             armed,
             pairs,
-            flag,
+            flag: fact,
             shape,
         },
+        parts,
         facts,
         potential,
     })
@@ -144,7 +161,7 @@ pub(crate) fn read_row(version: Version, mut fields: Fields) -> Option<ReadRow>
 {
     let place = take_place(version, &mut fields)?;
     let pairs = take_pairs(&mut fields)?;
-    let last = read_last(fields)?;
+    let last = read_last(version, fields)?;
     if place.mode == Mode::Unset && last.count > 0 {
         return None;
     }

@@ -5,9 +5,11 @@ ghost use Rattle.std.specs.Fmt.{decimal};
 ghost use Rattle.std.specs.List.{join_with_byte};
 ghost use Rattle.cert_lines.specs.Line.{fed_line};
 ghost use Rattle.cert_lines.specs.Proc.{decimal_or_dash, kind_word};
-ghost use Rattle.cert_lines.specs.Row.{last_fields, pair_fields, place_fields, place_of};
+ghost use Rattle.cert_lines.specs.Row.{last_fields, pair_fields, place_fields, place_of, row_flags};
+ghost use Rattle.cert_lines.specs.Version.{flag_form};
 ghost use Rattle.cert_lines.specs.declared.line.Line.{Line};
 ghost use Rattle.cert_fields.specs.Pair.{pair_text};
+ghost use Rattle.cert_flags.specs.Flags.{flags_text};
 ghost use Rattle.texts.specs.Made.{MADE_LEN};
 
 use crate::proc::{Proc, ProcKind};
@@ -16,9 +18,8 @@ use crate::split::Split;
 use crate::version::{BoardMap, Version};
 use abs_state::{KeptCell, Pairs};
 use address_map::Region;
-use cert_fields::{
-    add_facts, add_flag_fact, add_mode, add_pair, add_potential, add_register, add_shape,
-};
+use cert_fields::{add_facts, add_mode, add_pair, add_potential, add_register, add_shape};
+use cert_flags::add_flags;
 use intervals::Pair;
 use texts::MadeLine;
 
@@ -41,6 +42,7 @@ pub fn header_line(version: Version) -> MadeLine
     match version {
         Version::One => line_of(b"galcert 1\n"),
         Version::Two => line_of(b"galcert 2\n"),
+        Version::Three => line_of(b"galcert 3\n"),
     }
 }
 
@@ -182,7 +184,7 @@ pub fn cell_line(cell: &KeptCell) -> MadeLine
     line
 }
 
-/// Adds `PROC ADDR MODE`, and in version 2 `ARMED`.
+/// Adds `PROC ADDR MODE`, and from version 2 on `ARMED`.
 fn add_place(line: &mut MadeLine, version: Version, row: &RowRef)
     requires { length line.old + 86 ≤ MADE_LEN }
     ensures value { line.new
@@ -196,7 +198,7 @@ fn add_place(line: &mut MadeLine, version: Version, row: &RowRef)
     add_mode(line, row.mode);
     match version {
         Version::One => {}
-        Version::Two => {
+        Version::Two | Version::Three => {
             line.add_byte(b' ');
             line.add_decimal(u128::from(row.armed));
         }
@@ -242,13 +244,22 @@ fn add_pairs(line: &mut MadeLine, pairs: &Pairs)
     add_alternate_pairs(line, pairs);
 }
 
-/// Adds the flag fact, the facts, the shape and the potential, with spaces between them.
-fn add_last(line: &mut MadeLine, row: &RowRef)
-    requires { length line.old + 1922 ≤ MADE_LEN }
-    ensures value { line.new ≡ line.old ++ join_with_byte 32 (last_fields row.now) }
-    ensures grown { length line.new ≤ length line.old + 1922 }
+/// Adds what a row of this version says of the flags.
+fn add_row_flags(line: &mut MadeLine, version: Version, row: &RowRef)
+    requires { length line.old + 415 ≤ MADE_LEN }
+    ensures value { line.new ≡ line.old ++ flags_text (flag_form version) (row_flags row.now) }
+    ensures grown { length line.new ≤ length line.old + 415 }
 {
-    add_flag_fact(line, row.flag);
+    add_flags(line, version.flag_form(), row.flag, row.parts);
+}
+
+/// Adds what a row says of the flags, the facts, the shape and the potential, with spaces between them.
+fn add_last(line: &mut MadeLine, version: Version, row: &RowRef)
+    requires { length line.old + 2334 ≤ MADE_LEN }
+    ensures value { line.new ≡ line.old ++ join_with_byte 32 (last_fields version row.now) }
+    ensures grown { length line.new ≤ length line.old + 2334 }
+{
+    add_row_flags(line, version, row);
     line.add_byte(b' ');
     add_facts(line, row.facts);
     line.add_byte(b' ');
@@ -267,7 +278,7 @@ pub fn row_line(version: Version, row: &RowRef) -> MadeLine
     line.add_byte(b' ');
     add_pairs(&mut line, row.pairs);
     line.add_byte(b' ');
-    add_last(&mut line, row);
+    add_last(&mut line, version, row);
     line.add_byte(b'\n');
     line
 }

@@ -3,10 +3,11 @@
 ghost use Rattle.std.specs.Prelude.{◌+◌, ◌≡◌, ◌≤◌, ◌<◌, ◌↔◌, IsTrue, length};
 ghost use Rattle.texts.specs.Numbers.{Always, Reads};
 ghost use Rattle.address_map.specs.Boards.{galaxian, raised};
-ghost use Rattle.cert_lines.specs.Version.{board_name, work_start_of};
+ghost use Rattle.cert_lines.specs.Version.{board_name, flag_form, names_board, work_start_of};
 ghost use Rattle.cert_lines.specs.BoardMaps.{map_named};
 
 use address_map::Map;
+use cert_flags::FlagForm;
 
 /// The version of a certificate's text (docs/CERTIFICATE.md).
 #[derive(Clone, Copy, PartialEq, Eq)]
@@ -15,6 +16,30 @@ pub enum Version {
     One,
     /// Names the board's map, and may have kept cells.
     Two,
+    /// As version 2, with flag parts in place of a flag fact.
+    Three,
+}
+
+impl Version {
+    /// Whether the version names the board's map. It then may have kept cells, and each row says how many are armed.
+    pub fn names_board(self) -> bool
+        ensures { result ≡ names_board self }
+    {
+        match self {
+            Version::One => false,
+            Version::Two | Version::Three => true,
+        }
+    }
+
+    /// The form of the FLAG field in the version's rows.
+    pub fn flag_form(self) -> FlagForm
+        ensures { result ≡ flag_form self }
+    {
+        match self {
+            Version::One | Version::Two => FlagForm::Fact,
+            Version::Three => FlagForm::Parts,
+        }
+    }
 }
 
 /// How many addresses the stack and the kept cells may use: the first 400h of work RAM.

@@ -8,6 +8,7 @@ use annotations::{Annotations, FactNote};
 use cert_fields::Facts;
 use cert_form::SPLIT_LIMIT;
 use certificate::{BoardMap, Proc, Row, Split, Version};
+use flag_parts::FlagParts;
 use stack_shape::Shape;
 use std::alloc::Global;
 
@@ -87,6 +88,7 @@ fn row_of(
         proc: layout.id_of(place.proc),
         address: place.address,
         state: noted.state.copied(),
+        parts: FlagParts::empty(),
         facts,
         potential: None,
     }

@@ -10,7 +10,7 @@ use Rattle.cert_lines.specs.declared.line.Line.{Line}
 use Rattle.cert_lines.specs.declared.version.BoardMap.{BoardMap}
 use Rattle.cert_lines.specs.declared.version.BoardMap.TheVariants.{Galaxian, Raised}
 use Rattle.cert_lines.specs.declared.version.Version.{Version}
-use Rattle.cert_lines.specs.declared.version.Version.TheVariants.{One, Two}
+use Rattle.cert_lines.specs.declared.version.Version.TheVariants.{One, Two, Three}
 use Rattle.cert_form.specs.Contents.{CertificateView}
 use Rattle.cert_form.specs.Form.{IsInForm}
 use Rattle.cert_form.specs.Text.{HasTooMany, IsFirstBadLine, board_lines, lines_of, text_of, text_of_lines}
@@ -286,6 +286,7 @@ length-board_lines : (v : Version) (b : BoardMap) → length (board_lines v b) �
 length-board_lines One Galaxian = omega arith
 length-board_lines One Raised = omega arith
 length-board_lines Two b = omega arith
+length-board_lines Three b = omega arith
 
 -- a certificate has at most six lines besides those of its lists
 length-lines_of : (c : CertificateView) → length (lines_of c)

@@ -1,6 +1,7 @@
 -- Lines that are written one after another are written as one text, or a prefix of it is.
-use Rattle.std.proofs.Common.{arith, ◌≡◌, ◌<◌, ◌+◌, ℕ, zero, suc, length, List, [], ◌∷◌, ◌++◌, map, take, drop, get_or, slice_get, Option, Some, None, Result, Ok, Err, refl, sym, ap, subst, ◌∙◌, append_assoc, append-nil}
+use Rattle.std.proofs.Common.{arith, ◌≡◌, ◌<◌, ◌+◌, false, ℕ, zero, suc, length, List, [], ◌∷◌, ◌++◌, map, take, drop, get_or, slice_get, Option, Some, None, Result, Ok, Err, refl, sym, ap, subst, ◌∙◌, append_assoc, append-nil}
 use Rattle.std.specs.List.{flat_map}
+use Rattle.std.proofs.lemmas.Bool.{false≢true}
 use Rattle.std.proofs.lemmas.List.{flat_map_more, take-append-drop, take_more}
 use Rattle.std.proofs.lemmas.List.Concat.{flat_map-append}
 use Rattle.std.proofs.lemmas.Option.{get_or_from_slice_get, slice_get_within}
@@ -8,7 +9,8 @@ use Rattle.cert_lines.specs.Line.{fed_line, fields_of}
 use Rattle.cert_lines.specs.declared.line.Line.{Line}
 use Rattle.cert_lines.specs.declared.line.Line.TheVariants as lines
 use Rattle.cert_lines.specs.declared.version.Version.{Version}
-use Rattle.cert_lines.specs.declared.version.Version.TheVariants.{One, Two}
+use Rattle.cert_lines.specs.declared.version.Version.TheVariants.{One, Two, Three}
+use Rattle.cert_lines.specs.Version.{names_board}
 use Rattle.cert_form.specs.Contents.{CertificateView}
 use Rattle.cert_form.specs.Form.{SuitsVersion}
 use Rattle.cert_form.specs.Text.{board_lines, text_of_lines}
@@ -113,9 +115,10 @@ unfolding text_of_lines
 puts_nothing v a = takes_none a
 
 -- version 1 has no line of the board's map
-pub no_board_line : (v : Version) (c : CertificateView) → SuitsVersion v c → One ≡ v → [] ≡ board_lines v c.board
-no_board_line One c old is = ap (board_lines One) (sym old.board)
-no_board_line Two c any is = cc
+pub no_board_line : (v : Version) (c : CertificateView) → SuitsVersion v c → names_board v ≡ false → [] ≡ board_lines v c.board
+no_board_line One c old other = ap (board_lines One) (sym old.board)
+no_board_line Two c any other = absurd (false≢true (sym other))
+no_board_line Three c any other = absurd (false≢true (sym other))
 
 -- the texts of the elements up to this one are those before it, and its own
 pub one_more : {X : Type 0} (text : X → List ℕ) (xs : List X) (i : ℕ) (x : X) → slice_get xs i ≡ Some x →

@@ -9,8 +9,8 @@ ghost use Rattle.texts.specs.Device.{Puts};
 
 use cert_contents::Certificate;
 use cert_lines::{
-    Version, board_line, budget_line, cell_line, end_line, header_line, inline_line, proc_line,
-    rom_line, row_line, split_line, stack_line,
+    board_line, budget_line, cell_line, end_line, header_line, inline_line, proc_line, rom_line,
+    row_line, split_line, stack_line,
 };
 use texts::{DeviceFault, MadeLine, Sink, put};
 
@@ -56,7 +56,7 @@ fn write_rom<W: Sink>(certificate: &Certificate, out: &mut W) -> Result<(), Devi
     put(out, rom_line(certificate.rom_len()).bytes())
 }
 
-/// Writes the line of the board's map; version 1 has none.
+/// Writes the line of the board's map, if the version names it.
 fn write_board<W: Sink>(certificate: &Certificate, out: &mut W) -> Result<(), DeviceFault>
     ensures { Puts (W.state out.old)
         (text_of_lines certificate.now.version
@@ -64,9 +64,10 @@ fn write_board<W: Sink>(certificate: &Certificate, out: &mut W) -> Result<(), De
 {
     // By the form, the board of version 1 is Galaxian.
     certificate.is_in_form();
-    match certificate.version() {
-        Version::One => Ok(()),
-        Version::Two => put(out, board_line(certificate.board()).bytes()),
+    if certificate.version().names_board() {
+        put(out, board_line(certificate.board()).bytes())
+    } else {
+        Ok(())
     }
 }
 

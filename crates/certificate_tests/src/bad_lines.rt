@@ -8,7 +8,7 @@ use std::test::Fail;
 
 /// A text, the number of one of its lines, the line that replaces it, and the bad line that is reported.
 const REPLACED: &[(&str, usize, &str, u64)] = &[
-    (JUMP, 1, "galcert 3", 1),
+    (JUMP, 1, "galcert 4", 1),
     (JUMP, 1, "galcert 1 ", 1),
     (JUMP, 2, "rom 06", 2),
     (JUMP, 2, "rom 65536", 2),

@@ -19,6 +19,7 @@ fn row_again(certificate: &Certificate, id: u32) -> Option<Row> {
         proc: certificate.proc_of(id)?,
         address: certificate.address(id)?,
         state: certificate.state(id)?,
+        parts: certificate.row(id)?.parts.copied(),
         facts: certificate.facts(id)?.copied(),
         potential: certificate.potential(id)?,
     })

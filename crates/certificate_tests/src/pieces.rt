@@ -11,7 +11,7 @@ const FAILING: &[(&str, ReadFault, u64)] = &[
     ("galcert 1\n", ReadFault::Read, 2),
     ("galcert 1", ReadFault::Read, 2),
     // A bad line is reported before another read is asked for
-    ("galcert 3\n", ReadFault::Line(1), 1),
+    ("galcert 4\n", ReadFault::Line(1), 1),
     ("galcert 1\nrom 06\nsta", ReadFault::Line(2), 1),
 ];
 

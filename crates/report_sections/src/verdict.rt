@@ -36,6 +36,7 @@ pub fn add_verdict(report: &Reported, page: &mut Page) -> Result<(), AllocError>
     page.raw(match certificate.version() {
         Version::One => "1",
         Version::Two => "2",
+        Version::Three => "3",
     })?;
     page.raw(".</p>\n<dl>")?;
     add_files(report, page)?;

@@ -31,7 +31,7 @@ fn version_1_becomes_version_2(rt: HostRuntime) -> Result<(), Fail> {
 /// Texts that are not certificates, and the output.
 const BAD: &[(&[u8], &str)] = &[
     (b"", "bad certificate line 1\n"),
-    (b"galcert 3\n", "bad certificate line 1\n"),
+    (b"galcert 4\n", "bad certificate line 1\n"),
     (b"galcert 1\nrom 06\n", "bad certificate line 2\n"),
 ];
 

@@ -9,12 +9,12 @@ use Rattle.cert_lines.proofs.row_reading.read_row.Goals.{else-eq-via-then-eq+els
 pub returns-in_err-place : goal.returns-in_err-place
 returns-in_err-place c =
     rw c.from_residual.ensures (λ row form same.
-    c.in_err-place.ensures (place_of row) (pair_fields row.state.pairs ++ last_fields row) form.place (row_parts _ row _ same))
+    c.in_err-place.ensures (place_of row) (pair_fields row.state.pairs ++ last_fields c.args.version row) form.place (row_parts _ row _ same))
 
 pub returns-in_err-pairs : goal.returns-in_err-pairs
 returns-in_err-pairs c =
     rw c.from_residual-in_err-pairs.ensures (λ row form same.
-    c.in_err-pairs.ensures row.state.pairs (last_fields row) form.pairs
+    c.in_err-pairs.ensures row.state.pairs (last_fields c.args.version row) form.pairs
     (behind_place c.args.version c.in_ok-place.place (place_of row) _ _ (sym c.in_ok-place.ensures.1 ∙ row_parts _ row _ same)))
 
 pub returns-in_err-last : goal.returns-in_err-last
@@ -29,7 +29,7 @@ returns-then-last-gt0 c row form same =
     let whole = sym c.in_ok-place.ensures.1 ∙ row_parts _ row _ same in
     let behind = behind_place c.args.version c.in_ok-place.place (place_of row) _ _ whole in
     let ends = behind_pairs c.in_ok-pairs.pairs row.state.pairs _ _ (sym c.in_ok-pairs.ensures.1 ∙ behind) in
-    let slots = same_shapes last (last_of row) last_is (last_form _ row form) (sym text ∙ ends) in
+    let slots = same_shapes c.args.version last (last_of row) last_is (last_form _ row form) (sym text ∙ ends) in
     let is : c.in_ok-place.place.mode ≡ Unset = search (rules, c.if-eq.ensures) in
     let empty = unset_empty c.args.version row form (sym (mode_told c.args.version c.in_ok-place.place (place_of row) _ _ whole) ∙ is) in
     omega (arith, told.count, slots, empty, c.if-last-gt0.true)

@@ -13,7 +13,7 @@ returns c =
     let pairs = c.add_pairs.ensures.value
     ∙ ap (λ (r : Row). c.add_byte.new.self ++ join_with_byte 32 (pair_fields r.state.pairs)) c.row.view_is in
     texts_made (codes "row ") (join_with_byte 32 (place_fields c.args.version (place_of row)))
-    (join_with_byte 32 (pair_fields row.state.pairs)) (join_with_byte 32 (last_fields row))
+    (join_with_byte 32 (pair_fields row.state.pairs)) (join_with_byte 32 (last_fields c.args.version row))
     c.line_of-line.result c.add_place.new.line c.add_byte.new.self c.add_pairs.new.line c.add_byte-2.new.self
     c.add_last.new.line c.add_byte-3.new.self c.line_of-line.ensures.value c.add_place.ensures.value
     c.add_byte.ensures.value pairs c.add_byte-2.ensures.value c.add_last.ensures.value c.add_byte-3.ensures.value

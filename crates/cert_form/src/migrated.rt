@@ -1,0 +1,16 @@
+// The version to which a certificate is migrated.
+
+ghost use Rattle.std.specs.Prelude.{◌≡◌};
+ghost use Rattle.cert_form.specs.Migrated.{migrated_version};
+
+use cert_lines::Version;
+
+/// Version 2 for version 1, and a later version itself (docs/CERTIFICATE.md, "From version 1 to version 2").
+pub fn migrated_version(version: Version) -> Version
+    ensures { result ≡ migrated_version version }
+{
+    match version {
+        Version::One | Version::Two => Version::Two,
+        Version::Three => Version::Three,
+    }
+}
