@@ -5,7 +5,7 @@ use Rattle.std.proofs.lemmas.List.Elements.{All-from_recursion, recursion_from_A
 use Rattle.std.specs.List.{AllByRecursion, join_with_byte}
 use Rattle.texts.specs.Fields.{parts_of}
 use Rattle.texts.proofs.PlainLemmas.{IsPlain, plain_from_test}
-use Rattle.flag_parts.specs.declared.part.FlagPart.{FlagPart}
+use Rattle.flag_letters.specs.declared.part.FlagPart.{FlagPart}
 use Rattle.cert_fields.specs.Counted.{ReadsCounted}
 use Rattle.cert_fields.specs.Facts.{list_text}
 use Rattle.cert_fields.specs.declared.counted.Counted.{Counted}

@@ -2,7 +2,7 @@
 use Rattle.std.specs.Prelude.{ℕ, ◌≡◌, List, [], Option, None}
 use Rattle.abs_state.specs.declared.fact.FlagFact.{FlagFact}
 use Rattle.cert_fields.specs.Flag.{IsFlag, flag_text}
-use Rattle.flag_parts.specs.declared.part.FlagPart.{FlagPart}
+use Rattle.flag_letters.specs.declared.part.FlagPart.{FlagPart}
 use Rattle.cert_flags.specs.Parts.{AreFewParts, AreFlagParts, parts_text}
 use Rattle.cert_flags.specs.declared.form.FlagForm.{FlagForm}
 use Rattle.cert_flags.specs.declared.form.FlagForm.TheVariants.{Fact, Parts}

@@ -1,6 +1,6 @@
 -- What is kept of a row's flag parts while they are read.
 use Rattle.std.specs.Prelude.{◌≡◌, List, Option, Some, None}
-use Rattle.flag_parts.specs.declared.part.FlagPart.{FlagPart}
+use Rattle.flag_letters.specs.declared.part.FlagPart.{FlagPart}
 use Rattle.cert_fields.specs.declared.counted.Counted.{Counted}
 use Rattle.cert_fields.specs.declared.counted.Counted.TheVariants.{Fits, TooMany}
 use Rattle.cert_flags.specs.Parts.{AreFewParts, IsShortPart}

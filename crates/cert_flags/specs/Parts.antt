@@ -3,9 +3,9 @@ use Rattle.std.specs.Prelude.{ℕ, ◌≤◌, List, ◌++◌, length, map, codes
 use Rattle.std.specs.List.{AllByRecursion}
 use Rattle.cert_fields.specs.Facts.{list_text}
 use Rattle.cert_fields.specs.Linear.{IsShort, IsSum, linear_text}
-use Rattle.flag_parts.specs.declared.letter.Letter.{Letter}
-use Rattle.flag_parts.specs.declared.letter.Letter.TheVariants.{Zero, ZeroIfBelow, CarryIfBelow, SignIfBelow}
-use Rattle.flag_parts.specs.declared.part.FlagPart.{FlagPart}
+use Rattle.flag_letters.specs.declared.letter.Letter.{Letter}
+use Rattle.flag_letters.specs.declared.letter.Letter.TheVariants.{Zero, ZeroIfBelow, CarryIfBelow, SignIfBelow}
+use Rattle.flag_letters.specs.declared.part.FlagPart.{FlagPart}
 
 -- the letter of a flag part
 abbrev pub letter_text : Letter → List ℕ

@@ -9,7 +9,7 @@ use crate::parts::parts_field;
 use crate::parts_values::parts_stay_within;
 use abs_state::FlagFact;
 use cert_fields::{Counted, flag_fact_field};
-use flag_parts::FlagParts;
+use flag_letters::FlagParts;
 
 /// What a row says of the flags. In a row in form, what its form does not have is empty.
 #[derive(Drop)]

@@ -3,7 +3,7 @@ ghost use Rattle.std.specs.Prelude.{◌≡◌, ◌∷◌, []};
 ghost use Rattle.cert_flags.specs.Parts.{letter_text};
 ghost use Rattle.texts.specs.Numbers.{Always, Reads};
 
-use flag_parts::Letter;
+use flag_letters::Letter;
 
 /// The letter that this byte spells.
 pub(crate) fn letter_of(byte: u8) -> Option<Letter>

@@ -1,13 +1,13 @@
 // The flag parts of a row, as they are read.
 ghost use Rattle.std.specs.Prelude.{◌++◌, ◌∷◌, [], List};
-ghost use Rattle.flag_parts.specs.declared.part.FlagPart.{FlagPart};
+ghost use Rattle.flag_letters.specs.declared.part.FlagPart.{FlagPart};
 ghost use Rattle.cert_fields.specs.Counted.{ReadsCounted};
 ghost use Rattle.cert_flags.specs.Kept.{IsPartCountedAs, KeepsFewParts};
 ghost use Rattle.cert_flags.specs.Parts.{AreFewParts, AreFlagParts, IsFlagPart, IsShortPart, part_text, parts_text};
 
 use crate::letter::letter_of;
 use cert_fields::{Counted, linear_field};
-use flag_parts::{FlagPart, FlagParts};
+use flag_letters::{FlagPart, FlagParts};
 use texts::Fields;
 
 /// A flag part in a row with this many slots: a letter and a linear.

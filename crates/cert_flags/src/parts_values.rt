@@ -4,7 +4,7 @@ ghost use Rattle.cert_fields.specs.Linear.{HasSlotsBelow};
 ghost use Rattle.cert_flags.specs.Parts.{AreFewParts, AreFlagParts};
 
 use cert_fields::{is_linear, stays_within};
-use flag_parts::FlagParts;
+use flag_letters::FlagParts;
 
 /// A law: by their type, flag parts are in form in a row with 64 slots, and within the limits.
 pub fn are_parts(parts: &FlagParts)

@@ -8,7 +8,7 @@ use crate::form::FlagForm;
 use crate::letter::letter_byte;
 use abs_state::FlagFact;
 use cert_fields::{add_flag_fact, add_linear};
-use flag_parts::{FlagPart, FlagParts};
+use flag_letters::{FlagPart, FlagParts};
 use texts::MadeLine;
 
 /// Adds a flag part: its letter and its linear.

@@ -10,7 +10,7 @@ use abs_state::{AbsState, FlagFact, Mode, Pairs};
 use call_graph::ProcId;
 use cert_fields::Facts;
 use cert_lines::{Row, RowRef};
-use flag_parts::FlagParts;
+use flag_letters::FlagParts;
 use loop_bounds::Linear;
 use stack_shape::Shape;
 use std::alloc::{AllocError, Global};

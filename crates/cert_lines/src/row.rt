@@ -13,7 +13,7 @@ use abs_state::{AbsState, FlagFact, Mode, Pairs};
 use call_graph::ProcId;
 use cert_fields::{Facts, are_facts, facts_stay_within, is_pair, is_shape, stays_within};
 use cert_flags::flags_are_in_form;
-use flag_parts::FlagParts;
+use flag_letters::FlagParts;
 use loop_bounds::Linear;
 use stack_shape::Shape;
 use std::marker::Model;

@@ -8,7 +8,7 @@ use annotations::{Annotations, FactNote};
 use cert_fields::Facts;
 use cert_form::SPLIT_LIMIT;
 use certificate::{BoardMap, Proc, Row, Split, Version};
-use flag_parts::FlagParts;
+use flag_letters::FlagParts;
 use stack_shape::Shape;
 use std::alloc::Global;
 

@@ -7,7 +7,7 @@ use certificate::BoardMap::Galaxian;
 use certificate::CertFault::{self, Line};
 use certificate::Version::{self, One, Three, Two};
 use certificate::{Certificate, Parts, Proc, ProcKind, Row, write};
-use flag_parts::{FlagPart, FlagParts, Letter};
+use flag_letters::{FlagPart, FlagParts, Letter};
 use intervals::Pair;
 use loop_bounds::{Linear, Part, SlotNumber, Term, Variable};
 use memory_devices::Taken;

@@ -2,7 +2,7 @@
 
 use crate::samples::{COUNTED, EVERY_PART, POINTER};
 use certificate::{Certificate, Version, read};
-use flag_parts::{FlagPart, Letter};
+use flag_letters::{FlagPart, Letter};
 use loop_bounds::{Linear, Part, SlotNumber, Term, Variable};
 use std::test::Fail;
 

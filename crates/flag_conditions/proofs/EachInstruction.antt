@@ -56,7 +56,7 @@ use Rattle.z80_moves.specs.declared.registers.WordRegister.TheVariants as words
 use Rattle.abs_state.specs.Seen.{Seen}
 use Rattle.abs_state.specs.Variables.{value_in}
 use Rattle.flag_parts.specs.Parts.{HoldsParts}
-use Rattle.flag_parts.specs.declared.part.FlagPart.{FlagPart}
+use Rattle.flag_letters.specs.declared.part.FlagPart.{FlagPart}
 use Rattle.flag_conditions.specs.Linears.{one_term, no_terms, only, left_of_127, above_128}
 use Rattle.flag_conditions.specs.NewConditions.{zero, zero_if_below, of_byte, of_hl, carry_if_below, word_sum_before, word_difference_before, rotate_before, shift_before, test_before, arithmetic_before, arithmetic_after, word_sum_after, new_before, new_after}
 use Rattle.flag_conditions.specs.OperandTerm.{operand_term_of, term_of_memory, term_of_register, register_variable_of, variable_of_index, variable_of_other, word_of_index_pair, word_of_pair}

@@ -35,8 +35,8 @@ use Rattle.z80_moves.specs.Moves.{at_memory, moves_of}
 use Rattle.z80_moves.specs.Operands.{byte_register, word_register, pointer_register, direct_register}
 use Rattle.z80_moves.specs.declared.moves.Move.{Move}
 use Rattle.flag_parts.specs.Parts.{flag_of}
-use Rattle.flag_parts.specs.declared.letter.Letter.{Letter}
-use Rattle.flag_parts.specs.declared.letter.Letter.TheVariants.{Zero, ZeroIfBelow, CarryIfBelow, SignIfBelow}
+use Rattle.flag_letters.specs.declared.letter.Letter.{Letter}
+use Rattle.flag_letters.specs.declared.letter.Letter.TheVariants.{Zero, ZeroIfBelow, CarryIfBelow, SignIfBelow}
 use Rattle.flag_conditions.specs.FlagChanges.{changes_of, leaves}
 use Rattle.flag_conditions.specs.declared.changes.FlagChanges.{FlagChanges}
 use Rattle.flag_conditions.specs.declared.changes.FlagChanges.TheVariants.{Nothing, CarryAlone, AllButCarry, All}

@@ -24,7 +24,7 @@ use Rattle.z80_decode.specs.declared.operands.Place.TheVariants as places
 use Rattle.z80_decode.specs.declared.operands.Register8.TheVariants as registers
 use Rattle.z80_draft.specs.Arithmetic.{value_of, flags_after}
 use Rattle.flag_parts.specs.Parts.{HoldsPart, HoldsParts}
-use Rattle.flag_parts.specs.declared.part.FlagPart.{FlagPart}
+use Rattle.flag_letters.specs.declared.part.FlagPart.{FlagPart}
 use Rattle.flag_conditions.specs.Linears.{only, left_of_127, above_128, byte_left, byte_excess}
 use Rattle.flag_conditions.specs.NewConditions.{zero, zero_if_below, carry_if_below, sign_if_below, no_carry, of_byte, sum_before, difference_before, and_before, xor_before, or_before, arithmetic_before, sum_after, difference_after, arithmetic_after}
 use Rattle.flag_conditions.specs.OperandTerm.{operand_term_of, variable_of_other}

@@ -13,8 +13,8 @@ use Rattle.z80_decode.specs.declared.instr.Instr.{Instr}
 use Rattle.z80_draft.specs.Draft.{draft_of}
 use Rattle.abs_state.specs.Variables.{value_in}
 use Rattle.flag_parts.specs.Parts.{HoldsPart, HoldsParts, flag_of, IsSetAt}
-use Rattle.flag_parts.specs.declared.letter.Letter.{Letter}
-use Rattle.flag_parts.specs.declared.part.FlagPart.{FlagPart}
+use Rattle.flag_letters.specs.declared.letter.Letter.{Letter}
+use Rattle.flag_letters.specs.declared.part.FlagPart.{FlagPart}
 use Rattle.flag_conditions.specs.Conditions.{StepConditionsView, carried, conditions_of, AreTrue}
 use Rattle.flag_conditions.specs.FlagChanges.{changes_of, leaves}
 use Rattle.flag_conditions.specs.NewConditions.{new_before}

@@ -11,7 +11,7 @@ use Rattle.z80_draft.specs.Registers.{IsRegs}
 use Rattle.abs_state.specs.Seen.{Seen}
 use Rattle.abs_state.specs.Variables.{value_in}
 use Rattle.flag_parts.specs.Parts.{AreSeen, HoldsParts}
-use Rattle.flag_parts.specs.declared.part.FlagPart.{FlagPart}
+use Rattle.flag_letters.specs.declared.part.FlagPart.{FlagPart}
 use Rattle.flag_conditions.specs.FlagChanges.{changes_of, leaves}
 use Rattle.flag_conditions.specs.NewConditions.{new_before, new_after}
 

@@ -1,7 +1,7 @@
 -- Which of Z, C and S an instruction leaves alone (docs/CHECKER.md, "Conditions of a step").
 use Rattle.std.specs.Prelude.{Bool, true, false}
-use Rattle.flag_parts.specs.declared.letter.Letter.{Letter}
-use Rattle.flag_parts.specs.declared.letter.Letter.TheVariants as letters
+use Rattle.flag_letters.specs.declared.letter.Letter.{Letter}
+use Rattle.flag_letters.specs.declared.letter.Letter.TheVariants as letters
 use Rattle.z80_decode.specs.declared.instr.Instr.{Instr}
 use Rattle.z80_decode.specs.declared.instr.Instr.TheVariants.{LoadASpecial, Pop, ExchangeAf, BlockCompare, Arithmetic, Increment, Decrement, DecimalAdjust, Negate, ComplementCarry, SetCarry, AddHl, AdcHl, SbcHl, AddIndex, RotateA, Shift, RotateDigitsLeft, RotateDigitsRight, TestBit}
 use Rattle.z80_decode.specs.declared.operands.StackPair.{StackPair}

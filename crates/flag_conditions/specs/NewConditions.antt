@@ -2,8 +2,8 @@
 use Rattle.std.specs.Prelude.{◌==◌, Bool, true, false, if◌then◌else◌, List, [], ◌∷◌, ◌++◌, Option, Some, None, pos, negsuc}
 use Rattle.std.specs.Option.{option_to_list}
 use Rattle.intervals.specs.Range.{RangeView}
-use Rattle.flag_parts.specs.declared.letter.Letter.TheVariants as letters
-use Rattle.flag_parts.specs.declared.part.FlagPart.{FlagPart}
+use Rattle.flag_letters.specs.declared.letter.Letter.TheVariants as letters
+use Rattle.flag_letters.specs.declared.part.FlagPart.{FlagPart}
 use Rattle.loop_bounds.specs.Linear.{LinearView}
 use Rattle.loop_bounds.specs.declared.variable.Variable.{Variable}
 use Rattle.loop_bounds.specs.declared.variable.Variable.TheVariants as variables

@@ -7,7 +7,7 @@ use crate::linears::{byte_excess, byte_left};
 use crate::logic::{and_conditions, or_conditions, xor_conditions};
 use crate::new_parts::NewParts;
 use crate::parts::{carry_if_below, of_byte, of_byte_and, zero};
-use flag_parts::FlagPart;
+use flag_letters::FlagPart;
 use loop_bounds::Variable;
 use z80_decode::{ArithmeticKind, Operand};
 

@@ -2,7 +2,7 @@
 ghost use Rattle.std.specs.Prelude.{◌≡◌};
 ghost use Rattle.flag_conditions.specs.FlagChanges.{leaves, changes_of, changes_of_pop};
 
-use flag_parts::Letter;
+use flag_letters::Letter;
 use z80_decode::{Instr, StackPair};
 
 /// Which of Z, C and S an instruction may change.

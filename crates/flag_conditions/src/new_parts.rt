@@ -2,7 +2,7 @@
 ghost use Rattle.std.specs.Prelude.{◌≡◌, ◌≤◌, ◌++◌, [], ◌∷◌, length};
 
 use arrayvec::ArrayVec;
-use flag_parts::FlagPart;
+use flag_letters::FlagPart;
 use std::marker::Model;
 
 /// At most three flag parts, in order.
@@ -13,7 +13,7 @@ pub(crate) struct NewParts {
 
 impl Model for NewParts {
     ghost use Rattle.std.specs.Prelude.{List, length, ◌≤◌};
-    ghost use Rattle.flag_parts.specs.declared.part.FlagPart.{FlagPart};
+    ghost use Rattle.flag_letters.specs.declared.part.FlagPart.{FlagPart};
 
     ghost Value = { List FlagPart };
 

@@ -7,7 +7,7 @@ use crate::changes::FlagChanges;
 use crate::new_conditions::{new_after, new_before};
 use crate::new_parts::NewParts;
 use arrayvec::ArrayVec;
-use flag_parts::{FlagPart, FlagParts};
+use flag_letters::{FlagPart, FlagParts};
 use intervals::ByteRange;
 use std::marker::Model;
 use z80_decode::Instr;

@@ -5,7 +5,7 @@ ghost use Rattle.flag_conditions.specs.NewConditions.{zero, zero_if_below, carry
 
 use crate::linears::{left_of_127, no_terms, only};
 use crate::new_parts::NewParts;
-use flag_parts::{FlagPart, Letter};
+use flag_letters::{FlagPart, Letter};
 use loop_bounds::{Linear, Variable};
 
 pub(crate) fn zero(linear: Linear) -> FlagPart

@@ -11,9 +11,9 @@ use Rattle.loop_bounds.specs.Ranges.{Box}
 use Rattle.z80_alu.specs.declared.flags.Flags.{Flags}
 use Rattle.flag_parts.specs.Carry.{told_sign, carry_from, told_carry, or_else, known_carry}
 use Rattle.flag_parts.specs.Parts.{flag_of, IsSetAt, HoldsPart, HoldsParts}
-use Rattle.flag_parts.specs.declared.letter.Letter.{Letter}
-use Rattle.flag_parts.specs.declared.letter.Letter.TheVariants.{Zero, ZeroIfBelow, CarryIfBelow, SignIfBelow}
-use Rattle.flag_parts.specs.declared.part.FlagPart.{FlagPart}
+use Rattle.flag_letters.specs.declared.letter.Letter.{Letter}
+use Rattle.flag_letters.specs.declared.letter.Letter.TheVariants.{Zero, ZeroIfBelow, CarryIfBelow, SignIfBelow}
+use Rattle.flag_letters.specs.declared.part.FlagPart.{FlagPart}
 
 sign_told : (carry : Bool) (n least greatest : ℤ) → least ≤ℤ n → n ≤ℤ greatest → (IsTrue carry ↔ n <ℤ pos 0) → IfSome (told_sign least greatest) (λ b. carry ≡ b)
 sign_told true n least greatest p q h =

@@ -11,11 +11,11 @@ use Rattle.abs_state.specs.declared.state.AbsState.{AbsState}
 use Rattle.flag_parts.specs.Narrowing.{said, IsAsSaid, narrowed_by_part, narrowed}
 use Rattle.loop_bounds.specs.Effect.{Valuation}
 use Rattle.flag_parts.specs.Parts.{flag_of, IsSetAt, HoldsPart, HoldsParts}
-use Rattle.flag_parts.specs.declared.letter.Letter.{Letter}
-use Rattle.flag_parts.specs.declared.letter.Letter.TheVariants as letters
+use Rattle.flag_letters.specs.declared.letter.Letter.{Letter}
+use Rattle.flag_letters.specs.declared.letter.Letter.TheVariants as letters
 use Rattle.flag_parts.specs.declared.narrowing.ZeroTest.{ZeroTest}
 use Rattle.flag_parts.specs.declared.narrowing.ZeroTest.TheVariants.{IsZero, IsNotZero, LiesOn}
-use Rattle.flag_parts.specs.declared.part.FlagPart.{FlagPart}
+use Rattle.flag_letters.specs.declared.part.FlagPart.{FlagPart}
 
 -- ---- what a met condition says is true
 

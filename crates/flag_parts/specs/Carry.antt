@@ -2,9 +2,9 @@
 use Rattle.std.specs.Prelude.{Bool, true, false, List, [], ◌∷◌, Option, Some, None, int_lt, int_le, ℤ, pos, if◌then◌else◌}
 use Rattle.loop_bounds.specs.Ranges.{Box}
 use Rattle.linear_limits.specs.Extremes.{least_value, greatest_value}
-use Rattle.flag_parts.specs.declared.letter.Letter.{Letter}
-use Rattle.flag_parts.specs.declared.letter.Letter.TheVariants.{Zero, ZeroIfBelow, CarryIfBelow, SignIfBelow}
-use Rattle.flag_parts.specs.declared.part.FlagPart.{FlagPart}
+use Rattle.flag_letters.specs.declared.letter.Letter.{Letter}
+use Rattle.flag_letters.specs.declared.letter.Letter.TheVariants.{Zero, ZeroIfBelow, CarryIfBelow, SignIfBelow}
+use Rattle.flag_letters.specs.declared.part.FlagPart.{FlagPart}
 
 -- all values from the least to the greatest are below 0, or none is
 abbrev pub told_sign : ℤ → ℤ → Option Bool

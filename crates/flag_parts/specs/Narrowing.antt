@@ -9,11 +9,11 @@ use Rattle.z80_decode.specs.declared.kinds.Condition.{Condition}
 use Rattle.z80_decode.specs.declared.kinds.Condition.TheVariants as conditions
 use Rattle.abs_state.specs.Variables.{range_of, cut_to}
 use Rattle.abs_state.specs.declared.state.AbsState.{AbsState}
-use Rattle.flag_parts.specs.declared.letter.Letter.{Letter}
-use Rattle.flag_parts.specs.declared.letter.Letter.TheVariants as letters
+use Rattle.flag_letters.specs.declared.letter.Letter.{Letter}
+use Rattle.flag_letters.specs.declared.letter.Letter.TheVariants as letters
 use Rattle.flag_parts.specs.declared.narrowing.ZeroTest.{ZeroTest}
 use Rattle.flag_parts.specs.declared.narrowing.ZeroTest.TheVariants.{IsZero, IsNotZero, LiesOn}
-use Rattle.flag_parts.specs.declared.part.FlagPart.{FlagPart}
+use Rattle.flag_letters.specs.declared.part.FlagPart.{FlagPart}
 use Rattle.flag_parts.specs.Excluding.{is_none, not_zero}
 
 -- what a met condition says of the linear of a part with this letter

@@ -10,10 +10,8 @@ ghost use Rattle.abs_state.specs.declared.cell.KeptCell.{KeptCell};
 ghost use Rattle.flag_parts.specs.Carry.{told_sign, told_carry, known_carry};
 ghost use Rattle.flag_parts.specs.Parts.{AreSeen};
 
-use crate::letter::Letter;
-use crate::part::FlagPart;
-use crate::parts::FlagParts;
 use abs_state::AbsState;
+use flag_letters::{FlagPart, FlagParts, Letter};
 use linear_limits::{ValueSpan, extremes};
 
 /// Whether all values of a span are below 0; None if only some are.

@@ -4,13 +4,7 @@
 
 mod carry;
 mod excluding;
-mod letter;
 mod narrowing;
-mod part;
-mod parts;
 
 pub use carry::known_carry;
-pub use letter::Letter;
 pub use narrowing::narrow;
-pub use part::FlagPart;
-pub use parts::{FlagParts, MOST_PARTS};

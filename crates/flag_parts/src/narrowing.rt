@@ -14,10 +14,8 @@ ghost use Rattle.flag_parts.specs.Narrowing.{said, IsAsSaid, zero, narrowed_by, 
 ghost use Rattle.flag_parts.specs.Parts.{HoldsPart, AreSeen};
 
 use crate::excluding::exclude_zero;
-use crate::letter::Letter;
-use crate::part::FlagPart;
-use crate::parts::FlagParts;
 use abs_state::AbsState;
+use flag_letters::{FlagPart, FlagParts, Letter};
 use linear_limits::{SideOfZero, limit};
 use loop_bounds::Linear;
 use z80_decode::Condition;

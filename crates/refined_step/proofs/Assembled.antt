@@ -50,7 +50,7 @@ use Rattle.abs_step.proofs.Keeps.{after_both, keeps_by_outcome, operand_as_known
 use Rattle.flag_parts.specs.Carry.{known_carry}
 use Rattle.flag_parts.specs.Narrowing.{narrowed}
 use Rattle.flag_parts.specs.Parts.{AreSeen, HoldsParts}
-use Rattle.flag_parts.specs.declared.part.FlagPart.{FlagPart}
+use Rattle.flag_letters.specs.declared.part.FlagPart.{FlagPart}
 use Rattle.flag_conditions.specs.Conditions.{AreTrue, AreTrueOf, IsAsKnown, StepConditionsView, conditions_of}
 use Rattle.linear_effects.specs.Effects.{BecomesSo, IsDescribed, IsTrueEffect, effect_of}
 use Rattle.linear_effects.specs.declared.variable_effect.LinearEffect.{LinearEffect}

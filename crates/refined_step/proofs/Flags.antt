@@ -9,7 +9,7 @@ use Rattle.abs_state.specs.declared.cell.KeptCell.{KeptCell}
 use Rattle.abs_state.specs.declared.state.AbsState.{AbsState}
 use Rattle.flag_parts.specs.Narrowing.{narrowed}
 use Rattle.flag_parts.specs.Parts.{AreSeen}
-use Rattle.flag_parts.specs.declared.part.FlagPart.{FlagPart}
+use Rattle.flag_letters.specs.declared.part.FlagPart.{FlagPart}
 use Rattle.z80_alu.specs.declared.flags.Flags.{Flags}
 use Rattle.z80_decode.specs.declared.kinds.Condition.{Condition}
 use Rattle.z80_decode.specs.declared.kinds.Condition.TheVariants as conditions

@@ -32,7 +32,7 @@ use Rattle.flag_parts.specs.declared.excluding.FreeTerms.{FreeTerms}
 use Rattle.flag_parts.specs.declared.excluding.FreeTerms.TheVariants.{Nothing, One, More}
 use Rattle.flag_parts.specs.declared.narrowing.ZeroTest.{ZeroTest}
 use Rattle.flag_parts.specs.declared.narrowing.ZeroTest.TheVariants.{IsZero, IsNotZero, LiesOn}
-use Rattle.flag_parts.specs.declared.part.FlagPart.{FlagPart}
+use Rattle.flag_letters.specs.declared.part.FlagPart.{FlagPart}
 
 never : (P : Type 0) (b : Bool) → b ≡ true → b ≡ false → P
 never P b e f = absurd (cc)

@@ -18,7 +18,7 @@ use Rattle.abs_step.specs.Successors.{nexts_by}
 use Rattle.abs_step.specs.declared.next.Next.{Next}
 use Rattle.flag_parts.specs.Narrowing.{narrowed}
 use Rattle.flag_parts.specs.Parts.{AreSeen}
-use Rattle.flag_parts.specs.declared.part.FlagPart.{FlagPart}
+use Rattle.flag_letters.specs.declared.part.FlagPart.{FlagPart}
 
 -- the condition of JP cc, JR cc, CALL cc and RET cc
 abbrev pub condition_of : Instr → Option Condition

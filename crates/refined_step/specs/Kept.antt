@@ -17,7 +17,7 @@ use Rattle.abs_step.specs.Contained.{After, Before, IsInOrder, Running, seen_of}
 use Rattle.abs_step.specs.Successors.{writes_of}
 use Rattle.abs_step.specs.declared.next.Next.{Next}
 use Rattle.flag_parts.specs.Parts.{AreSeen, HoldsParts}
-use Rattle.flag_parts.specs.declared.part.FlagPart.{FlagPart}
+use Rattle.flag_letters.specs.declared.part.FlagPart.{FlagPart}
 use Rattle.flag_conditions.specs.Conditions.{StepConditionsView}
 use Rattle.linear_effects.specs.declared.variable_effect.LinearEffect.{LinearEffect}
 

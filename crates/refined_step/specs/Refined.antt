@@ -9,7 +9,7 @@ use Rattle.abs_step.specs.declared.reason.Reason.{Reason}
 use Rattle.z80_decode.specs.declared.instr.Instr.{Instr}
 use Rattle.z80_decode.specs.declared.kinds.Condition.{Condition}
 use Rattle.flag_parts.specs.Carry.{known_carry}
-use Rattle.flag_parts.specs.declared.part.FlagPart.{FlagPart}
+use Rattle.flag_letters.specs.declared.part.FlagPart.{FlagPart}
 use Rattle.flag_conditions.specs.Conditions.{StepConditionsView, conditions_of}
 use Rattle.linear_effects.specs.Effects.{effect_of}
 use Rattle.linear_effects.specs.declared.variable_effect.LinearEffect.{LinearEffect}

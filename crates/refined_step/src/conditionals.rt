@@ -16,7 +16,8 @@ ghost use Rattle.refined_step.specs.Conditionals.{condition_of, opposite, met, c
 use abs_draft::Ground;
 use abs_state::AbsState;
 use abs_step::{Next, Nexts, outcome_next};
-use flag_parts::{FlagParts, narrow};
+use flag_letters::FlagParts;
+use flag_parts::narrow;
 use smallvec::SmallVec;
 use std::alloc::Global;
 use z80_decode::{Condition, Instr, ShortCondition};

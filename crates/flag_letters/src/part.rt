@@ -13,7 +13,7 @@ pub struct FlagPart {
 
 impl Default for FlagPart {
     ghost use Rattle.std.specs.Prelude.{[], pos};
-    ghost use Rattle.flag_parts.specs.declared.letter.Letter.TheVariants.{CarryIfBelow};
+    ghost use Rattle.flag_letters.specs.declared.letter.Letter.TheVariants.{CarryIfBelow};
 
     ghost is_default = { λ part. part ≡ record { letter = CarryIfBelow; linear = record { constant = pos 0; terms = [] } } };
 

@@ -18,7 +18,7 @@ pub struct FlagParts {
 
 impl Model for FlagParts {
     ghost use Rattle.std.specs.Prelude.{List, length, ◌≤◌};
-    ghost use Rattle.flag_parts.specs.declared.part.FlagPart.{FlagPart};
+    ghost use Rattle.flag_letters.specs.declared.part.FlagPart.{FlagPart};
 
     ghost Value = { List FlagPart };
 
