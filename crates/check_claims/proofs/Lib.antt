@@ -1,0 +1,2 @@
+pub mod Canons
+pub mod Lists

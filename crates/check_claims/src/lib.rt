@@ -1,0 +1,13 @@
+// Which facts and flag parts are known to hold after a step (docs/CHECKER.md, "Claims").
+#![tactic(auto)]
+
+mod facts;
+mod laws;
+mod parts;
+mod rewritings;
+mod source;
+mod telling;
+mod zeros;
+
+pub use laws::seen_steps_are_true;
+pub use source::Source;
