@@ -1,2 +1,6 @@
 pub mod Canons
 pub mod Lists
+pub mod Options
+pub mod Tests
+pub mod TruthLemmas
+pub mod SeenLemmas

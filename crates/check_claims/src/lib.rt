@@ -1,6 +1,7 @@
 // Which facts and flag parts are known to hold after a step (docs/CHECKER.md, "Claims").
 #![tactic(auto)]
 
+mod equality;
 mod facts;
 mod laws;
 mod parts;

@@ -4,6 +4,7 @@ ghost use Rattle.linear_sums.specs.Rewriting.{IsSlight, rewritten};
 ghost use Rattle.linear_sums.specs.Sum.{IsMadeOf};
 ghost use Rattle.check_claims.specs.Rewritings.{is_slight, slight_change, unless_constant, change_or, slot_or, effect_or, constants_first, variables_first};
 
+use crate::equality::are_equal;
 use linear_effects::LinearEffect;
 use linear_sums::{LinearChange, Sum, rewritten};
 use loop_bounds::{Change, Effect, Linear, Part, SlotChange, Variable};
@@ -134,7 +135,7 @@ pub(crate) fn are_same(settled: &Effect, moved: &Effect, linear: &Option<LinearE
     ensures { IsTrue result
         → variables_first settled.now moved.now linear.now ≡ constants_first settled.now linear.now }
 {
-    linear.is_none() && settled == moved
+    linear.is_none() && are_equal(settled, moved)
 }
 
 /// The linear as a sum over the variables before the step; None if a variable is unknown. The sum takes 13 parts of its

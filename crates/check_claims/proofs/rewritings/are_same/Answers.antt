@@ -1,4 +1,5 @@
-use Rattle.std.proofs.Common.{◌≡◌, ℕ, eqb, true, refl, ap, sym, ◌∙◌, subst, Option, Some, None, rules, IsTrue}
+use Rattle.std.proofs.Common.{◌≡◌, ℕ, eqb, true, refl, ap, sym, ◌∙◌, subst, Option, Some, None, rules, IsTrue, Bool, false, not}
+use Rattle.std.specs.Option.{is_some}
 use Rattle.loop_bounds.specs.Effect.{change_of}
 use Rattle.loop_bounds.specs.declared.effect.Change.{Change}
 use Rattle.loop_bounds.specs.declared.effect.Change.TheVariants.{Old, Raised, Lowered, Constant, Unknown}
@@ -33,5 +34,9 @@ one_way settled moved linear e none =
     (subst (λ (l : Option LinearEffect). variables_first settled settled l ≡ constants_first settled l) (sym none)
     (rw (same_effect settled) refl))
 
+none_there : (linear : Option LinearEffect) → is_some linear ≡ false → linear ≡ None
+none_there None e = refl
+none_there (Some x) e = cc
+
 pub returns-then-is_none : goal.returns-then-is_none
-returns-then-is_none c = λ t. one_way c.args.settled.now c.args.moved.now c.args.linear.now ? ?
+returns-then-is_none c = λ t. one_way c.args.settled.now c.args.moved.now c.args.linear.now (c.are_equal.ensures t) (none_there c.args.linear.now (c.is_none.ensures ∙ ap not c.if-is_none.true))
