@@ -1,5 +1,5 @@
 // Which facts are known to hold after a step.
-ghost use Rattle.std.specs.Prelude.{◌↔◌, ◌⊎◌, IsTrue};
+ghost use Rattle.std.specs.Prelude.{◌↔◌, ◌⊎◌, All, IsTrue};
 ghost use Rattle.abs_state.specs.Variables.{range_of};
 ghost use Rattle.linear_sums.specs.Rewriting.{IsSlight};
 ghost use Rattle.check_claims.specs.Claims.{BecomesZero, IsClaimedFact};
@@ -60,5 +60,16 @@ impl<'f, 'b, 's, 'm, 'l, 'c> Source<'f, 'b, 's, 'm, 'l, 'c> {
         becomes_zero_either_way(
             self.facts, self.before, self.settled, self.moved, self.linear, fact,
         )
+    }
+    /// Whether each of the facts is.
+    pub fn knows_facts(&self, facts: &[Linear]) -> bool
+        ensures { IsTrue result ↔ All (IsClaimedFact self.now) facts.now }
+    {
+        for fact in facts {
+            if !self.knows_fact(fact) {
+                return false;
+            }
+        }
+        true
     }
 }

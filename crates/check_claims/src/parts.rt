@@ -1,5 +1,5 @@
 // Which flag parts are known to hold after a step.
-ghost use Rattle.std.specs.Prelude.{◌≡◌, ◌↔◌, ◌⊎◌, IsTrue};
+ghost use Rattle.std.specs.Prelude.{◌≡◌, ◌↔◌, ◌⊎◌, All, IsTrue};
 ghost use Rattle.abs_state.specs.Variables.{range_of};
 ghost use Rattle.linear_sums.specs.Rewriting.{IsSlight};
 ghost use Rattle.check_claims.specs.Claims.{IsConveyedBy, IsToldBefore, IsToldAfter, IsToldBack, TellsBefore, TellsAfter, TellsBack, IsClaimedPart};
@@ -192,5 +192,16 @@ impl<'f, 'b, 's, 'm, 'l, 'c> Source<'f, 'b, 's, 'm, 'l, 'c> {
             self.facts, self.before, self.settled, self.moved, self.linear, after, part,
             self.conditions.after(),
         )
+    }
+    /// Whether each of the flag parts is.
+    pub fn knows_parts(&self, parts: &[FlagPart], after: &AbsState) -> bool
+        ensures { IsTrue result ↔ All (IsClaimedPart self.now after.now) parts.now }
+    {
+        for part in parts {
+            if !self.knows_part(part, after) {
+                return false;
+            }
+        }
+        true
     }
 }
