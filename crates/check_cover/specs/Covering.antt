@@ -9,12 +9,14 @@ use Rattle.abs_state.specs.Variables.{range_of, cut_to}
 use Rattle.abs_state.specs.declared.state.AbsState.{AbsState}
 use Rattle.cert_lines.specs.declared.row.Row.{Row}
 use Rattle.cert_form.specs.Contents.{CertificateView}
+use Rattle.flag_letters.specs.declared.part.FlagPart.{FlagPart}
 use Rattle.loop_bounds.specs.Bounds.{Vanishes, Becomes, BecomesNegation}
 use Rattle.loop_bounds.specs.Linear.{LinearView}
 use Rattle.loop_bounds.specs.Tighten.{tightened}
 use Rattle.loop_bounds.specs.declared.effect.Effect.{Effect}
 use Rattle.z80_decode.specs.declared.operands.Register8.{Register8}
-use Rattle.check_cover.specs.Arrival.{ArrivalView, first_arrival}
+use Rattle.check_claims.specs.Claims.{IsClaimedFact, IsClaimedPart}
+use Rattle.check_cover.specs.Arrival.{ArrivalView, RefinementView, first_arrival, source_of}
 use Rattle.check_cover.specs.Program.{IsRowAt, split_at}
 
 -- rewritten by the effect, a fact is one that was known before the step, or the negation of one
@@ -42,12 +44,23 @@ pub record Suits (row : Row) (state : AbsState) : Type 0 where
 abbrev pub CoversTightened : Row → AbsState → Type 0
 CoversTightened row state = IfSome (tightened_by row.facts state) (CoversState row.state)
 
+-- a fact is known where a state arrives: in version 3 by a claim, and before it as above
+abbrev pub KnowsFact : ArrivalView → Option RefinementView → LinearView → Type 0
+KnowsFact a None fact = IsKnownFact a.facts a.before a.effect fact
+KnowsFact a (Some r) fact = IsClaimedFact (source_of a r) fact
+
+-- a flag part is known where a state arrives; none is before version 3
+abbrev pub KnowsPart : ArrivalView → Option RefinementView → AbsState → FlagPart → Type 0
+KnowsPart a None state part = ⊥
+KnowsPart a (Some r) state part = IsClaimedPart (source_of a r) state part
+
 -- a row covers a state that arrives: it suits the state, its origins and its flag fact are the state's, each of its
--- facts is known to hold, and it covers what these facts leave of the state
+-- facts and its flag parts is known to hold, and it covers what these facts leave of the state
 pub record CoversArrival (a : ArrivalView) (state : AbsState) (row : Row) : Type 0 where
   pub suits : Suits row state
   pub kept : KeepsState row.state state
-  pub facts : All (IsKnownFact a.facts a.before a.effect) row.facts
+  pub facts : All (KnowsFact a a.refined) row.facts
+  pub parts : All (KnowsPart a a.refined state) row.parts
   pub tightened : CoversTightened row state
 
 -- the row with this number covers the state that arrives
@@ -74,8 +87,8 @@ Covered cert a state = CoveredBy cert a state (split_at cert a.proc a.address)
 
 -- the state at the entry of main, 0000, is covered
 abbrev pub CoversMain : CertificateView → Type 0
-CoversMain cert = Covered cert (first_arrival 0 0 main_entry) main_entry
+CoversMain cert = Covered cert (first_arrival cert.version 0 0 main_entry) main_entry
 
 -- the state at the entry of the NMI routine, 0066, is covered; it is the second procedure
 abbrev pub CoversNmi : CertificateView → Type 0
-CoversNmi cert = Covered cert (first_arrival 1 102 (nmi_entry (length cert.cells))) (nmi_entry (length cert.cells))
+CoversNmi cert = Covered cert (first_arrival cert.version 1 102 (nmi_entry (length cert.cells))) (nmi_entry (length cert.cells))

@@ -9,6 +9,7 @@ use crate::alike::{Alike, BLOCK};
 use crate::arrival::Arrival;
 use crate::index::AddressIndex;
 use crate::program::split_at;
+use crate::rows::is_plain;
 use abs_state::{AbsState, Pairs};
 use call_graph::ProcId;
 use cert_contents::{Certificate, RowId};
@@ -64,7 +65,7 @@ impl<'a> Coverer<'a> {
         }
     }
 
-    /// Whether a row without facts at an address of a procedure is found that covers a state. Such a row covers each
+    /// Whether a row without facts and flag parts at an address of a procedure is found that covers a state. Such a row covers each
     /// state that this one covers, however it arrives. The search looks only where the row is likely, so it may miss
     /// one.
     pub fn covers_plainly(&mut self, proc: ProcId, address: u16, state: &AbsState) -> bool
@@ -90,22 +91,24 @@ impl<'a> Coverer<'a> {
             facts: &[],
             before: state,
             effect: &Effect::unchanged(),
+            refined: None,
         };
         let rows = self.certificate.rows_at(proc, address);
         let id = self.likely_row(rows.start, rows.end, &arrival, state)?;
-        if self.has_no_facts(id) {
+        if self.is_plain(id) {
             Some(id)
         } else {
             None
         }
     }
 
-    /// Whether there is a row with this number, and it has no facts.
-    fn has_no_facts(&self, id: RowId) -> bool
-        ensures { IsTrue result → IfSome (slice_get self.now.rows id) (λ row. row.facts ≡ []) }
+    /// Whether there is a row with this number, and it has no facts and no flag parts.
+    fn is_plain(&self, id: RowId) -> bool
+        ensures { IsTrue result
+            → IfSome (slice_get self.now.rows id) (λ row. (row.facts ≡ []) × (row.parts ≡ [])) }
     {
         match self.certificate.row(id) {
-            Some(row) => row.facts.as_slice().is_empty(),
+            Some(row) => is_plain(&row),
             None => false,
         }
     }

@@ -9,7 +9,7 @@ mod knowing;
 mod program;
 mod rows;
 
-pub use arrival::Arrival;
+pub use arrival::{Arrival, Refinement};
 pub use covering::Coverer;
 pub use index::many_from;
 pub use program::{Callee, callee_at, is_inline, split_at};
