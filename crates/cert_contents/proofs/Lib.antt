@@ -1,6 +1,7 @@
 pub mod BoundsLemmas
 pub mod LastLemmas
 pub mod LineLemmas
+pub mod FlagPartsLemmas
 pub mod MigratingLemmas
 pub mod NextLemmas
 pub mod PartsLemmas

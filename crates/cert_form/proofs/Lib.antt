@@ -15,5 +15,6 @@ pub mod Told
 pub mod TooMany
 pub mod Whole
 pub mod WholeTexts
+pub mod MappedLemmas
 pub mod RowLemmas
 pub mod ShapeLemmas
