@@ -9,7 +9,7 @@ use Rattle.cert_lines.specs.declared.version.Version.TheVariants.{One, Two, Thre
 use Rattle.cert_flags.proofs.FactPartsLaws.{told_few, told_form}
 use Rattle.cert_form.specs.Contents.{CertificateView}
 use Rattle.cert_form.specs.Form.{IsInForm, IsRowOf, place_number}
-use Rattle.cert_form.specs.Migrated.{with_flag_parts, with_parts}
+use Rattle.cert_form.specs.Migrated.{row_with_parts, with_flag_parts}
 use Rattle.cert_form.proofs.Lists.{all_map}
 use Rattle.cert_form.proofs.MappedLemmas.{follow_map}
 
@@ -19,8 +19,8 @@ armed_word One armed none = omega (arith, none)
 armed_word Two armed word = word
 armed_word Three armed word = word
 
-row_with_parts : (v : Version) (row : Row) → IsRow v row → IsRow Three (with_parts row)
-row_with_parts v row form = record {
+row_form_with_parts : (v : Version) (row : Row) → IsRow v row → IsRow Three (row_with_parts row)
+row_form_with_parts v row form = record {
   place = record { proc = form.place.proc; address = form.place.address; armed = armed_word v row.state.armed form.place.armed };
   pairs = form.pairs;
   flags = told_form (flag_form v) (length row.state.shape) row.state.flag row.parts form.flags;
@@ -31,10 +31,10 @@ row_with_parts v row form = record {
   potential = form.potential;
 }
 
-row_of_with_parts : (v : Version) (procs cells : ℕ) (row : Row) → IsRowOf v procs cells row → IsRowOf Three procs cells (with_parts row)
-row_of_with_parts v procs cells row is = record { form = row_with_parts v row is.form; proc = is.proc; armed = is.armed }
+row_of_with_parts : (v : Version) (procs cells : ℕ) (row : Row) → IsRowOf v procs cells row → IsRowOf Three procs cells (row_with_parts row)
+row_of_with_parts v procs cells row is = record { form = row_form_with_parts v row is.form; proc = is.proc; armed = is.armed }
 
-short_with_parts : (row : Row) → IsShortRow row → IsShortRow (with_parts row)
+short_with_parts : (row : Row) → IsShortRow row → IsShortRow (row_with_parts row)
 short_with_parts row short = record {
   shape = short.shape;
   parts = told_few row.state.flag row.parts short.parts;
@@ -60,9 +60,9 @@ form_with_parts c form =
         inlines = whole.inlines;
         cells = whole.cells;
         rows = record {
-          each = all_map (IsRowOf c.version procs cells) (IsRowOf Three procs cells) with_parts (row_of_with_parts c.version procs cells) c.rows whole.rows.each;
+          each = all_map (IsRowOf c.version procs cells) (IsRowOf Three procs cells) row_with_parts (row_of_with_parts c.version procs cells) c.rows whole.rows.each;
           rising = follow_map (λ (a b : Row). place_number a.proc a.address ≤ place_number b.proc b.address)
-          (λ (a b : Row). place_number a.proc a.address ≤ place_number b.proc b.address) with_parts (λ x y below. below) c.rows whole.rows.rising;
+              (λ (a b : Row). place_number a.proc a.address ≤ place_number b.proc b.address) row_with_parts (λ x y below. below) c.rows whole.rows.rising;
         };
       };
       limits = record {
@@ -70,13 +70,13 @@ form_with_parts c form =
         splits = limits.splits;
         inlines = limits.inlines;
         cells = limits.cells;
-        rows = omega (arith, limits.rows, length-map c.rows with_parts);
-        short = all_map IsShortRow IsShortRow with_parts short_with_parts c.rows limits.short;
+        rows = omega (arith, limits.rows, length-map c.rows row_with_parts);
+        short = all_map IsShortRow IsShortRow row_with_parts short_with_parts c.rows limits.short;
       };
     }
 
 -- the same for what a draft says, with the rows that a call gave
-pub told_in_form : (said c : CertificateView) (rows : List Row) → said ≡ c → rows ≡ map with_parts said.rows → IsInForm c →
+pub told_in_form : (said c : CertificateView) (rows : List Row) → said ≡ c → rows ≡ map row_with_parts said.rows → IsInForm c →
     IsInForm (record said { version = Three; rows = rows })
 told_in_form said c rows same are form =
     subst (λ (rs : List Row). IsInForm (record said { version = Three; rows = rs })) (sym are)

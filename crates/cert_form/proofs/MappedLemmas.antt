@@ -1,7 +1,7 @@
 -- Lists in which the first elements, or all, are changed.
 use Rattle.std.proofs.Common.{◌≡◌, ◌<◌, ◌≤◌, ℕ, zero, suc, List, [], ◌∷◌, length, map, get_or, set, refl, ap, ◌∙◌, arith}
 use Rattle.cert_form.specs.Form.{Follow}
-use Rattle.cert_form.specs.Migrated.{with_parts}
+use Rattle.cert_form.specs.Migrated.{row_with_parts}
 use Rattle.cert_form.specs.Rows.{HaveShapes, numbered_with_parts, with_its_shape}
 use Rattle.cert_form.specs.declared.rows.NumberedRow.{NumberedRow}
 use Rattle.cert_form.proofs.Lists.{same_cons}
@@ -50,6 +50,6 @@ numbered_mapped shapes (row ∷ rows) are = (are.0, numbered_mapped shapes rows 
 
 -- and say the same with their shapes
 pub rows_mapped : (shapes : List (List Slot)) (rows : List NumberedRow) →
-    map (with_its_shape shapes) (map numbered_with_parts rows) ≡ map with_parts (map (with_its_shape shapes) rows)
+    map (with_its_shape shapes) (map numbered_with_parts rows) ≡ map row_with_parts (map (with_its_shape shapes) rows)
 rows_mapped shapes [] = refl
 rows_mapped shapes (row ∷ rows) = same_cons _ _ _ _ refl (rows_mapped shapes rows)

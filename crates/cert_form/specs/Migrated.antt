@@ -40,12 +40,15 @@ migrated c = record c {
 }
 
 -- a row with flag parts in place of its flag fact
-abbrev pub with_parts : Row → Row
-with_parts row = record row { state = record (row.state) { flag = None }; parts = told_by_parts row.state.flag row.parts }
+abbrev pub row_with_parts : Row → Row
+row_with_parts row = record row {
+  state = record (row.state) { flag = None };
+  parts = told_by_parts row.state.flag row.parts;
+}
 
 -- a certificate in version 3, with flag parts in place of its flag facts
 abbrev pub with_flag_parts : CertificateView → CertificateView
-with_flag_parts c = record c { version = Three; rows = map with_parts c.rows }
+with_flag_parts c = record c { version = Three; rows = map row_with_parts c.rows }
 
 -- a certificate in this version; as it is, if its own is later
 abbrev pub migrated_to : Version → CertificateView → CertificateView

@@ -3,7 +3,7 @@
 ghost use Rattle.std.specs.Prelude.{◌≡◌, ◌<◌, ◌≤◌, ◌∷◌, [], ◌++◌, ℕ, List, Some, MatchOption, OnOk, OnErr, length, map, slice_get};
 ghost use Rattle.cert_lines.specs.declared.row.Row.{Row};
 ghost use Rattle.cert_form.specs.Form.{RisePlaces, place_number};
-ghost use Rattle.cert_form.specs.Migrated.{with_parts};
+ghost use Rattle.cert_form.specs.Migrated.{row_with_parts};
 ghost use Rattle.cert_form.specs.Rows.{changed_at, numbered_with_parts, row_with_shape, with_potential};
 
 use crate::shapes::Shapes;
@@ -154,7 +154,7 @@ impl Rows {
 
     /// Says by flag parts what each row said by a flag fact. No memory is taken.
     pub fn use_flag_parts(&mut self)
-        ensures { self.new ≡ map with_parts self.old }
+        ensures { self.new ≡ map row_with_parts self.old }
     {
         use_flag_parts(self.rows.as_mut_slice());
     }
