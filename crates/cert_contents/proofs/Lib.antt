@@ -1,10 +1,7 @@
 pub mod BoundsLemmas
-pub mod LastLemmas
 pub mod LineLemmas
+pub mod FlagPartsLemmas
 pub mod MigratingLemmas
-pub mod NextLemmas
 pub mod PartsLemmas
 pub mod PlaceLemmas
-pub mod ProcLemmas
-pub mod RowPlaces
 pub mod BoardLemmas

@@ -10,7 +10,7 @@ use Rattle.cert_form.specs.Reader.{ReaderView, IsProgress, MayFollow, MayStandAt
 use Rattle.cert_form.specs.declared.fault.CertFault.{CertFault}
 use Rattle.cert_form.specs.declared.fault.CertFault.TheVariants as faults
 use Rattle.cert_form.proofs.Told.{told}
-use Rattle.cert_contents.proofs.RowPlaces.{row_follows, row_stands}
+use Rattle.cert_form.proofs.RowPlaces.{row_follows, row_stands}
 use Rattle.texts.specs.Fields.{fields_in}
 
 -- two lines with the same fields are equal

@@ -1,5 +1,5 @@
 // A certificate's value (docs/CERTIFICATE.md): its fields, how it is made of lines or of parts, the bounds that can be
-// set, and migration to version 2.
+// set, and migration to a later version.
 #![tactic(auto)]
 
 mod bounds;
@@ -11,7 +11,7 @@ mod reader;
 mod taking;
 mod value;
 
-pub use migrating::migrate;
+pub use migrating::{migrate, migrate_to};
 pub use parts::Parts;
 pub use reader::Reader;
 pub use value::{Certificate, RowId};

@@ -1,12 +1,10 @@
 // How a reader takes each kind of line: whether it may come next, whether there is room for it, and what it says.
 
-ghost use Rattle.std.specs.Prelude.{◌≡◌, ◌<◌, ◌≤◌, ◌∷◌, [], ◌++◌, ◌↔◌, ℕ, IsTrue, OnErr, Some, length, slice_get};
+ghost use Rattle.std.specs.Prelude.{◌≡◌, ◌↔◌, IsTrue, OnErr, length};
 ghost use Rattle.cert_lines.specs.Row.{IsRow, IsShortRow};
 ghost use Rattle.cert_lines.specs.declared.line.Line.{Line};
-ghost use Rattle.cert_lines.specs.declared.row.Row.{Row};
-ghost use Rattle.cert_form.specs.Form.{AreCells, AreInlines, AreSplits, MayArm, RisePlaces, place_number};
-ghost use Rattle.cert_fields.specs.Pair.{IsRange};
-ghost use Rattle.cert_form.specs.Reader.{AreFirstProcs, IsOpenTo, MayFollow, MayStandAt, TakesLine, TellsCrowded, stage_rank};
+ghost use Rattle.cert_form.specs.Form.{MayArm};
+ghost use Rattle.cert_form.specs.Reader.{IsOpenTo, MayFollow, MayStandAt, TakesLine, TellsCrowded, stage_rank};
 
 use crate::reader::Reader;
 use abs_state::{KeptCell, Mode};
@@ -14,10 +12,11 @@ use address_map::Region;
 use cert_fields::{are_facts, is_linear, is_shape};
 use cert_flags::are_parts;
 use cert_form::{
-    CELL_LIMIT, CertFault, INLINE_LIMIT, PROC_LIMIT, ROW_LIMIT, Rows, SPLIT_LIMIT, Stage,
-    place_number,
+    CELL_LIMIT, CertFault, INLINE_LIMIT, PROC_LIMIT, ROW_LIMIT, SPLIT_LIMIT, Stage,
+    cell_may_follow, inline_may_follow, is_cell, place_may_follow, proc_may_follow,
+    split_may_follow,
 };
-use cert_lines::{BoardMap, Proc, ProcKind, Row, RowPlace, Split, Version};
+use cert_lines::{BoardMap, Proc, Row, RowPlace, Split, Version};
 
 impl Reader {
     /// Whether a line of the list of this stage may come: the procedures are complete, and no line of a later stage was
@@ -217,7 +216,8 @@ impl Reader {
         Ok(())
     }
 
-    /// The fault of a row with too many slots, flag parts, facts or terms: `Limit` if a row may have its place, else a bad line.
+    /// The fault of a row with too many slots, flag parts, facts or terms: `Limit` if a row may have its place, else a
+    /// bad line.
     pub(crate) fn crowded(&self, place: RowPlace) -> CertFault
         ensures { TellsCrowded self.now place result }
     {
@@ -237,90 +237,6 @@ impl Reader {
         }
         self.stage = Stage::Nothing;
         Ok(())
-    }
-}
-
-/// Whether a procedure may come after these: main first, then the NMI routine if there is a budget, then called ones by
-/// rising entry.
-fn proc_may_follow(procs: &[Proc], budget: Option<u16>, proc: Proc) -> bool
-    requires { AreFirstProcs budget procs.now }
-    ensures { IsTrue result ↔ AreFirstProcs budget (procs.now ++ proc ∷ []) }
-{
-    match procs.last() {
-        None => proc.kind == ProcKind::Main,
-        Some(_) if procs.len() == 1 && budget.is_some() => proc.kind == ProcKind::Nmi,
-        Some(last) => is_called_behind(*last, proc),
-    }
-}
-
-/// Whether a procedure is a called one, with a higher entry than the last one if that is called too.
-fn is_called_behind(last: Proc, proc: Proc) -> bool
-    ensures { IsTrue result
-        ↔ ((proc.kind ≡ ProcKind.Sub) × (last.kind ≡ ProcKind.Sub → last.entry < proc.entry)) }
-{
-    proc.kind == ProcKind::Sub && (last.kind != ProcKind::Sub || last.entry < proc.entry)
-}
-
-/// Whether a split may come after these, in a certificate of `procs` procedures: it is of one of them, and its place is
-/// above the last one's.
-fn split_may_follow(splits: &[Split], procs: usize, split: Split) -> bool
-    requires { AreSplits procs splits.now }
-    ensures { IsTrue result ↔ AreSplits procs (splits.now ++ split ∷ []) }
-{
-    if usize::from(split.proc) >= procs {
-        return false;
-    }
-    let number = place_number(split.proc, split.address);
-    match splits.last() {
-        Some(last) => place_number(last.proc, last.address) < number,
-        None => true,
-    }
-}
-
-/// Whether the address of an inline call may come after these: it is above the last one.
-fn inline_may_follow(inlines: &[u16], address: u16) -> bool
-    requires { AreInlines inlines.now }
-    ensures { IsTrue result ↔ AreInlines (inlines.now ++ address ∷ []) }
-{
-    match inlines.last() {
-        Some(last) => *last < address,
-        None => true,
-    }
-}
-
-/// Whether a cell may come after these: it is in the first 400h addresses of work RAM, and above the last one.
-fn cell_may_follow(cells: &[KeptCell], board: BoardMap, cell: &KeptCell) -> bool
-    requires { AreCells board cells.now }
-    ensures { IsTrue result ↔ AreCells board (cells.now ++ cell.now ∷ []) }
-{
-    is_cell(cell);
-    if !board.is_in_work(cell.at) {
-        return false;
-    }
-    match cells.last() {
-        Some(last) => last.at < cell.at,
-        None => true,
-    }
-}
-
-/// A law: by its type, a cell has a range of bytes.
-fn is_cell(cell: &KeptCell)
-    ensures { IsRange 255 cell.now.range }
-{
-    let _low = cell.range.low();
-}
-
-/// Whether a row at this place may come after these rows: it is not before the last one.
-fn place_may_follow(rows: &Rows, place: RowPlace) -> bool
-    requires { RisePlaces rows.now }
-    ensures { IsTrue result
-        ↔ ((i : ℕ) (row : Row) → slice_get rows.now i ≡ Some row
-        → place_number row.proc row.address ≤ place_number place.proc place.address) }
-{
-    let number = place_number(place.proc, place.address);
-    match rows.last_place() {
-        Some((proc, address)) => place_number(proc, address) <= number,
-        None => true,
     }
 }
 

@@ -2,3 +2,4 @@
 pub mod PartLemmas
 pub mod PartsLemmas
 pub mod FlagsLaws
+pub mod FactPartsLaws

@@ -2,6 +2,7 @@
 // how it is spelled (docs/CERTIFICATE.md, "Rows" and "Flag parts").
 #![tactic(auto)]
 
+mod fact_parts;
 mod flags;
 mod form;
 mod letter;
@@ -9,6 +10,7 @@ mod parts;
 mod parts_values;
 mod spelling;
 
+pub use fact_parts::parts_of_fact;
 pub use flags::{RowFlags, flags_are_in_form, flags_field};
 pub use form::FlagForm;
 pub use parts::parts_field;

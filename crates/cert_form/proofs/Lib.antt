@@ -15,5 +15,10 @@ pub mod Told
 pub mod TooMany
 pub mod Whole
 pub mod WholeTexts
+pub mod MappedLemmas
 pub mod RowLemmas
 pub mod ShapeLemmas
+pub mod LastLemmas
+pub mod NextLemmas
+pub mod ProcLemmas
+pub mod RowPlaces

@@ -1,6 +1,7 @@
 -- Rows whose shapes are stored by number, and a row with another potential.
-use Rattle.std.specs.Prelude.{ℕ, zero, suc, ◌<◌, List, [], ◌∷◌, Some, length, slice_index_or}
+use Rattle.std.specs.Prelude.{ℕ, zero, suc, ◌<◌, List, [], ◌∷◌, Some, None, length, slice_index_or}
 use Rattle.std.specs.List.{AllByRecursion}
+use Rattle.cert_flags.specs.FactParts.{told_by_parts}
 use Rattle.cert_lines.specs.declared.row.Row.{Row}
 use Rattle.cert_form.specs.declared.rows.NumberedRow.{NumberedRow}
 use Rattle.loop_bounds.specs.Linear.{LinearView}
@@ -34,3 +35,7 @@ changed_at change (suc number) (x ∷ xs) = x ∷ changed_at change number xs
 -- a row with this potential
 abbrev pub with_potential : LinearView → Row → Row
 with_potential potential row = record row { potential = Some potential }
+
+-- a row with flag parts in place of its flag fact
+abbrev pub numbered_with_parts : NumberedRow → NumberedRow
+numbered_with_parts row = record row { flag = None; parts = told_by_parts row.flag row.parts }

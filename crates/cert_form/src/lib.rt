@@ -3,6 +3,7 @@
 #![tactic(auto)]
 
 mod fault;
+mod following;
 mod laws;
 mod limits;
 mod migrated;
@@ -11,6 +12,10 @@ mod shapes;
 mod stage;
 
 pub use fault::CertFault;
+pub use following::{
+    cell_may_follow, inline_may_follow, is_cell, place_may_follow, proc_may_follow,
+    split_may_follow,
+};
 pub use laws::{lines_read_begin_a_certificate, other_lines_begin_none, texts_tell_certificates};
 pub use limits::{
     CELL_LIMIT, INLINE_LIMIT, PROC_LIMIT, ROW_LIMIT, SPLIT_LIMIT, limits_of_a_certificate,

@@ -5,7 +5,7 @@ ghost use Rattle.cert_form.specs.Migrated.{migrated_version};
 
 use cert_lines::Version;
 
-/// Version 2 for version 1, and a later version itself (docs/CERTIFICATE.md, "From version 1 to version 2").
+/// Version 2 for version 1, and a later version itself (docs/CERTIFICATE.md, "To version 2").
 pub fn migrated_version(version: Version) -> Version
     ensures { result ≡ migrated_version version }
 {

@@ -1,14 +1,16 @@
 // The rows of a certificate. Shapes are stored by number.
 
-ghost use Rattle.std.specs.Prelude.{◌≡◌, ◌<◌, ◌≤◌, ◌∷◌, [], ◌++◌, ℕ, List, Some, MatchOption, OnOk, OnErr, length, slice_get};
+ghost use Rattle.std.specs.Prelude.{◌≡◌, ◌<◌, ◌≤◌, ◌∷◌, [], ◌++◌, ℕ, List, Some, MatchOption, OnOk, OnErr, length, map, slice_get};
 ghost use Rattle.cert_lines.specs.declared.row.Row.{Row};
 ghost use Rattle.cert_form.specs.Form.{RisePlaces, place_number};
-ghost use Rattle.cert_form.specs.Rows.{changed_at, row_with_shape, with_potential};
+ghost use Rattle.cert_form.specs.Migrated.{row_with_parts};
+ghost use Rattle.cert_form.specs.Rows.{changed_at, numbered_with_parts, row_with_shape, with_potential};
 
 use crate::shapes::Shapes;
 use abs_state::{AbsState, FlagFact, Mode, Pairs};
 use call_graph::ProcId;
 use cert_fields::Facts;
+use cert_flags::parts_of_fact;
 use cert_lines::{Row, RowRef};
 use flag_letters::FlagParts;
 use loop_bounds::Linear;
@@ -48,6 +50,25 @@ impl NumberedRow {
             shape,
             potential: self.potential,
         }
+    }
+
+    /// Says by flag parts what the row said by a flag fact.
+    fn use_flag_parts(&mut self)
+        ensures { self.new ≡ numbered_with_parts self.old }
+    {
+        if let Some(fact) = self.flag {
+            self.parts = parts_of_fact(fact);
+            self.flag = None;
+        }
+    }
+}
+
+/// Says by flag parts what each row said by a flag fact.
+fn use_flag_parts(rows: &mut [NumberedRow])
+    ensures { rows.new ≡ map numbered_with_parts rows.old }
+{
+    for row in rows.iter_mut() {
+        row.use_flag_parts();
     }
 }
 
@@ -129,6 +150,13 @@ impl Rows {
         if number < self.rows.len() {
             self.rows[number].potential = Some(potential);
         }
+    }
+
+    /// Says by flag parts what each row said by a flag fact. No memory is taken.
+    pub fn use_flag_parts(&mut self)
+        ensures { self.new ≡ map row_with_parts self.old }
+    {
+        use_flag_parts(self.rows.as_mut_slice());
     }
 
     /// The row with this number, borrowed; None if there is none.

@@ -1,6 +1,5 @@
 -- The names of versions and of boards in a certificate's text, and what each version has (docs/CERTIFICATE.md).
 use Rattle.std.specs.Prelude.{ℕ, List, codes, Bool, true, false}
-use Rattle.address_map.specs.Boards.{galaxian, raised}
 use Rattle.cert_lines.specs.declared.version.BoardMap.{BoardMap}
 use Rattle.cert_lines.specs.declared.version.BoardMap.TheVariants.{Galaxian, Raised}
 use Rattle.cert_lines.specs.declared.version.Version.{Version}

@@ -27,7 +27,8 @@ use texts::{Fields, decimal_between, decimal_field, hex2_field, hex4_field};
 #[derive(Drop)]
 pub enum ReadLine {
     Whole(Line),
-    /// A row that is out of form only because it has too many slots, flag parts, facts or terms; only its place is given.
+    /// A row that is out of form only because it has too many slots, flag parts, facts or terms; only its place is
+    /// given.
     Crowded(RowPlace),
 }
 
@@ -247,7 +248,8 @@ fn cell_fields(mut fields: Fields) -> Option<KeptCell>
 
 impl Line {
     /// The line of this version with this text, which is given without its line feed; None if no line has the text. For
-    /// a row that is out of form only because it has too many slots, flag parts, facts or terms, only its place is given.
+    /// a row that is out of form only because it has too many slots, flag parts, facts or terms, only its place is
+    /// given.
     #[tactic(auto, unfolding(crate::specs::Line::fields_of))]
     pub fn of(version: Version, text: &[u8]) -> Option<ReadLine>
         ensures { ReadsLine version (fields_in text.now) result }

@@ -25,7 +25,8 @@ const SLOT_BOUND: usize = 1_048_576;
 #[derive(Drop)]
 pub enum ReadRow {
     Whole(Row),
-    /// A row that is out of form only because it has too many slots, flag parts, facts or terms; only its place is given.
+    /// A row that is out of form only because it has too many slots, flag parts, facts or terms; only its place is
+    /// given.
     Crowded(RowPlace),
 }
 

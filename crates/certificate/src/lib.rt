@@ -6,7 +6,7 @@ mod reading;
 mod writing;
 
 pub use abs_state::Mode;
-pub use cert_contents::{Certificate, Parts, RowId, migrate};
+pub use cert_contents::{Certificate, Parts, RowId, migrate, migrate_to};
 pub use cert_form::CertFault;
 pub use cert_lines::{BoardMap, Proc, ProcKind, Row, RowRef, Split, Version};
 pub use pieces::{ReadFault, read_from};

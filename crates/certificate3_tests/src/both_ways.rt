@@ -1,7 +1,11 @@
 // Texts that are read, whole and in pieces, and written again.
 
+use crate::programs::{
+    BIT_7, COPIES, COUNTED_DOWN, COUNTED_UP, DIFFERENCE, FILL, MASKED, NESTED, OBJECTS, RESTART,
+    SPLIT_COPIES, TABLE, TENS,
+};
 use crate::samples::{COUNTED, EVERY_PART, JUMP, POINTER, WHOLE};
-use certificate::{Certificate, migrate, read, read_from, write};
+use certificate::{Certificate, read, read_from, write};
 use memory_devices::{Bytes, Taken};
 use std::alloc::Global;
 
@@ -16,6 +20,19 @@ const WRITTEN: &[(&str, usize, usize)] = &[
     (EVERY_PART, WHOLE, 4096),
     (EVERY_PART, 1, 4096),
     (EVERY_PART, 64, 3),
+    (FILL, WHOLE, 4096),
+    (NESTED, WHOLE, 4096),
+    (TABLE, WHOLE, 4096),
+    (COUNTED_UP, WHOLE, 4096),
+    (TENS, WHOLE, 4096),
+    (MASKED, WHOLE, 4096),
+    (RESTART, WHOLE, 4096),
+    (COPIES, WHOLE, 4096),
+    (SPLIT_COPIES, WHOLE, 4096),
+    (COUNTED_DOWN, WHOLE, 4096),
+    (DIFFERENCE, WHOLE, 4096),
+    (OBJECTS, WHOLE, 4096),
+    (BIT_7, WHOLE, 4096),
 ];
 
 /// The certificate of a text, read whole or in pieces of this many bytes.
@@ -42,14 +59,4 @@ fn written(rt: HostRuntime) {
         };
         assert!(rt; is_written, "in {piece} and {taken}, of {text}");
     }
-}
-
-/// A certificate of version 3 stays as it is.
-#[test]
-fn migrated(rt: HostRuntime) {
-    let is_written = match read(rt.alloc(), EVERY_PART.as_bytes()) {
-        Ok(own) => is_written_as(rt.alloc(), &migrate(own), 4096, EVERY_PART),
-        Err(_) => false,
-    };
-    assert!(rt; is_written);
 }

@@ -7,18 +7,18 @@ use std::alloc::{AllocError, Global};
 use std::test::Fail;
 
 /// The first lines of a text of each version; a row is line 6, 7 and 7.
-const ONE: &str = "galcert 1\nrom 6\nstack 4380 4400\nbudget -\nproc main 0000 0 0 -\n";
+pub const ONE: &str = "galcert 1\nrom 6\nstack 4380 4400\nbudget -\nproc main 0000 0 0 -\n";
 
-const TWO: &str =
+pub const TWO: &str =
     "galcert 2\nrom 6\nmap galaxian\nstack 4380 4400\nbudget -\nproc main 0000 0 0 -\n";
 
-const THREE: &str =
+pub const THREE: &str =
     "galcert 3\nrom 6\nmap galaxian\nstack 4380 4400\nbudget -\nproc main 0000 0 0 -\n";
 
 /// The fields of a row at 0003 up to its FLAG field, in version 1 and later.
-const OLD: &str = "row 0 0003 s * * * * * * * * * * ";
+pub const OLD: &str = "row 0 0003 s * * * * * * * * * * ";
 
-const NEW: &str = "row 0 0003 s 0 * * * * * * * * * * ";
+pub const NEW: &str = "row 0 0003 s 0 * * * * * * * * * * ";
 
 /// A row in mode `u`, where no row may have slots.
 const UNSET: &str = "row 0 0003 u 0 * * * * * * * * * * ";

@@ -1,4 +1,5 @@
-// The tests of certificates of version 3: their texts both ways, their flag parts, and what is refused.
+// The tests of certificates of version 3: their texts both ways, their flag parts, what is refused,
+// and migration.
 #![tactic(auto)]
 
 #[cfg(test)]
@@ -7,6 +8,12 @@ mod both_ways;
 mod flag_fields;
 #[cfg(test)]
 mod made;
+#[cfg(test)]
+mod migrated;
+#[cfg(test)]
+mod programs;
+#[cfg(test)]
+mod refused;
 #[cfg(test)]
 mod samples;
 #[cfg(test)]

@@ -16,8 +16,8 @@ use std::alloc::{AllocError, Global};
 use std::test::Fail;
 use z80_decode::Register8;
 
-/// What a row says of the flags: nothing, a flag fact (Z by L), flag parts (C by A - 64, so many times), or that Z tells
-/// whether the slot with this number is 0.
+/// What a row says of the flags: nothing, a flag fact (Z by L), flag parts (C by A - 64, so many times), or that Z
+/// tells whether the slot with this number is 0.
 #[derive(Clone, Copy)]
 enum Said {
     Nothing,

@@ -1,5 +1,9 @@
 // What the rows of a text say of the flags, by the accessors.
 
+use crate::programs::{
+    BIT_7, COPIES, COUNTED_DOWN, COUNTED_UP, DIFFERENCE, FILL, MASKED, NESTED, OBJECTS, RESTART,
+    SPLIT_COPIES, TABLE, TENS,
+};
 use crate::samples::{COUNTED, EVERY_PART, POINTER};
 use certificate::{Certificate, Version, read};
 use flag_letters::{FlagPart, Letter};
@@ -10,6 +14,8 @@ use std::test::Fail;
 #[derive(Clone, Copy)]
 enum Counted {
     A,
+    C,
+    H,
     L,
     Bc,
     Iy,
@@ -78,11 +84,64 @@ const TOLD: &[(&str, u32, &[Told])] = &[
         ],
     ),
     (EVERY_PART, 3, &[]),
+    (
+        FILL,
+        5,
+        &[
+            (Letter::Zero, -68, &[(1, Counted::A)]),
+            (Letter::Zero, -68, &[(1, Counted::H)]),
+        ],
+    ),
+    (NESTED, 10, &[(Letter::Zero, 0, &[(1, Counted::C)])]),
+    (
+        TABLE,
+        9,
+        &[(
+            Letter::CarryIfBelow,
+            0,
+            &[(1, Counted::A), (-1, Counted::L)],
+        )],
+    ),
+    (
+        TABLE,
+        11,
+        &[(Letter::CarryIfBelow, -23, &[(1, Counted::L)])],
+    ),
+    (
+        COUNTED_UP,
+        8,
+        &[
+            (Letter::Zero, -8, &[(1, Counted::A)]),
+            (Letter::Zero, -8, &[(1, Counted::C)]),
+        ],
+    ),
+    (TENS, 7, &[(Letter::CarryIfBelow, -10, &[(1, Counted::A)])]),
+    (MASKED, 0, &[]),
+    (RESTART, 6, &[(Letter::Zero, 0, &[(1, Counted::A)])]),
+    (COPIES, 1, &[]),
+    (SPLIT_COPIES, 1, &[]),
+    (
+        COUNTED_DOWN,
+        8,
+        &[
+            (Letter::Zero, 0, &[(1, Counted::A)]),
+            (Letter::Zero, 0, &[(1, Counted::C)]),
+        ],
+    ),
+    (
+        DIFFERENCE,
+        5,
+        &[(Letter::CarryIfBelow, 1, &[(-1, Counted::C)])],
+    ),
+    (OBJECTS, 9, &[(Letter::Zero, 0, &[(1, Counted::C)])]),
+    (BIT_7, 5, &[(Letter::ZeroIfBelow, -128, &[(1, Counted::A)])]),
 ];
 
 fn variable_of(counted: Counted) -> Option<Variable> {
     match counted {
         Counted::A => Some(Variable::A),
+        Counted::C => Some(Variable::C),
+        Counted::H => Some(Variable::H),
         Counted::L => Some(Variable::L),
         Counted::Bc => Some(Variable::Bc),
         Counted::Iy => Some(Variable::Iy),

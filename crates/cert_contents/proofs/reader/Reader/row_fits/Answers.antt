@@ -1,7 +1,7 @@
 use Rattle.std.proofs.Common.{subst, rules}
 use Rattle.cert_lines.specs.Row.{IsRow, place_of}
 use Rattle.cert_form.specs.Reader.{IsProgress, MayStandAt}
-use Rattle.cert_contents.proofs.RowPlaces.{row_follows, row_stands}
+use Rattle.cert_form.proofs.RowPlaces.{row_follows, row_stands}
 use Rattle.cert_contents.proofs.reader.Reader.row_fits.Goals as goal
 
 pub returns-then-row_may_follow : goal.returns-then-row_may_follow

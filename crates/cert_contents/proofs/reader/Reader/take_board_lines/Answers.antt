@@ -19,4 +19,4 @@ returns-in-Galaxian c =
 pub returns-in-Raised : goal.returns-in-Raised
 returns-in-Raised c =
     rw (raised_board_line c.args.version c.args.board c.in-Raised.is)
-    (takes_one (Unit {0}) c.args.self.now c.take-2.new.self (lines.Board c.args.board) c.take-2.result c.requires c.take-2.ensures.line)
+    (takes_one (Unit {0}) c.args.self.now c.take-in-Raised.new.self (lines.Board c.args.board) c.take-in-Raised.result c.requires c.take-in-Raised.ensures.line)

@@ -1,7 +1,7 @@
 use Rattle.std.proofs.Common.{◌≡◌, length, None, sym, rules, arith}
-use Rattle.cert_contents.proofs.ProcLemmas.{called_stands}
-use Rattle.cert_contents.proofs.taking.proc_may_follow.Goals as goal
-use Rattle.cert_contents.proofs.taking.proc_may_follow.Goals.{then-procs-eq1+else-is_some, else-procs-eq1}
+use Rattle.cert_form.proofs.ProcLemmas.{called_stands}
+use Rattle.cert_form.proofs.following.proc_may_follow.Goals as goal
+use Rattle.cert_form.proofs.following.proc_may_follow.Goals.{then-procs-eq1+else-is_some, else-procs-eq1}
 
 pub returns-in-Some-2 : goal.returns-in-Some-2
 returns-in-Some-2 c =

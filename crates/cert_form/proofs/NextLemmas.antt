@@ -5,7 +5,7 @@ use Rattle.cert_lines.specs.declared.split.Split.{Split}
 use Rattle.cert_lines.specs.declared.version.BoardMap.{BoardMap}
 use Rattle.cert_form.specs.Form.{AreCells, AreInlines, AreSplits, IsCell, IsSplit, place_number}
 use Rattle.cert_form.proofs.Lists.{all_push}
-use Rattle.cert_contents.proofs.LastLemmas.{stands_behind}
+use Rattle.cert_form.proofs.LastLemmas.{stands_behind}
 use Rattle.texts.specs.Numbers.{IsWord}
 
 abbrev split_place_number : Split → ℕ

@@ -1,7 +1,7 @@
 use Rattle.std.proofs.Common.{sym, rules, tests}
 use Rattle.cert_form.specs.Form.{IsSplit}
-use Rattle.cert_contents.proofs.NextLemmas.{split_stands}
-use Rattle.cert_contents.proofs.taking.split_may_follow.Goals as goal
+use Rattle.cert_form.proofs.NextLemmas.{split_stands}
+use Rattle.cert_form.proofs.following.split_may_follow.Goals as goal
 
 pub returns-in-Some : goal.returns-in-Some
 returns-in-Some c =

@@ -5,7 +5,7 @@ use Rattle.cert_lines.specs.declared.proc.ProcKind.TheVariants.{Sub}
 use Rattle.cert_form.specs.Form.{AreSubs}
 use Rattle.cert_form.specs.Reader.{AreFirstProcs}
 use Rattle.cert_form.proofs.Lists.{all_at, all_push}
-use Rattle.cert_contents.proofs.LastLemmas.{follow_push, split_last, stands_to_last}
+use Rattle.cert_form.proofs.LastLemmas.{follow_push, split_last, stands_to_last}
 
 -- a procedure is a called one, with a higher entry than the last one if that is called too
 abbrev pub IsCalledBehind : Proc → Proc → Type 0

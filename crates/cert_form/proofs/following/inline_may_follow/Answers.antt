@@ -1,6 +1,6 @@
 use Rattle.std.proofs.Common.{sym, rules, tests}
-use Rattle.cert_contents.proofs.NextLemmas.{inline_stands}
-use Rattle.cert_contents.proofs.taking.inline_may_follow.Goals as goal
+use Rattle.cert_form.proofs.NextLemmas.{inline_stands}
+use Rattle.cert_form.proofs.following.inline_may_follow.Goals as goal
 
 pub returns-in-Some : goal.returns-in-Some
 returns-in-Some c =

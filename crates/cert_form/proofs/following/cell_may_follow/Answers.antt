@@ -1,7 +1,7 @@
 use Rattle.std.proofs.Common.{sym, rules, tests}
 use Rattle.cert_form.specs.Form.{IsCell}
-use Rattle.cert_contents.proofs.NextLemmas.{cell_stands}
-use Rattle.cert_contents.proofs.taking.cell_may_follow.Goals as goal
+use Rattle.cert_form.proofs.NextLemmas.{cell_stands}
+use Rattle.cert_form.proofs.following.cell_may_follow.Goals as goal
 
 pub returns-in-Some : goal.returns-in-Some
 returns-in-Some c =

@@ -6,7 +6,7 @@ use Rattle.cert_lines.specs.declared.row.Row.{Row}
 use Rattle.cert_form.specs.Form.{IsRowOf, place_number}
 use Rattle.cert_form.specs.Reader.{ReaderView, IsProgress, MayFollow, MayStandAt}
 use Rattle.cert_form.proofs.Lists.{all_at, all_push}
-use Rattle.cert_contents.proofs.LastLemmas.{follow_all, get_in_front, none_above}
+use Rattle.cert_form.proofs.LastLemmas.{follow_all, get_in_front, none_above}
 
 abbrev pub row_place_number : Row → ℕ
 row_place_number row = place_number row.proc row.address

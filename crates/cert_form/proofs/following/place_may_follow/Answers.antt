@@ -1,8 +1,8 @@
 use Rattle.std.proofs.Common.{◌≡◌, ap, ◌∙◌, rules, tests}
 use Rattle.cert_form.specs.Form.{place_number}
-use Rattle.cert_contents.proofs.LastLemmas.{bounds_all}
-use Rattle.cert_contents.proofs.RowPlaces.{row_place_number}
-use Rattle.cert_contents.proofs.taking.place_may_follow.Goals as goal
+use Rattle.cert_form.proofs.LastLemmas.{bounds_all}
+use Rattle.cert_form.proofs.RowPlaces.{row_place_number}
+use Rattle.cert_form.proofs.following.place_may_follow.Goals as goal
 
 pub returns-in-Some : goal.returns-in-Some
 returns-in-Some c =

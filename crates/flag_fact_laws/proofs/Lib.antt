@@ -1,0 +1,2 @@
+-- Lemmas about the meaning of flag facts and flag parts.
+mod MeaningLemmas
