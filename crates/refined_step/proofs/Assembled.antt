@@ -58,6 +58,7 @@ use Rattle.refined_step.specs.Conditionals.{NarrowsSoundly, condition_of, condit
 use Rattle.refined_step.specs.Kept.{AreTrueOfStep, KeepsRefined}
 use Rattle.refined_step.specs.Refined.{refined_answer, refined_by, refined_nexts, sharpened_nexts, step_conditions, step_effect}
 use Rattle.refined_step.specs.Sharpening.{sharpened, value_range, with_cut_state}
+use Rattle.refined_step.proofs.Answered.{told}
 use Rattle.refined_step.proofs.Instructions.{conditional, no_known_writes, outcome_tells, plain, register_small}
 use Rattle.refined_step.proofs.NarrowedStack.{KeepsStack, cut_some, narrowed_kept}
 use Rattle.refined_step.proofs.Refusals.{refusal_kept}
@@ -319,13 +320,6 @@ refined_keeps g address main inline a instr parts fits stands none tells conditi
 
 -- ---- by the answer
 
-ok_same : (found nexts : List Next) → answer_by None found ≡ Ok nexts → found ≡ nexts
-ok_same found nexts e = cc
-
-told : (o : Option Reason) (found nexts : List Next) → answer_by o found ≡ Ok nexts → (o ≡ None) × (found ≡ nexts)
-told None found nexts e = (refl, ok_same found nexts e)
-told (Some r) found nexts e = absurd (cc)
-
 module _ (g : GroundView) (address : ℕ) (main inline : Bool) (a : AbsState) (instr : Instr) (parts : List FlagPart) where
   abbrev Keeping : RangeView → Option Bool → StepConditionsView → Option LinearEffect → Type 0
   Keeping b k s e =
@@ -347,7 +341,3 @@ module _ (g : GroundView) (address : ℕ) (main inline : Bool) (a : AbsState) (i
       let by_conditions = subst (λ (s : StepConditionsView). Keeping byte carry s (effect_of instr a.pairs byte carry)) (sym is_conditions) by_carry in
       let all : Keeping byte carry conditions effect = subst (λ (e : Option LinearEffect). Keeping byte carry conditions e) (sym is_effect) by_conditions in
       subst (λ (ns : List Next). KeepsRefined g address main a instr parts ns conditions effect) t.1 (all tells conditions_true effect_true)
-
-pub three_ok : {X Y : Type 0} (r : Result X Y) (P Q R S : X → Type 0) → IfOk r P → IfOk r Q → IfOk r R → ((x : X) → P x → Q x → R x → S x) → IfOk r S
-three_ok (Ok x) P Q R S p q r f = f x p q r
-three_ok (Err y) P Q R S p q r f = tt

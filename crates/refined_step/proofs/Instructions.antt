@@ -35,6 +35,7 @@ use Rattle.abs_draft.specs.declared.data_write.DataWrite.{DataWrite}
 use Rattle.abs_laws.proofs.Short.{short}
 use Rattle.abs_laws.proofs.Ways.{taken_is}
 use Rattle.abs_step.specs.Successors.{jumps_anywhere, uses_stack, writes_of}
+use Rattle.linear_effects.specs.ByteEffects.{complemented}
 use Rattle.linear_effects.specs.Effects.{becoming, effect_of}
 use Rattle.linear_effects.specs.declared.variable_effect.LinearEffect.{LinearEffect}
 use Rattle.refined_step.specs.Conditionals.{condition_of}
@@ -105,7 +106,7 @@ plain (instrs.Arithmetic kind (operands.Immediate n)) pairs byte carry e h = pla
 plain (instrs.Arithmetic kind (operands.Place (places.Register r))) pairs byte carry e h = plain_for _ variables.A _ e (record { test = refl; stack = refl; register = refl }) h
 plain (instrs.Arithmetic kind (operands.Place (places.Memory memories.AtHl))) pairs byte carry e h = plain_for _ variables.A _ e (record { test = refl; stack = refl; register = refl }) h
 plain (instrs.Arithmetic kind (operands.Place (places.Memory (memories.At index d)))) pairs byte carry e h = plain_for _ variables.A _ e (record { test = refl; stack = refl; register = refl }) h
-plain instrs.Complement pairs byte carry e h = plain_for _ variables.A _ e (record { test = refl; stack = refl; register = refl }) h
+plain instrs.Complement pairs byte carry e h = plain_for _ variables.A (Some complemented) e (record { test = refl; stack = refl; register = refl }) h
 plain instrs.Negate pairs byte carry e h = plain_for _ variables.A _ e (record { test = refl; stack = refl; register = refl }) h
 plain (instrs.AddHl ss) pairs byte carry e h = plain_for _ variables.Hl _ e (record { test = refl; stack = refl; register = refl }) h
 plain (instrs.AdcHl ss) pairs byte carry e h = plain_for _ variables.Hl _ e (record { test = refl; stack = refl; register = refl }) h

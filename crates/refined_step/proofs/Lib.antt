@@ -1,3 +1,4 @@
+pub mod Answered
 pub mod Assembled
 pub mod Flags
 pub mod Instructions
