@@ -1,7 +1,7 @@
 -- The refined step keeps what a row says.
-use Rattle.std.proofs.Common.{◌≡◌, ◌≢◌, ◌≤◌, ◌<◌, ◌+◌, ◌∙◌, ℕ, zero, suc, Bool, true, false, List, [], ◌∷◌, ◌++◌, length, Option, Some, None, IsSomeAnd, Ok, refl, sym, ap, subst, arith, pos}
-use Rattle.std.specs.Prelude.{IfOk, IfSome, Result, Err, map, option_and_then}
-use Rattle.std.specs.List.{All, Contains}
+use Rattle.std.proofs.Common.{◌≡◌, ◌≤◌, ◌+◌, ◌∙◌, ℕ, zero, suc, Bool, true, false, List, [], ◌∷◌, ◌++◌, length, Option, Some, None, IsSomeAnd, Ok, refl, sym, ap, subst, arith, pos}
+use Rattle.std.specs.Prelude.{IfSome, map, option_and_then}
+use Rattle.std.specs.List.{Contains}
 use Rattle.std.proofs.lemmas.List.Elements.{All-cons, All-head, All-nil}
 use Rattle.address_map.specs.declared.region.Region.{Region}
 use Rattle.intervals.specs.Domain.{Entry}
@@ -13,7 +13,6 @@ use Rattle.z80_alu.specs.declared.regs.Regs.{Regs}
 use Rattle.z80_decode.specs.Spelling.{spelling}
 use Rattle.z80_decode.specs.declared.instr.Instr.{Instr}
 use Rattle.z80_decode.specs.declared.kinds.Condition.{Condition}
-use Rattle.z80_draft.specs.Arithmetic.{holds}
 use Rattle.z80_draft.specs.Draft.{DraftView, draft_of, draft_on, past}
 use Rattle.z80_draft.specs.Outside.{Outside}
 use Rattle.z80_draft.specs.Registers.{IsRegs}
@@ -24,7 +23,7 @@ use Rattle.board_step.proofs.StateRangeLemmas.{done_keeps}
 use Rattle.board_step.specs.Context.{ContextView}
 use Rattle.board_step.specs.Hardware.{Hardware, hardware_of}
 use Rattle.board_step.specs.Reads.{outside_of}
-use Rattle.board_step.specs.Step.{done, instr_draft, t_of}
+use Rattle.board_step.specs.Step.{done, instr_draft}
 use Rattle.board_laws.proofs.Brought.{reaches}
 use Rattle.board_laws.specs.Region.{HasRoom}
 use Rattle.abs_state.specs.Holds.{Holds}
@@ -37,19 +36,18 @@ use Rattle.abs_state.specs.declared.state.AbsState.{AbsState}
 use Rattle.abs_draft.specs.Ground.{GroundView}
 use Rattle.abs_draft.specs.Outcomes.{known_at_test, test_of}
 use Rattle.abs_draft.specs.declared.data_write.DataWrite.{DataWrite}
-use Rattle.abs_laws.specs.Writes.{AllKeep, MissesRegion, NeverEnables, TakesData}
+use Rattle.abs_laws.specs.Writes.{AllKeep, MissesRegion, NeverEnables}
 use Rattle.abs_laws.proofs.Ways.{moves_keep_taken}
 use Rattle.abs_step.specs.Contained.{After, Before, Goes, GoesBy, IsInOrder, Running, Went, seen_of}
-use Rattle.abs_step.specs.Successors.{answer_by, next_kind_of, next_of, nexts_by, operand_of, refusal, way_by, writes_of}
+use Rattle.abs_step.specs.Successors.{next_of, nexts_by, operand_of, refusal, way_by, writes_of}
 use Rattle.abs_step.specs.declared.next.Next.{Next}
 use Rattle.abs_step.specs.declared.next.NextKind.{NextKind}
 use Rattle.abs_step.specs.declared.next.NextKind.TheVariants as kinds
-use Rattle.abs_step.specs.declared.reason.Reason.{Reason}
 use Rattle.abs_step.proofs.Asides.{jump_kind}
 use Rattle.abs_step.proofs.Keeps.{after_both, keeps_by_outcome, operand_as_known, order_of_one}
 use Rattle.flag_parts.specs.Carry.{known_carry}
 use Rattle.flag_parts.specs.Narrowing.{narrowed}
-use Rattle.flag_parts.specs.Parts.{AreSeen, HoldsParts}
+use Rattle.flag_parts.specs.Parts.{AreSeen}
 use Rattle.flag_parts.specs.declared.part.FlagPart.{FlagPart}
 use Rattle.flag_conditions.specs.Conditions.{AreTrue, AreTrueOf, IsAsKnown, StepConditionsView, conditions_of}
 use Rattle.linear_effects.specs.Effects.{BecomesSo, IsDescribed, IsTrueEffect, effect_of}

@@ -1,5 +1,5 @@
 -- A successor that is cut to the values of a linear effect.
-use Rattle.std.proofs.Common.{◌≡◌, ◌≢◌, ◌≤◌, ◌<◌, ◌∙◌, ℕ, Bool, true, false, cond, eqb, List, [], length, get_or, Option, Some, None, IsSomeAnd, refl, ap, subst, sym, arith, pos, negsuc, ℤ, ◌≤ℤ◌}
+use Rattle.std.proofs.Common.{◌≡◌, ◌≤◌, ◌<◌, ◌∙◌, ℕ, Bool, true, false, cond, eqb, List, get_or, Option, Some, None, IsSomeAnd, refl, ap, subst, sym, arith, pos, negsuc, ℤ, ◌≤ℤ◌}
 use Rattle.std.specs.Prelude.{IfSome, min, option_map, option_and_then}
 use Rattle.std.proofs.Math.Nat.{le-min, min-le_left}
 use Rattle.std.proofs.lemmas.Bool.{eqb-true}
@@ -33,7 +33,7 @@ use Rattle.abs_state.specs.Variables.{cut_to, full_slot, part_range, range_of, v
 use Rattle.abs_state.specs.declared.cell.KeptCell.{KeptCell}
 use Rattle.abs_state.specs.declared.state.AbsState.{AbsState}
 use Rattle.abs_draft.specs.Outcomes.{constant_first, settled, settled_slot}
-use Rattle.abs_laws.specs.Fits.{FollowsChange, IsThere}
+use Rattle.abs_laws.specs.Fits.{FollowsChange}
 use Rattle.abs_step.specs.Contained.{Running, Through, Went, seen_of}
 use Rattle.abs_step.specs.declared.next.Next.{Next}
 use Rattle.refined_step.specs.Sharpening.{to_word, value_range, with_cut_state}
