@@ -117,10 +117,15 @@ module _ (cells : List KeptCell) (region : Region) (running : Running) (c : Cont
     moved = w.moved;
   }
 
--- the state that is left holds of a machine whose variable has the value of the linear
-pub cut_holds : (row state : AbsState) (cells kept : List KeptCell) (entry : Entry) (old new : Seen) (v : Variable) (linear : LinearView) → IsRegs old.regs → Holds row cells entry old → IsRegs new.regs → Holds state kept entry new
-    → pos (value_in new v) ≡ value (whole (value_in old)) linear → value_in new v < 65536 → IsSomeAnd (option_and_then (cut_to state v) (value_range (range_of row) linear)) (λ t. Holds t kept entry new)
-cut_holds row state cells kept entry old new v linear i h j k e small =
-    kept_through (value_range (range_of row) linear) (λ r. Within r (value_in new v)) (cut_to state v) (λ t. Holds t kept entry new)
-    (value_within (range_of row) linear (value_in old) (value_in new v) (variable_lies row cells entry old i h) e small)
+-- the state that is left holds of a machine whose variable lies in the range
+pub cut_holds : (state : AbsState) (kept : List KeptCell) (entry : Entry) (new : Seen) (v : Variable) (range : Option RangeView) → IsRegs new.regs → Holds state kept entry new → IsSomeAnd range (λ r. Within r (value_in new v))
+    → IsSomeAnd (option_and_then (cut_to state v) range) (λ t. Holds t kept entry new)
+cut_holds state kept entry new v range j k lies =
+    kept_through range (λ r. Within r (value_in new v)) (cut_to state v) (λ t. Holds t kept entry new) lies
     (λ r within. variable_cut state kept entry new j k v r within)
+
+-- a variable with the value of a linear lies in the range of its values
+pub linear_lies : (row : AbsState) (cells : List KeptCell) (entry : Entry) (old new : Seen) (v : Variable) (linear : LinearView) → IsRegs old.regs → Holds row cells entry old → pos (value_in new v) ≡ value (whole (value_in old)) linear → value_in new v < 65536
+    → IsSomeAnd (value_range (range_of row) linear) (λ r. Within r (value_in new v))
+linear_lies row cells entry old new v linear i h e small =
+    value_within (range_of row) linear (value_in old) (value_in new v) (variable_lies row cells entry old i h) e small
