@@ -1,5 +1,5 @@
 -- The coefficients of linear effects are small.
-use Rattle.std.proofs.Common.{◌≡◌, ◌≤◌, ◌-◌, ◌+◌, ℕ, Bool, true, false, cond, List, [], ◌∷◌, All, Option, Some, None, ℤ, pos, negsuc, arith, sym, subst, unsigned_abs}
+use Rattle.std.proofs.Common.{◌≡◌, ◌≤◌, ℕ, Bool, true, false, cond, List, [], ◌∷◌, All, Option, Some, None, arith, sym, subst, unsigned_abs}
 use Rattle.std.specs.Prelude.{IfSome, option_map}
 use Rattle.std.proofs.lemmas.List.Elements.{All-cons, All-nil}
 use Rattle.intervals.specs.Range.{RangeView}
@@ -12,7 +12,7 @@ use Rattle.z80_decode.specs.declared.instr.Instr.TheVariants.{Arithmetic, Comple
 use Rattle.z80_decode.specs.declared.kinds.ArithmeticKind.{ArithmeticKind}
 use Rattle.z80_decode.specs.declared.kinds.ArithmeticKind.TheVariants as operations
 use Rattle.abs_state.specs.declared.pairs.Pairs.{Pairs}
-use Rattle.flag_conditions.specs.OperandTerm.{operand_term_of, variable_of_index, variable_of_other, word_of_index_pair, word_of_pair}
+use Rattle.flag_conditions.specs.OperandTerm.{operand_term_of, variable_of_index, word_of_index_pair, word_of_pair}
 use Rattle.flag_conditions.specs.declared.byte_operand.OperandTerm.{OperandTerm}
 use Rattle.flag_conditions.specs.declared.byte_operand.OperandTerm.TheVariants.{A, Other, Number}
 use Rattle.flag_conditions.specs.declared.word_operand.OperandWord.{OperandWord}

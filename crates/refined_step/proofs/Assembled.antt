@@ -1,13 +1,10 @@
 -- The refined step keeps what a row says.
-use Rattle.std.proofs.Common.{◌≡◌, ◌≤◌, ◌+◌, ◌∙◌, ℕ, zero, suc, Bool, true, false, List, [], ◌∷◌, ◌++◌, length, Option, Some, None, IsSomeAnd, Ok, refl, sym, ap, subst, arith, pos}
+use Rattle.std.proofs.Common.{◌≡◌, ◌≤◌, ◌∙◌, ℕ, Bool, true, false, List, [], ◌∷◌, ◌++◌, length, Option, Some, None, IsSomeAnd, Ok, refl, sym, ap, subst}
 use Rattle.std.specs.Prelude.{IfSome, map, option_and_then}
-use Rattle.std.specs.List.{Contains}
-use Rattle.std.proofs.lemmas.List.Elements.{All-cons, All-head, All-nil}
+use Rattle.std.proofs.lemmas.List.Elements.{All-nil}
 use Rattle.address_map.specs.declared.region.Region.{Region}
 use Rattle.intervals.specs.Domain.{Entry}
 use Rattle.intervals.specs.Range.{RangeView, Within}
-use Rattle.loop_bounds.specs.Effect.{whole}
-use Rattle.loop_bounds.specs.Linear.{value}
 use Rattle.loop_bounds.specs.declared.variable.Variable.{Variable}
 use Rattle.loop_bounds.specs.declared.variable.Variable.TheVariants as variables
 use Rattle.z80_alu.specs.Flags.{flags_of}
@@ -27,9 +24,7 @@ use Rattle.board_step.specs.Hardware.{Hardware, hardware_of}
 use Rattle.board_step.specs.Reads.{outside_of}
 use Rattle.board_step.specs.Step.{done, instr_draft}
 use Rattle.board_laws.proofs.Brought.{reaches}
-use Rattle.board_laws.specs.Region.{HasRoom}
 use Rattle.abs_state.specs.Holds.{Holds}
-use Rattle.abs_state.specs.Pairs.{HoldsPairs}
 use Rattle.abs_state.specs.Seen.{Seen}
 use Rattle.abs_state.specs.Variables.{cut_to, range_of, value_in}
 use Rattle.abs_state.specs.declared.cell.KeptCell.{KeptCell}
@@ -40,7 +35,7 @@ use Rattle.abs_draft.specs.Outcomes.{known_at_test, test_of}
 use Rattle.abs_draft.specs.declared.data_write.DataWrite.{DataWrite}
 use Rattle.abs_laws.specs.Writes.{AllKeep, MissesRegion, NeverEnables}
 use Rattle.abs_laws.proofs.Ways.{moves_keep_taken}
-use Rattle.abs_step.specs.Contained.{After, Before, Goes, GoesBy, IsInOrder, Running, Went, seen_of}
+use Rattle.abs_step.specs.Contained.{After, Before, IsInOrder, Running, seen_of}
 use Rattle.abs_step.specs.Successors.{next_of, nexts_by, operand_of, refusal, way_by, writes_of}
 use Rattle.abs_step.specs.declared.next.Next.{Next}
 use Rattle.abs_step.specs.declared.next.NextKind.{NextKind}
