@@ -1,5 +1,5 @@
 -- Each instruction leaves alone the flags that the table says.
-use Rattle.std.proofs.Common.{◌≡◌, ◌∙◌, ℕ, Bool, true, false, cond, List, refl, ap}
+use Rattle.std.proofs.Common.{◌≡◌, ◌∙◌, ℕ, Bool, true, false, cond, not, List, refl, ap}
 use Rattle.z80_alu.proofs.FlagsLemmas.{flags_of-flags_byte}
 use Rattle.z80_alu.specs.Add.{increment8_flags, decrement8_flags}
 use Rattle.z80_alu.specs.Bits.{test_bit_flags}
@@ -245,3 +245,8 @@ module _ (o : Outside) (n : ℕ) (regs : Regs) where
 
   pub left_alone : (instr : Instr) (letter : Letter) → leaves (changes_of instr) letter ≡ true → flag_of letter (flags_of (drafted o (moves_of instr) (draft_on (past n regs))).regs.main.f) ≡ flag_of letter (flags_of regs.main.f)
   left_alone instr letter e = kept_letter (changes_of instr) letter _ _ e (keeps instr)
+
+  -- CCF turns C
+  pub carry_turned : (flags_of (drafted o (moves_of ComplementCarry) (draft_on (past n regs))).regs.main.f).carry ≡ not (flags_of regs.main.f).carry
+  unfolding drafted moved ccf_flags
+  carry_turned = same_carry _ _ refl

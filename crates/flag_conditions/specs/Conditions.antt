@@ -1,19 +1,24 @@
 -- The conditions of an instruction, and what it means that they are true of the machine (docs/CHECKER.md, "Conditions
 -- of a step").
-use Rattle.std.specs.Prelude.{◌≡◌, ◌<◌, ◌++◌, Bool, if◌then◌else◌, List, Option, Some, None, IfSome}
+use Rattle.std.specs.Prelude.{◌≡◌, ◌<◌, ◌++◌, Bool, if◌then◌else◌, List, Option, Some, None, IfSome, option_map}
 use Rattle.std.specs.List.{filter_map}
 use Rattle.intervals.specs.Range.{RangeView, Within}
+use Rattle.loop_bounds.specs.Linear.{LinearView}
 use Rattle.z80_alu.specs.Flags.{flags_of}
 use Rattle.z80_decode.specs.declared.instr.Instr.{Instr}
+use Rattle.z80_decode.specs.declared.instr.Instr.TheVariants.{ComplementCarry}
 use Rattle.z80_draft.specs.Draft.{DraftView, draft_of}
 use Rattle.z80_draft.specs.Outside.{Outside}
 use Rattle.z80_draft.specs.Registers.{IsRegs}
 use Rattle.abs_state.specs.Seen.{Seen}
 use Rattle.abs_state.specs.Variables.{value_in}
 use Rattle.flag_parts.specs.Parts.{AreSeen, HoldsParts}
+use Rattle.flag_letters.specs.declared.letter.Letter.{Letter}
+use Rattle.flag_letters.specs.declared.letter.Letter.TheVariants as letters
 use Rattle.flag_letters.specs.declared.part.FlagPart.{FlagPart}
+use Rattle.flag_conditions.specs.Complement.{complement}
 use Rattle.flag_conditions.specs.FlagChanges.{changes_of, leaves}
-use Rattle.flag_conditions.specs.NewConditions.{new_before, new_after}
+use Rattle.flag_conditions.specs.NewConditions.{carry_if_below, new_before, new_after}
 
 -- the conditions over the variables before an instruction, and those over the variables after it
 pub record StepConditionsView : Type 0 where
@@ -22,9 +27,19 @@ pub record StepConditionsView : Type 0 where
 
 -- ---- from the row's parts
 
+-- a part of C, of the complement of C
+abbrev pub turned : Letter → LinearView → Option FlagPart
+turned letters.CarryIfBelow s = option_map carry_if_below (complement s)
+turned letter s = None
+
+-- CCF turns the parts of C; other instructions that change a flag leave no part of it
+abbrev pub turned_by : Instr → FlagPart → Option FlagPart
+turned_by ComplementCarry part = turned part.letter part.linear
+turned_by instr part = None
+
 -- the condition that a part of the row gives: itself, where the instruction leaves its flag alone
 abbrev pub carried : Instr → FlagPart → Option FlagPart
-carried instr part = if leaves (changes_of instr) part.letter then Some part else None
+carried instr part = if leaves (changes_of instr) part.letter then Some part else turned_by instr part
 
 -- ---- the conditions
 

@@ -5,6 +5,7 @@
 mod arithmetic;
 mod byte_operand;
 mod changes;
+mod complement;
 mod linears;
 mod logic;
 mod new_conditions;

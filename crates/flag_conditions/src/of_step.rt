@@ -1,13 +1,15 @@
 // The conditions of an instruction.
 ghost use Rattle.std.specs.Prelude.{◌≡◌, ◌≤◌, length};
 ghost use Rattle.std.specs.List.{filter_map};
-ghost use Rattle.flag_conditions.specs.Conditions.{carried, conditions_of, AreTrue};
+ghost use Rattle.flag_conditions.specs.Conditions.{carried, conditions_of, turned, AreTrue};
 
 use crate::changes::FlagChanges;
+use crate::complement::complement;
 use crate::new_conditions::{new_after, new_before};
 use crate::new_parts::NewParts;
+use crate::parts::carry_if_below;
 use arrayvec::ArrayVec;
-use flag_letters::{FlagPart, FlagParts};
+use flag_letters::{FlagPart, FlagParts, Letter};
 use intervals::ByteRange;
 use std::marker::Model;
 use z80_decode::Instr;
@@ -50,14 +52,29 @@ impl StepConditions {
     }
 }
 
+/// A part of C, of the complement of C. None for another part, and where its constant would be too great for a linear.
+fn turned(part: &FlagPart) -> Option<FlagPart>
+    ensures { result ≡ turned part.now.letter part.now.linear }
+{
+    match part.letter {
+        Letter::CarryIfBelow => match complement(&part.linear) {
+            Some(linear) => Some(carry_if_below(linear)),
+            None => None,
+        },
+        _ => None,
+    }
+}
+
 /// The condition that a part of the row gives.
 fn carried(instr: &Instr, part: FlagPart) -> Option<FlagPart>
     ensures { result ≡ carried instr.now part }
 {
     if FlagChanges::of(instr).leaves(part.letter) {
-        Some(part)
-    } else {
-        None
+        return Some(part);
+    }
+    match instr {
+        Instr::ComplementCarry => turned(&part),
+        _ => None,
     }
 }
 

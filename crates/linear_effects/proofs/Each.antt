@@ -45,10 +45,12 @@ use Rattle.abs_state.specs.declared.pairs.Pairs.{Pairs}
 use Rattle.flag_conditions.specs.OperandTerm.{operand_term_of, term_of_memory, term_of_register, word_of_index_pair, word_of_pair}
 use Rattle.flag_conditions.specs.declared.byte_operand.OperandTerm.TheVariants.{Number}
 use Rattle.linear_effects.specs.ByteEffects.{operand_range, arithmetic_effect, negate_effect, complemented}
+use Rattle.linear_effects.specs.Carried.{carried_if, carried_range}
 use Rattle.linear_effects.specs.Effects.{BecomesSo, IsDescribed, IsTrueEffect, effect_of, becoming}
 use Rattle.linear_effects.specs.WordEffects.{word_sum_effect, word_difference_effect}
 use Rattle.linear_effects.specs.declared.variable_effect.LinearEffect.{LinearEffect}
 use Rattle.linear_effects.proofs.Bytes.{worth, operation_is, negation_is, complement_is}
+use Rattle.linear_effects.proofs.CarriedValues.{carried_is}
 use Rattle.linear_effects.proofs.Numbers.{if_true}
 use Rattle.linear_effects.proofs.Words.{IsKnownWord, word_sum_is, word_difference_is}
 use Rattle.intervals.specs.Logic.{is_single}
@@ -208,17 +210,41 @@ module _ (o : Outside) (m : Seen) (h : IsRegs m.regs) (pairs : Pairs) (entry : E
       (word_sum_is x variables.Iy (draft_word (index_pair_register indexes.Iy pp) start) pairs.iy.word pairs h.iy (index_pair_small indexes.Iy pp) p.iy.word false (word_of_index_pair pp) (Some false) (iy_known pp) refl)
   each_shown _ small w = tt
 
+  -- ---- A after ADC and SBC
+
+  abbrev IsRanged : Instr → DraftView → Type 0
+  IsRanged instr d = d.operand < 256 → Within byte d.operand → IfSome (carried_range instr pairs byte carry) (λ r. (q : Seen) → q.regs ≡ d.regs → Within r (value_in q variables.A))
+
+  a_ranged : (kind : ArithmeticKind) (s : Operand) (n : ℕ) (regs : Regs) → regs.main.a ≡ value_of kind m.regs.main.a n c → n < 256 → Within (operand_range s pairs byte) n
+      → IfSome (carried_if kind pairs.af.high (operand_range s pairs byte) carry) (λ r. (q : Seen) → q.regs ≡ regs → Within r (value_in q variables.A))
+  a_ranged kind s n regs is small w =
+      there (carried_if kind pairs.af.high (operand_range s pairs byte) carry) (carried_is kind pairs.af.high (operand_range s pairs byte) m.regs.main.a n c carry h.main.a small (register_within registers.A) w carry_is)
+    where
+      there : (range : Option RangeView) → IfSome range (λ r. Within r (value_of kind m.regs.main.a n c)) → IfSome range (λ r. (q : Seen) → q.regs ≡ regs → Within r (value_in q variables.A))
+      there None k = tt
+      there (Some r) k = λ q e. subst (Within r) (sym (ap (λ (t : Regs). t.main.a) e ∙ is)) k
+
+  pub each_ranged : (instr : Instr) → IsRanged instr (drafted o (moves_of instr) start)
+  unfolding carried_range drafted moved
+  each_ranged (Arithmetic kind (operands.Immediate n)) small w = a_ranged kind (operands.Immediate n) n _ refl small (omega arith)
+  each_ranged (Arithmetic kind (operands.Place (places.Register r))) small w =
+      a_ranged kind (operands.Place (places.Register r)) (draft_byte (byte_register r) start) _ refl (register_small r) (register_within r)
+  each_ranged (Arithmetic kind (operands.Place (places.Memory place))) small w =
+      at_any o (IsRanged (Arithmetic kind (operands.Place (places.Memory place)))) place (ReadByte bytes.Operand words.Pointer ∷ moves.Arithmetic kind bytes.Operand ∷ []) start
+      (λ at few v. a_ranged kind (operands.Place (places.Memory place)) (o.read false at) _ refl few v) small w
+  each_ranged _ small w = tt
+
 -- an effect that is true of each machine by itself
-gather : {X Y : Type 0} (effect : Option X) (Q : Y → X → Type 0) → ((y : Y) → IfSome effect (Q y)) → IfSome effect (λ e. (y : Y) → Q y e)
+pub gather : {X Y : Type 0} (effect : Option X) (Q : Y → X → Type 0) → ((y : Y) → IfSome effect (Q y)) → IfSome effect (λ e. (y : Y) → Q y e)
 gather None Q h = tt
 gather (Some e) Q h = λ y. h y
 
 -- a machine that is as described, with what is outside it
-record Described (instr : Instr) (pairs : Pairs) (byte : RangeView) (carry : Option Bool) : Type 0 where
-  o : Outside
-  entry : Entry
-  m : Seen
-  described : IsDescribed instr pairs byte carry o entry m
+pub record Described (instr : Instr) (pairs : Pairs) (byte : RangeView) (carry : Option Bool) : Type 0 where
+  pub o : Outside
+  pub entry : Entry
+  pub m : Seen
+  pub described : IsDescribed instr pairs byte carry o entry m
 
 opened : (effect : Option LinearEffect) (instr : Instr) (pairs : Pairs) (byte : RangeView) (carry : Option Bool) → IfSome effect (λ e. (y : Described instr pairs byte carry) → BecomesSo e y.m (draft_of y.o y.m.regs instr))
     → IsTrueEffect effect instr pairs byte carry

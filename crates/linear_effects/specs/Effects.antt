@@ -1,5 +1,5 @@
 -- The linear effect of each instruction, and what it means that it is true (docs/CHECKER.md, "Linear effects").
-use Rattle.std.specs.Prelude.{◌≡◌, ◌<◌, Bool, false, Option, Some, None, option_map, IfSome, pos}
+use Rattle.std.specs.Prelude.{◌≡◌, ◌<◌, ◌≤◌, All, Bool, false, Option, Some, None, option_map, IfSome, pos, unsigned_abs}
 use Rattle.intervals.specs.Domain.{Entry}
 use Rattle.intervals.specs.Range.{RangeView, Within}
 use Rattle.loop_bounds.specs.Effect.{whole}
@@ -41,6 +41,12 @@ effect_of (SbcHl ss) pairs byte carry =
 effect_of (AddIndex index pp) pairs byte carry =
     becoming (variable_of_index index) (word_sum_effect (variable_of_index index) (index_range index pairs) (word_of_index_pair pp) (Some false) pairs)
 effect_of _ pairs byte carry = None
+
+-- ---- their size
+
+-- the coefficients of the linear are at most 256 in size
+abbrev pub HasSlightTerms : LinearEffect → Type 0
+HasSlightTerms effect = All (λ t. unsigned_abs t.coefficient ≤ 256) effect.linear.terms
 
 -- ---- their truth
 

@@ -4,3 +4,4 @@ pub mod Bits
 pub mod ByteEffects
 pub mod WordEffects
 pub mod Effects
+pub mod Carried

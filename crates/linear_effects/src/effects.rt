@@ -1,6 +1,6 @@
 // The linear effect of each instruction.
-ghost use Rattle.std.specs.Prelude.{◌≡◌};
-ghost use Rattle.linear_effects.specs.Effects.{effect_of, IsTrueEffect};
+ghost use Rattle.std.specs.Prelude.{◌≡◌, IfSome};
+ghost use Rattle.linear_effects.specs.Effects.{effect_of, HasSlightTerms, IsTrueEffect};
 
 use crate::byte_effects::{arithmetic_effect, complemented, negate_effect, operand_range};
 use crate::variable_effect::{LinearEffect, becoming};
@@ -14,7 +14,7 @@ use z80_decode::Instr;
 /// The variable that an instruction makes a linear of the variables before it, if there is one beside those that it
 /// leaves, copies, raises or lowers by 1. `byte` is the range of the byte in work at the end of the instruction, `carry`
 /// the carry before it, if it is known.
-#[tactic(auto, using(crate::proofs::Each::table_effects_true), unfolding(crate::specs::Effects::effect_of))]
+#[tactic(auto, using(crate::proofs::Each::table_effects_true, crate::proofs::Slight::table_slight), unfolding(crate::specs::Effects::effect_of))]
 pub fn linear_effect(
     instr: &Instr,
     pairs: &Pairs,
@@ -22,6 +22,7 @@ pub fn linear_effect(
     carry: Option<bool>,
 ) -> Option<LinearEffect>
     ensures exact { result ≡ effect_of instr.now pairs.now byte carry }
+    ensures slight { IfSome result HasSlightTerms }
     ensures of_machines { IsTrueEffect result instr.now pairs.now byte carry }
 {
     match instr {

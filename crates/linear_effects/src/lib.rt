@@ -4,10 +4,12 @@
 
 mod bits;
 mod byte_effects;
+mod carried;
 mod effects;
 mod variable_effect;
 mod windows;
 mod word_effects;
 
+pub use carried::carried_range;
 pub use effects::linear_effect;
 pub use variable_effect::LinearEffect;

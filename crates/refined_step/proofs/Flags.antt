@@ -1,5 +1,5 @@
 -- The condition that is met at an outcome.
-use Rattle.std.proofs.Common.{◌≡◌, Bool, true, false, not, List, refl, sym, ◌∙◌, ap, rules, IsTrue, IsSomeAnd}
+use Rattle.std.proofs.Common.{◌≡◌, Bool, true, false, not, List, refl, ◌∙◌, ap, rules, IsTrue, IsSomeAnd}
 use Rattle.intervals.specs.Domain.{Entry}
 use Rattle.z80_alu.specs.Flags.{flags_of}
 use Rattle.z80_draft.specs.Registers.{IsRegs}

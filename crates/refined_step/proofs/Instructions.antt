@@ -35,6 +35,8 @@ use Rattle.abs_draft.specs.declared.data_write.DataWrite.{DataWrite}
 use Rattle.abs_laws.proofs.Short.{short}
 use Rattle.abs_laws.proofs.Ways.{taken_is}
 use Rattle.abs_step.specs.Successors.{jumps_anywhere, uses_stack, writes_of}
+use Rattle.linear_effects.specs.ByteEffects.{complemented}
+use Rattle.linear_effects.specs.Carried.{carried_range}
 use Rattle.linear_effects.specs.Effects.{becoming, effect_of}
 use Rattle.linear_effects.specs.declared.variable_effect.LinearEffect.{LinearEffect}
 use Rattle.refined_step.specs.Conditionals.{condition_of}
@@ -105,7 +107,7 @@ plain (instrs.Arithmetic kind (operands.Immediate n)) pairs byte carry e h = pla
 plain (instrs.Arithmetic kind (operands.Place (places.Register r))) pairs byte carry e h = plain_for _ variables.A _ e (record { test = refl; stack = refl; register = refl }) h
 plain (instrs.Arithmetic kind (operands.Place (places.Memory memories.AtHl))) pairs byte carry e h = plain_for _ variables.A _ e (record { test = refl; stack = refl; register = refl }) h
 plain (instrs.Arithmetic kind (operands.Place (places.Memory (memories.At index d)))) pairs byte carry e h = plain_for _ variables.A _ e (record { test = refl; stack = refl; register = refl }) h
-plain instrs.Complement pairs byte carry e h = plain_for _ variables.A _ e (record { test = refl; stack = refl; register = refl }) h
+plain instrs.Complement pairs byte carry e h = plain_for _ variables.A (Some complemented) e (record { test = refl; stack = refl; register = refl }) h
 plain instrs.Negate pairs byte carry e h = plain_for _ variables.A _ e (record { test = refl; stack = refl; register = refl }) h
 plain (instrs.AddHl ss) pairs byte carry e h = plain_for _ variables.Hl _ e (record { test = refl; stack = refl; register = refl }) h
 plain (instrs.AdcHl ss) pairs byte carry e h = plain_for _ variables.Hl _ e (record { test = refl; stack = refl; register = refl }) h
@@ -113,6 +115,17 @@ plain (instrs.SbcHl ss) pairs byte carry e h = plain_for _ variables.Hl _ e (rec
 plain (instrs.AddIndex indexes.Ix pp) pairs byte carry e h = plain_for _ variables.Ix _ e (record { test = refl; stack = refl; register = refl }) h
 plain (instrs.AddIndex indexes.Iy pp) pairs byte carry e h = plain_for _ variables.Iy _ e (record { test = refl; stack = refl; register = refl }) h
 plain _ pairs byte carry e h = no_effect _ e h
+
+no_range : (P : Type 0) (r : RangeView) → (let o : Option RangeView = None in o) ≡ Some r → P
+no_range P r h = absurd (cc)
+
+pub plain_carried : (instr : Instr) (pairs : Pairs) (byte : RangeView) (carry : Option Bool) (r : RangeView) → carried_range instr pairs byte carry ≡ Some r → IsPlain instr variables.A
+unfolding carried_range test_of
+plain_carried (instrs.Arithmetic kind (operands.Immediate n)) pairs byte carry r h = record { test = refl; stack = refl; register = refl }
+plain_carried (instrs.Arithmetic kind (operands.Place (places.Register s))) pairs byte carry r h = record { test = refl; stack = refl; register = refl }
+plain_carried (instrs.Arithmetic kind (operands.Place (places.Memory memories.AtHl))) pairs byte carry r h = record { test = refl; stack = refl; register = refl }
+plain_carried (instrs.Arithmetic kind (operands.Place (places.Memory (memories.At index d)))) pairs byte carry r h = record { test = refl; stack = refl; register = refl }
+plain_carried _ pairs byte carry r h = no_range _ r h
 
 -- a register or a pair holds a word
 pub register_small : (v : Variable) (m : Seen) → IsRegs m.regs → is_register v ≡ true → value_in m v < 65536

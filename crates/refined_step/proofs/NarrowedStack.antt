@@ -1,55 +1,32 @@
 -- What narrowing keeps: mode, armed cells, how many slots there are, and that the last slot has one word.
-use Rattle.std.proofs.Common.{◌≡◌, ◌≢◌, ◌≤◌, ◌<◌, ◌+◌, ◌-◌, ◌∙◌, ℕ, Bool, true, false, cond, eqb, ltb, List, [], ◌∷◌, length, get_or, set, Option, Some, None, refl, sym, ap, subst, arith}
-use Rattle.std.specs.Prelude.{leb, max, min, nat_le, nat_lt, IfSome, option_and_then, option_map, ℤ}
+use Rattle.std.proofs.Common.{◌≡◌, ◌≤◌, ◌<◌, ◌-◌, ◌∙◌, ℕ, Bool, true, false, cond, eqb, ltb, List, length, get_or, set, Option, Some, None, refl, sym, subst, arith}
+use Rattle.std.specs.Prelude.{leb, max, min, IfSome, option_and_then, option_map}
 use Rattle.std.proofs.Math.Nat.{le-max_left, min-le_left}
 use Rattle.std.proofs.lemmas.Bool.{eq-eqb, eqb-true, leb-true, ltb-true}
 use Rattle.std.proofs.lemmas.Grind.{get_or-set_at}
 use Rattle.std.proofs.lemmas.List.{get_or-set_other, length-set}
 use Rattle.intervals.specs.Logic.{is_single}
 use Rattle.intervals.specs.Pair.{cut_if_some, high_bytes, low_bytes, normal_form, words_of}
-use Rattle.intervals.specs.Range.{RangeView, between, intersection, without}
+use Rattle.intervals.specs.Range.{RangeView, between, intersection}
 use Rattle.intervals.specs.declared.pair.Pair.{Pair}
 use Rattle.intervals.specs.declared.reg_pair.RegPair.{RegPair}
 use Rattle.intervals.specs.declared.reg_pair.RegPair.TheVariants.{Af, Bc, De, Hl, Ix, Iy}
-use Rattle.linear_limits.specs.Limit.{limit_left, limited, limited_by, reaches_side}
-use Rattle.linear_limits.specs.declared.limiting.SideOfZero.{SideOfZero}
-use Rattle.loop_bounds.specs.Linear.{LinearView}
-use Rattle.loop_bounds.specs.Tighten.{share_left, tightened_from}
-use Rattle.loop_bounds.specs.declared.linear.Term.{Term}
 use Rattle.loop_bounds.specs.declared.variable.Part.{Part}
 use Rattle.loop_bounds.specs.declared.variable.Part.TheVariants.{Word, High, Low}
 use Rattle.loop_bounds.specs.declared.variable.Variable.{Variable}
 use Rattle.loop_bounds.specs.declared.variable.Variable.TheVariants as variables
 use Rattle.stack_shape.specs.declared.slot.Slot.{Slot}
 use Rattle.z80_decode.specs.declared.kinds.Condition.{Condition}
-use Rattle.abs_state.specs.Restricting.{to_range, with_cut_pair}
-use Rattle.abs_state.specs.Variables.{cut_part, cut_slot, cut_to, full_slot, range_of, with_slot}
+use Rattle.abs_state.specs.Restricting.{with_cut_pair}
+use Rattle.abs_state.specs.Variables.{cut_part, cut_slot, cut_to, full_slot, with_slot}
 use Rattle.abs_state.specs.declared.state.AbsState.{AbsState}
 use Rattle.abs_draft.specs.AbsDraft.{last_slot}
-use Rattle.flag_parts.specs.Excluding.{balance, free_terms, is_none, known_value, not_zero, not_zero_by, without_value, without_word}
-use Rattle.flag_parts.specs.Narrowing.{narrowed, narrowed_by, narrowed_by_part, narrowed_if_said, said, zero, zero_by}
-use Rattle.flag_parts.specs.declared.excluding.FreeTerms.{FreeTerms}
-use Rattle.flag_parts.specs.declared.excluding.FreeTerms.TheVariants.{Nothing, One, More}
-use Rattle.flag_parts.specs.declared.narrowing.ZeroTest.{ZeroTest}
-use Rattle.flag_parts.specs.declared.narrowing.ZeroTest.TheVariants.{IsZero, IsNotZero, LiesOn}
+use Rattle.flag_parts.proofs.KeptByCuts.{each_some, kept_by_cuts, on_some, through_some}
+use Rattle.flag_parts.specs.Narrowing.{narrowed}
 use Rattle.flag_letters.specs.declared.part.FlagPart.{FlagPart}
 
 never : (P : Type 0) (b : Bool) → b ≡ true → b ≡ false → P
 never P b e f = absurd (cc)
-
--- ---- options
-
-on_some : {X Y : Type 0} (o : Option X) (f : X → Option Y) (Q : Y → Type 0) → ((x : X) → IfSome (f x) Q) → IfSome (option_and_then f o) Q
-on_some None f Q h = tt
-on_some (Some x) f Q h = h x
-
-through_some : {X Y : Type 0} (o : Option X) (P : X → Type 0) (f : X → Option Y) (Q : Y → Type 0) → IfSome o P → ((x : X) → P x → IfSome (f x) Q) → IfSome (option_and_then f o) Q
-through_some None P f Q p h = tt
-through_some (Some x) P f Q p h = h x p
-
-each_some : {X : Type 0} (o : Option X) (P Q : X → Type 0) → IfSome o P → ((x : X) → P x → Q x) → IfSome o Q
-each_some None P Q p h = tt
-each_some (Some x) P Q p h = h x p
 
 -- ---- a range of one value stays one
 
@@ -99,18 +76,6 @@ same s = record { mode = refl; armed = refl; long = refl; single = λ one. one }
 
 along : (s t u : AbsState) → KeepsStack s t → KeepsStack t u → KeepsStack s u
 along s t u p q = record { mode = q.mode ∙ p.mode; armed = q.armed ∙ p.armed; long = q.long ∙ p.long; single = λ one. q.single (p.single one) }
-
-more : (s t : AbsState) (o : Option AbsState) → KeepsStack s t → IfSome o (KeepsStack t) → IfSome o (KeepsStack s)
-more s t None k h = tt
-more s t (Some u) k h = along s t u k h
-
-if_kept : (b : Bool) (o : Option AbsState) (s : AbsState) → IfSome o (KeepsStack s) → IfSome (cond b o None) (KeepsStack s)
-if_kept true o s h = h
-if_kept false o s h = tt
-
-unless_kept : (b : Bool) (s : AbsState) → IfSome (cond b None (Some s)) (KeepsStack s)
-unless_kept true s = tt
-unless_kept false s = same s
 
 -- ---- cuts
 
@@ -163,51 +128,8 @@ cut_kept s variables.Ix to = pair_kept Ix _ s
 cut_kept s variables.Iy to = pair_kept Iy _ s
 cut_kept s (variables.Slot number part) to = slot_kept s number part to
 
--- a cut, and what keeps the stack after it
-pub cut_through : (o : Option RangeView) (s : AbsState) (v : Variable) (f : AbsState → Option AbsState) → ((t : AbsState) → IfSome (f t) (KeepsStack t)) → IfSome (option_and_then (λ left. option_and_then f (cut_to s v left)) o) (KeepsStack s)
-cut_through o s v f h =
-    on_some o _ (KeepsStack s) (λ left.
-    through_some (cut_to s v left) (KeepsStack s) f (KeepsStack s) (cut_kept s v left) (λ t k. more s t (f t) k (h t)))
-
 pub cut_some : (o : Option RangeView) (s : AbsState) (v : Variable) → IfSome (option_and_then (cut_to s v) o) (KeepsStack s)
 cut_some o s v = on_some o (cut_to s v) (KeepsStack s) (λ left. cut_kept s v left)
 
--- ---- narrowing
-
-tightened_kept : (fact : LinearView) (place : ℕ) (ts : List Term) (s : AbsState) → IfSome (tightened_from range_of cut_to fact place ts s) (KeepsStack s)
-tightened_kept fact place [] s = same s
-tightened_kept fact place (t ∷ ts) s =
-    cut_through (share_left fact (range_of s) place t) s t.variable (tightened_from range_of cut_to fact (place + 1) ts) (tightened_kept fact (place + 1) ts)
-
-limits_kept : (side : SideOfZero) (linear : LinearView) (ts : List Term) (s : AbsState) → IfSome (limited_by range_of cut_to side linear ts s) (KeepsStack s)
-limits_kept side linear [] s = same s
-limits_kept side linear (t ∷ ts) s =
-    cut_through (limit_left side linear (range_of s) t) s t.variable (limited_by range_of cut_to side linear ts) (limits_kept side linear ts)
-
-zero_kept : (ts : List Term) (linear : LinearView) (s : AbsState) → IfSome (zero_by ts linear s) (KeepsStack s)
-zero_kept [] linear s = if_kept (is_none linear.constant) (Some s) s (same s)
-zero_kept (t ∷ ts) linear s = tightened_kept linear 0 linear.terms s
-
-word_kept : (s : AbsState) (v : Variable) (word : Option ℕ) → IfSome (without_word s v word) (KeepsStack s)
-word_kept s v None = same s
-word_kept s v (Some n) = cut_some (without (range_of s v) n) s v
-
-not_zero_kept : (free : FreeTerms) (constant : ℤ) (s : AbsState) → IfSome (not_zero_by free constant s) (KeepsStack s)
-not_zero_kept Nothing constant s = unless_kept (is_none constant) s
-not_zero_kept (One t) constant s = word_kept s t.variable (balance t.coefficient constant)
-not_zero_kept More constant s = same s
-
-by_kept : (what : ZeroTest) (linear : LinearView) (s : AbsState) → IfSome (narrowed_by what linear s) (KeepsStack s)
-by_kept IsZero linear s = zero_kept linear.terms linear s
-by_kept IsNotZero linear s = not_zero_kept (free_terms (range_of s) linear.terms) (known_value (range_of s) linear) s
-by_kept (LiesOn side) linear s = if_kept (reaches_side side linear (range_of s)) (limited_by range_of cut_to side linear linear.terms s) s (limits_kept side linear linear.terms s)
-
-if_said_kept : (what : Option ZeroTest) (linear : LinearView) (s : AbsState) → IfSome (narrowed_if_said what linear s) (KeepsStack s)
-if_said_kept None linear s = same s
-if_said_kept (Some what) linear s = by_kept what linear s
-
 pub narrowed_kept : (condition : Condition) (parts : List FlagPart) (s : AbsState) → IfSome (narrowed condition parts s) (KeepsStack s)
-narrowed_kept condition [] s = same s
-narrowed_kept condition (part ∷ parts) s =
-    through_some (narrowed_by_part condition part s) (KeepsStack s) (narrowed condition parts) (KeepsStack s)
-    (if_said_kept (said part.letter condition) part.linear s) (λ t k. more s t (narrowed condition parts t) k (narrowed_kept condition parts t))
+narrowed_kept condition parts s = kept_by_cuts KeepsStack same along cut_kept condition parts s

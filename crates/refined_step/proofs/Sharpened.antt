@@ -1,5 +1,5 @@
 -- A successor that is cut to the values of a linear effect.
-use Rattle.std.proofs.Common.{◌≡◌, ◌≢◌, ◌≤◌, ◌<◌, ◌∙◌, ℕ, Bool, true, false, cond, eqb, List, [], length, get_or, Option, Some, None, IsSomeAnd, refl, ap, subst, sym, arith, pos, negsuc, ℤ, ◌≤ℤ◌}
+use Rattle.std.proofs.Common.{◌≡◌, ◌≤◌, ◌<◌, ◌∙◌, ℕ, Bool, true, false, cond, eqb, List, get_or, Option, Some, None, IsSomeAnd, refl, ap, subst, sym, arith, pos, negsuc, ℤ, ◌≤ℤ◌}
 use Rattle.std.specs.Prelude.{IfSome, min, option_map, option_and_then}
 use Rattle.std.proofs.Math.Nat.{le-min, min-le_left}
 use Rattle.std.proofs.lemmas.Bool.{eqb-true}
@@ -33,7 +33,7 @@ use Rattle.abs_state.specs.Variables.{cut_to, full_slot, part_range, range_of, v
 use Rattle.abs_state.specs.declared.cell.KeptCell.{KeptCell}
 use Rattle.abs_state.specs.declared.state.AbsState.{AbsState}
 use Rattle.abs_draft.specs.Outcomes.{constant_first, settled, settled_slot}
-use Rattle.abs_laws.specs.Fits.{FollowsChange, IsThere}
+use Rattle.abs_laws.specs.Fits.{FollowsChange}
 use Rattle.abs_step.specs.Contained.{Running, Through, Went, seen_of}
 use Rattle.abs_step.specs.declared.next.Next.{Next}
 use Rattle.refined_step.specs.Sharpening.{to_word, value_range, with_cut_state}
@@ -117,10 +117,15 @@ module _ (cells : List KeptCell) (region : Region) (running : Running) (c : Cont
     moved = w.moved;
   }
 
--- the state that is left holds of a machine whose variable has the value of the linear
-pub cut_holds : (row state : AbsState) (cells kept : List KeptCell) (entry : Entry) (old new : Seen) (v : Variable) (linear : LinearView) → IsRegs old.regs → Holds row cells entry old → IsRegs new.regs → Holds state kept entry new
-    → pos (value_in new v) ≡ value (whole (value_in old)) linear → value_in new v < 65536 → IsSomeAnd (option_and_then (cut_to state v) (value_range (range_of row) linear)) (λ t. Holds t kept entry new)
-cut_holds row state cells kept entry old new v linear i h j k e small =
-    kept_through (value_range (range_of row) linear) (λ r. Within r (value_in new v)) (cut_to state v) (λ t. Holds t kept entry new)
-    (value_within (range_of row) linear (value_in old) (value_in new v) (variable_lies row cells entry old i h) e small)
+-- the state that is left holds of a machine whose variable lies in the range
+pub cut_holds : (state : AbsState) (kept : List KeptCell) (entry : Entry) (new : Seen) (v : Variable) (range : Option RangeView) → IsRegs new.regs → Holds state kept entry new → IsSomeAnd range (λ r. Within r (value_in new v))
+    → IsSomeAnd (option_and_then (cut_to state v) range) (λ t. Holds t kept entry new)
+cut_holds state kept entry new v range j k lies =
+    kept_through range (λ r. Within r (value_in new v)) (cut_to state v) (λ t. Holds t kept entry new) lies
     (λ r within. variable_cut state kept entry new j k v r within)
+
+-- a variable with the value of a linear lies in the range of its values
+pub linear_lies : (row : AbsState) (cells : List KeptCell) (entry : Entry) (old new : Seen) (v : Variable) (linear : LinearView) → IsRegs old.regs → Holds row cells entry old → pos (value_in new v) ≡ value (whole (value_in old)) linear → value_in new v < 65536
+    → IsSomeAnd (value_range (range_of row) linear) (λ r. Within r (value_in new v))
+linear_lies row cells entry old new v linear i h e small =
+    value_within (range_of row) linear (value_in old) (value_in new v) (variable_lies row cells entry old i h) e small

@@ -1,22 +1,26 @@
 // The refined step of a row with flag parts.
-ghost use Rattle.std.specs.Prelude.{◌≡◌, ◌≤◌, length, Ok, Err, Some, IfOk, IfErr};
+ghost use Rattle.std.specs.Prelude.{◌≡◌, ◌≤◌, length, map, option_to_list, Ok, Err, Some, IfOk, IfErr, IfSome};
 ghost use Rattle.board_fetch.specs.Decoded.{StandsAt};
 ghost use Rattle.z80_decode.specs.Spelling.{spelling};
 ghost use Rattle.z80_decode.specs.declared.kinds.Condition.{Condition as ConditionKind};
 ghost use Rattle.abs_step.specs.Successors.{answer_of, nexts_of, writes_of};
+ghost use Rattle.linear_effects.specs.Effects.{HasSlightTerms};
 ghost use Rattle.refined_step.specs.Conditionals.{condition_of, NarrowsSoundly};
 ghost use Rattle.refined_step.specs.Kept.{KeepsRefined};
-ghost use Rattle.refined_step.specs.Refined.{step_conditions, step_effect, sharpened_nexts, refined_nexts, refined_answer};
+ghost use Rattle.refined_step.specs.Refined.{step_conditions, step_effect, step_carried, sharpened_nexts, refined_nexts, refined_answer};
+ghost use Rattle.refined_step.specs.Sharpening.{cut_successor, sharpened};
 
 use crate::conditionals::{condition_of, conditional_nexts};
-use crate::sharpening::sharpen;
+use crate::sharpening::{cut_successor, sharpen};
 use abs_draft::Ground;
 use abs_state::AbsState;
-use abs_step::{DataWrite, Nexts, Reason, RowStep, outcome_next, row_step};
+use abs_step::{DataWrite, Next, Nexts, Reason, RowStep, outcome_next, row_step};
 use flag_conditions::{StepConditions, conditions};
 use flag_letters::FlagParts;
 use flag_parts::known_carry;
-use linear_effects::{LinearEffect, linear_effect};
+use intervals::WordRange;
+use linear_effects::{LinearEffect, carried_range, linear_effect};
+use loop_bounds::Variable;
 use smallvec::SmallVec;
 use std::alloc::Global;
 use z80_decode::Instr;
@@ -34,7 +38,39 @@ pub struct RefinedStep {
     pub linear: Option<LinearEffect>,
 }
 
-/// The successors of a row whose instruction has no condition: with a linear effect its one successor, sharpened.
+/// The successor, if there is one, sharpened by a linear effect.
+fn with_sharpened(
+    alloc: Global,
+    next: Option<Next>,
+    effect: &LinearEffect,
+    state: &AbsState,
+) -> Nexts
+    ensures { result.items ≡ map (sharpened state.now effect.now) (option_to_list next) }
+{
+    let mut nexts = SmallVec::new(alloc);
+    if let Some(next) = next {
+        let mut next = next;
+        sharpen(&mut next, effect, state);
+        nexts.push_reserved(next);
+    }
+    nexts
+}
+
+/// The successor, if there is one, with A cut to a range.
+fn with_cut(alloc: Global, next: Option<Next>, range: WordRange) -> Nexts
+    ensures { result.items ≡ map (cut_successor Variable.A (Some range)) (option_to_list next) }
+{
+    let mut nexts = SmallVec::new(alloc);
+    if let Some(next) = next {
+        let mut next = next;
+        cut_successor(&mut next, Variable::A, range);
+        nexts.push_reserved(next);
+    }
+    nexts
+}
+
+/// The successors of a row whose instruction has no condition: its own, or with a linear effect or a known carry its one
+/// successor, sharpened.
 fn sharpened_nexts(
     alloc: Global,
     ground: &Ground,
@@ -44,6 +80,7 @@ fn sharpened_nexts(
     instr: &Instr,
     len: u8,
     linear: &Option<LinearEffect>,
+    carried: Option<WordRange>,
     state: &AbsState,
     own: Nexts,
 ) -> Nexts
@@ -51,18 +88,21 @@ fn sharpened_nexts(
     requires len { len ≡ length (spelling instr.now) }
     requires own { own.items ≡ nexts_of ground.now address main inline instr.now state.now }
     ensures { result.items
-        ≡ sharpened_nexts ground.now address main inline instr.now linear.now state.now }
+        ≡ sharpened_nexts ground.now address main inline instr.now linear.now carried state.now }
 {
-    let Some(effect) = linear else {
-        return own;
-    };
-    let mut nexts = SmallVec::new(alloc);
-    if let Some(next) = outcome_next(ground, address, main, inline, instr, len, state, false) {
-        let mut next = next;
-        sharpen(&mut next, effect, state);
-        nexts.push_reserved(next);
+    match linear {
+        Some(effect) => {
+            let next = outcome_next(ground, address, main, inline, instr, len, state, false);
+            with_sharpened(alloc, next, effect, state)
+        }
+        None => match carried {
+            Some(range) => {
+                let next = outcome_next(ground, address, main, inline, instr, len, state, false);
+                with_cut(alloc, next, range)
+            }
+            None => own,
+        },
     }
-    nexts
 }
 
 /// The refined successors of a row that is not refused, from its own.
@@ -76,6 +116,7 @@ fn refined_nexts(
     len: u8,
     parts: &FlagParts,
     linear: &Option<LinearEffect>,
+    carried: Option<WordRange>,
     state: &AbsState,
     own: Nexts,
 ) -> Nexts
@@ -83,6 +124,7 @@ fn refined_nexts(
     requires len { len ≡ length (spelling instr.now) }
     requires own { own.items ≡ nexts_of ground.now address main inline instr.now state.now }
     requires linear { linear.now ≡ step_effect ground.now address inline instr.now parts.now state.now }
+    requires carried { carried ≡ step_carried ground.now address inline instr.now parts.now state.now }
     ensures value { result.items
         ≡ refined_nexts ground.now address main inline instr.now parts.now state.now }
     ensures narrows { (condition : ConditionKind) → condition_of instr.now ≡ Some condition
@@ -93,7 +135,7 @@ fn refined_nexts(
             alloc, ground, address, main, inline, instr, len, condition, parts, state,
         ),
         None => sharpened_nexts(
-            alloc, ground, address, main, inline, instr, len, linear, state, own,
+            alloc, ground, address, main, inline, instr, len, linear, carried, state, own,
         ),
     }
 }
@@ -109,12 +151,14 @@ fn refined_answer(
     len: u8,
     parts: &FlagParts,
     linear: &Option<LinearEffect>,
+    carried: Option<WordRange>,
     state: &AbsState,
     answer: Result<Nexts, Reason>,
 ) -> Result<Nexts, Reason>
     requires cells { length ground.now.cells ≤ 256 }
     requires len { len ≡ length (spelling instr.now) }
     requires linear { linear.now ≡ step_effect ground.now address inline instr.now parts.now state.now }
+    requires carried { carried ≡ step_carried ground.now address inline instr.now parts.now state.now }
     requires ok { IfOk answer (λ nexts.
         answer_of ground.now address main inline state.now (Ok instr.now) ≡ Ok nexts.items) }
     requires err { IfErr answer (λ reason.
@@ -130,7 +174,7 @@ fn refined_answer(
 {
     match answer {
         Ok(own) => Ok(refined_nexts(
-            alloc, ground, address, main, inline, instr, len, parts, linear, state, own,
+            alloc, ground, address, main, inline, instr, len, parts, linear, carried, state, own,
         )),
         Err(reason) => Err(reason),
     }
@@ -142,11 +186,12 @@ fn refined_answer(
 ///
 /// At JP cc, JR cc, CALL cc and RET cc there is a successor for each outcome of the condition, from the state that the
 /// parts leave there, and none where they leave nothing. A step with a linear effect has its successor cut to the values
-/// of the linear. All other successors are those of `row_step`, and so are data writes and reasons
-/// (docs/CHECKER.md, "The refined step").
+/// of the linear, and ADC and SBC with a known carry have A cut to the results with that carry. All other successors are
+/// those of `row_step`, and so are data writes and reasons (docs/CHECKER.md, "The refined step").
 ///
 /// On every board of which the row and its parts hold, if no reason that the certificate decides applies to the row, the
-/// instruction does what one of these successors says, and the conditions and the linear effect are true.
+/// instruction does what one of these successors says, and the conditions and the linear effect are true. The linear has
+/// coefficients up to 256 in size.
 pub fn refined_step(
     alloc: Global,
     ground: &Ground,
@@ -165,6 +210,7 @@ pub fn refined_step(
         ≡ step_conditions ground.now address inline instr.now parts.now state.now }
     ensures linear { result.linear
         ≡ step_effect ground.now address inline instr.now parts.now state.now }
+    ensures slight { IfSome result.linear HasSlightTerms }
     ensures ok { IfOk result.answer (λ nexts.
         refined_answer ground.now address main inline instr.now parts.now state.now ≡ Ok nexts.items) }
     ensures err { IfErr result.answer (λ reason.
@@ -181,8 +227,9 @@ pub fn refined_step(
     let carry = known_carry(parts, state);
     let found = conditions(instr, operand, parts, carry);
     let linear = linear_effect(instr, &state.pairs, operand, carry);
+    let carried = carried_range(instr, &state.pairs, operand, carry);
     let refined = refined_answer(
-        alloc, ground, address, main, inline, instr, len, parts, &linear, state, answer,
+        alloc, ground, address, main, inline, instr, len, parts, &linear, carried, state, answer,
     );
     RefinedStep {
         writes,
