@@ -120,6 +120,7 @@ module _ (s : SourceView) (x y : Valuation) (t : IsTrueSource s x y) where
       part_true c Word h k = or_true c.word _ _ h k
       part_true c High h k = or_true c.high _ _ h k
       part_true c Low h k = or_true c.low _ _ h k
+
       slot_true : (slot : Option SlotChange) (number : ℕ) (part : Part) → changed (slot_change slot number part) x (pos (y (variables.Slot number part))) ≡ pos (y (variables.Slot number part)) → changed (change_of s.settled (variables.Slot number part)) x (pos (y (variables.Slot number part))) ≡ pos (y (variables.Slot number part)) → changed (slot_change (slot_or slot s.settled) number part) x (pos (y (variables.Slot number part))) ≡ pos (y (variables.Slot number part))
       slot_true None number part h k = h
       slot_true (Some c) number part h k = elim (cases_Bool (eqb c.number number)) [
@@ -165,9 +166,9 @@ told_at : (letter : Letter) (flags : Flags) (m n : ℤ) (Tells : Bool → Type 0
     (IsTrue (flag_of letter flags) ↔ IsSetAt letter m) → IsTrue (flag_of letter flags) ↔ IsSetAt letter n
 told_at Zero flags m n Tells same (inl h) held = subst (λ (k : ℤ). IsTrue (flag_of Zero flags) ↔ IsSetAt Zero k) (sym (same false h)) held
 told_at Zero flags m n Tells same (inr h) held = let e = same true h in (
-    (λ f. let z : m ≡ pos 0 = held.0 f in let w : n ≡ pos 0 = omega (arith, ints, e, z) in w),
-    λ w. held.1 (let q : n ≡ pos 0 = w in let z : m ≡ pos 0 = omega (arith, ints, e, q) in z),
-  )
+  (λ f. let z : m ≡ pos 0 = held.0 f in let w : n ≡ pos 0 = omega (arith, ints, e, z) in w),
+  λ w. held.1 (let q : n ≡ pos 0 = w in let z : m ≡ pos 0 = omega (arith, ints, e, q) in z),
+)
 told_at ZeroIfBelow flags m n Tells same h held = subst (λ (k : ℤ). IsTrue (flag_of ZeroIfBelow flags) ↔ IsSetAt ZeroIfBelow k) (sym (same false h)) held
 told_at CarryIfBelow flags m n Tells same h held = subst (λ (k : ℤ). IsTrue (flag_of CarryIfBelow flags) ↔ IsSetAt CarryIfBelow k) (sym (same false h)) held
 told_at SignIfBelow flags m n Tells same h held = subst (λ (k : ℤ). IsTrue (flag_of SignIfBelow flags) ↔ IsSetAt SignIfBelow k) (sym (same false h)) held

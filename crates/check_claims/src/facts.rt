@@ -14,12 +14,7 @@ use linear_effects::LinearEffect;
 use loop_bounds::{Effect, Linear};
 
 /// Whether a fact, rewritten, is 0 by the facts of the row before the step.
-fn becomes_zero(
-    facts: &[Linear],
-    before: &AbsState,
-    rewriting: &Rewriting,
-    fact: &Linear,
-) -> bool
+fn becomes_zero(facts: &[Linear], before: &AbsState, rewriting: &Rewriting, fact: &Linear) -> bool
     requires { IsSlight rewriting.now.change }
     ensures { IsTrue result ↔ BecomesZero facts.now (range_of before.now) rewriting.now fact.now }
 {
@@ -48,7 +43,12 @@ fn becomes_zero_either_way(
     if are_same(settled, moved, linear) {
         return false;
     }
-    becomes_zero(facts, before, &variables_first(settled, moved, linear), fact)
+    becomes_zero(
+        facts,
+        before,
+        &variables_first(settled, moved, linear),
+        fact,
+    )
 }
 
 impl<'f, 'b, 's, 'm, 'l, 'c> Source<'f, 'b, 's, 'm, 'l, 'c> {
@@ -58,7 +58,12 @@ impl<'f, 'b, 's, 'm, 'l, 'c> Source<'f, 'b, 's, 'm, 'l, 'c> {
         ensures true_after { IsTrue result → FactLaw self.now fact.now }
     {
         becomes_zero_either_way(
-            self.facts, self.before, self.settled, self.moved, self.linear, fact,
+            self.facts,
+            self.before,
+            self.settled,
+            self.moved,
+            self.linear,
+            fact,
         )
     }
     /// Whether each of the facts is.

@@ -11,4 +11,5 @@ mod telling;
 mod zeros;
 
 pub use laws::seen_steps_are_true;
+pub use rewritings::{Rewriting, constants_first, variables_first};
 pub use source::Source;

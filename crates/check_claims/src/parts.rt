@@ -29,13 +29,27 @@ fn is_conveyed_before(
     if condition.letter != part.letter {
         return false;
     }
-    if tells_before(facts, before, rewriting, &part.linear, false, &condition.linear) {
+    if tells_before(
+        facts,
+        before,
+        rewriting,
+        &part.linear,
+        false,
+        &condition.linear,
+    ) {
         return true;
     }
     if part.letter != Letter::Zero {
         return false;
     }
-    tells_before(facts, before, rewriting, &part.linear, true, &condition.linear)
+    tells_before(
+        facts,
+        before,
+        rewriting,
+        &part.linear,
+        true,
+        &condition.linear,
+    )
 }
 
 /// Whether a condition over the variables after the step says what the part says, by the ranges after it.
@@ -70,13 +84,27 @@ fn is_conveyed_back(
     if condition.letter != part.letter {
         return false;
     }
-    if tells_back(facts, before, rewriting, &part.linear, false, &condition.linear) {
+    if tells_back(
+        facts,
+        before,
+        rewriting,
+        &part.linear,
+        false,
+        &condition.linear,
+    ) {
         return true;
     }
     if part.letter != Letter::Zero {
         return false;
     }
-    tells_back(facts, before, rewriting, &part.linear, true, &condition.linear)
+    tells_back(
+        facts,
+        before,
+        rewriting,
+        &part.linear,
+        true,
+        &condition.linear,
+    )
 }
 
 /// Whether one of the conditions over the variables before the step says what the part says.
@@ -146,13 +174,25 @@ fn is_told_before_either_way(
         ↔ (IsToldBefore facts.now (range_of before.now) (constants_first settled.now linear.now) part.now conditions.now
         ⊎ IsToldBefore facts.now (range_of before.now) (variables_first settled.now moved.now linear.now) part.now conditions.now) }
 {
-    if is_told_before(facts, before, &constants_first(settled, linear), part, conditions) {
+    if is_told_before(
+        facts,
+        before,
+        &constants_first(settled, linear),
+        part,
+        conditions,
+    ) {
         return true;
     }
     if are_same(settled, moved, linear) {
         return false;
     }
-    is_told_before(facts, before, &variables_first(settled, moved, linear), part, conditions)
+    is_told_before(
+        facts,
+        before,
+        &variables_first(settled, moved, linear),
+        part,
+        conditions,
+    )
 }
 
 /// Whether a condition after tells the part, by the ranges after the step or with variables first.
@@ -173,7 +213,13 @@ fn is_told_after_either_way(
     if is_told_after(after, part, conditions) {
         return true;
     }
-    is_told_back(facts, before, &variables_first(settled, moved, linear), part, conditions)
+    is_told_back(
+        facts,
+        before,
+        &variables_first(settled, moved, linear),
+        part,
+        conditions,
+    )
 }
 
 impl<'f, 'b, 's, 'm, 'l, 'c> Source<'f, 'b, 's, 'm, 'l, 'c> {
@@ -183,13 +229,24 @@ impl<'f, 'b, 's, 'm, 'l, 'c> Source<'f, 'b, 's, 'm, 'l, 'c> {
         ensures true_after { IsTrue result → PartLaw self.now after.now part.now }
     {
         if is_told_before_either_way(
-            self.facts, self.before, self.settled, self.moved, self.linear, part,
+            self.facts,
+            self.before,
+            self.settled,
+            self.moved,
+            self.linear,
+            part,
             self.conditions.before(),
         ) {
             return true;
         }
         is_told_after_either_way(
-            self.facts, self.before, self.settled, self.moved, self.linear, after, part,
+            self.facts,
+            self.before,
+            self.settled,
+            self.moved,
+            self.linear,
+            after,
+            part,
             self.conditions.after(),
         )
     }

@@ -11,7 +11,7 @@ use loop_bounds::{Change, Effect, Linear, Part, SlotChange, Variable};
 
 /// What a step leaves in the variables: an effect, and perhaps a linear, which has priority for its variable.
 #[derive(Clone, Copy)]
-pub(crate) struct Rewriting {
+pub struct Rewriting {
     pub effect: Effect,
     pub change: Option<LinearChange>,
 }
@@ -105,7 +105,7 @@ fn effect_or(effect: &Effect, other: &Effect) -> Effect
 }
 
 /// Constants have priority, then the linear, then variables.
-pub(crate) fn constants_first(settled: &Effect, linear: &Option<LinearEffect>) -> Rewriting
+pub fn constants_first(settled: &Effect, linear: &Option<LinearEffect>) -> Rewriting
     ensures exact { result ≡ constants_first settled.now linear.now }
     ensures slight { IsSlight result.change }
 {
@@ -116,11 +116,7 @@ pub(crate) fn constants_first(settled: &Effect, linear: &Option<LinearEffect>) -
 }
 
 /// The linear has priority, then variables, then constants.
-pub(crate) fn variables_first(
-    settled: &Effect,
-    moved: &Effect,
-    linear: &Option<LinearEffect>,
-) -> Rewriting
+pub fn variables_first(settled: &Effect, moved: &Effect, linear: &Option<LinearEffect>) -> Rewriting
     ensures exact { result ≡ variables_first settled.now moved.now linear.now }
     ensures slight { IsSlight result.change }
 {

@@ -24,7 +24,7 @@ use Rattle.cert_lines.specs.declared.proc.Proc.{Proc}
 use Rattle.cert_lines.specs.declared.proc.ProcKind.{ProcKind}
 use Rattle.cert_lines.specs.declared.proc.ProcKind.TheVariants.{Main, Nmi, Sub}
 use Rattle.check_ways.specs.Pays.{Pays}
-use Rattle.check_ways.specs.Ways.{CallsCallee, GoesOn, SubjectView, nexts_from, step_of, writes_from}
+use Rattle.check_ways.specs.Ways.{CallsCallee, GoesOn, SubjectView, nexts_from, restarts, step_of, writes_from}
 use Rattle.nmi_saves.specs.Lost.{IsFirstLost}
 use Rattle.board_laws.specs.Uses.{sets_sp}
 use Rattle.z80_decode.specs.declared.instr.Instr.{Instr}
@@ -80,9 +80,9 @@ pub record FitsDepth (s : SubjectView) : Type 0 where
 abbrev pub RanksFall : SubjectView → Type 0
 RanksFall s = (next : Next) (callee : Callee) → CallsCallee s next callee → callee.proc.rank < s.proc.rank
 
--- an instruction that sets SP is main's LD SP,nn with the region's top
+-- an instruction that sets SP is main's LD SP,nn with the region's top, or a restart
 abbrev pub SetsTopAlone : SubjectView → Type 0
-SetsTopAlone s = (instr : Instr) → s.decoded ≡ Ok instr → sets_sp instr ≡ true → SetsTop (is_main s.row.proc) s.cert.region instr
+SetsTopAlone s = (instr : Instr) → s.decoded ≡ Ok instr → sets_sp instr ≡ true → SetsTop (is_main s.row.proc) s.cert.region instr ⊎ (restarts s ≡ true)
 
 -- ---- the NMI
 

@@ -45,13 +45,15 @@ fn never_halts(subject: &Subject) -> bool
     !is_timed(&subject.proc) || !matches!(subject.decoded, Ok(Instr::Halt))
 }
 
-/// Whether the instruction does not set SP, or is main's LD SP,nn with the region's top.
+/// Whether the instruction does not set SP, or is main's LD SP,nn with the region's top, or a restart.
 fn sets_top_alone(subject: &Subject) -> bool
     ensures { IsTrue result ↔ Passes subject.now Reason.SpWrite }
 {
     match &subject.decoded {
         Ok(instr) => {
-            !sets_sp(instr) || sets_top(subject.row.proc == 0, subject.certificate.region(), instr)
+            !sets_sp(instr)
+                || sets_top(subject.row.proc == 0, subject.certificate.region(), instr)
+                || subject.restarts()
         }
         Err(_) => true,
     }

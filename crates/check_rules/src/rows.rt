@@ -2,16 +2,17 @@
 
 ghost use Rattle.std.specs.Prelude.{◌≡◌, OnOk, IfErr, Ok, Err};
 ghost use Rattle.check_rules.specs.Table.{IsConsistent, IsLowest, PassesBelow, TellsLowest};
-ghost use Rattle.check_ways.specs.Ways.{step_of, writes_from};
+ghost use Rattle.cert_lines.specs.declared.version.Version.TheVariants.{Three};
+ghost use Rattle.check_ways.specs.Ways.{step_of, told_of, writes_from};
 
 use crate::instructions::{check_instruction, is_timed};
 use crate::saved::check_saved;
 use crate::stack::{fits_depth, ranks_fall, row_fits_depth};
 use crate::writes::{check_cells, check_enabling, check_places};
 use abs_draft::DataWrite;
-use abs_step::{Next, Reason, RowStep};
+use abs_step::{Next, Reason};
 use check_cover::Coverer;
-use check_ways::{Subject, goes_on, pays};
+use check_ways::{StepTold, Subject, SubjectStep, goes_on, pays};
 use std::alloc::Global;
 
 /// Judges a row by the table of reasons (docs/CHECKER.md, "The table of reasons"). The coverer searches the rows of the
@@ -26,9 +27,13 @@ pub fn check_row(alloc: Global, subject: &Subject, coverer: &mut Coverer) -> Res
     ensures err { IfErr result (λ reason. IsLowest subject.now reason) }
     ensures same { coverer.new ≡ coverer.old }
 {
-    let RowStep { writes, answer, .. } = subject.row_step(alloc);
+    let SubjectStep {
+        writes,
+        answer,
+        told,
+    } = subject.row_step(alloc);
     match answer {
-        Ok(nexts) => check_going(subject, writes.as_slice(), nexts.as_slice(), coverer),
+        Ok(nexts) => check_going(subject, writes.as_slice(), nexts.as_slice(), &told, coverer),
         Err(refusal) => Err(lowest_of_refused(subject, writes.as_slice(), refusal)),
     }
 }
@@ -57,8 +62,10 @@ fn check_going(
     subject: &Subject,
     writes: &[DataWrite],
     nexts: &[Next],
+    told: &StepTold,
     coverer: &mut Coverer,
 ) -> Result<(), Reason>
+    requires told { subject.now.cert.version ≡ Three → told.now ≡ told_of subject.now subject.now.decoded }
     requires step { step_of subject.now ≡ Ok nexts.now }
     requires writes { writes.now ≡ writes_from subject.now }
     requires coverer { coverer.old ≡ subject.now.cert }
@@ -66,16 +73,22 @@ fn check_going(
     ensures same { coverer.new ≡ coverer.old }
 {
     check_places(subject, writes)?;
-    check_ways(subject, nexts, coverer)?;
+    check_ways(subject, nexts, told, coverer)?;
     check_saved(subject, nexts)?;
     check_enabling(subject, writes)?;
-    check_time(subject, nexts)?;
+    check_time(subject, nexts, told)?;
     check_instruction(subject)?;
     check_cells(subject, writes)
 }
 
 /// Reasons 11, 12 and 13: the depth, the covering of successors, and the ranks of callees.
-fn check_ways(subject: &Subject, nexts: &[Next], coverer: &mut Coverer) -> Result<(), Reason>
+fn check_ways(
+    subject: &Subject,
+    nexts: &[Next],
+    told: &StepTold,
+    coverer: &mut Coverer,
+) -> Result<(), Reason>
+    requires told { subject.now.cert.version ≡ Three → told.now ≡ told_of subject.now subject.now.decoded }
     requires step { step_of subject.now ≡ Ok nexts.now }
     requires coverer { coverer.old ≡ subject.now.cert }
     requires below { PassesBelow subject.now 9 }
@@ -85,7 +98,7 @@ fn check_ways(subject: &Subject, nexts: &[Next], coverer: &mut Coverer) -> Resul
     if !fits_depth(subject, nexts) {
         return Err(Reason::StackDepth);
     }
-    if !goes_on(subject, nexts, coverer) {
+    if !goes_on(subject, nexts, told, coverer) {
         return Err(Reason::NotCovered);
     }
     if !ranks_fall(subject, nexts) {
@@ -95,12 +108,13 @@ fn check_ways(subject: &Subject, nexts: &[Next], coverer: &mut Coverer) -> Resul
 }
 
 /// Reason 17: a row of a timed procedure has to pay.
-fn check_time(subject: &Subject, nexts: &[Next]) -> Result<(), Reason>
+fn check_time(subject: &Subject, nexts: &[Next], told: &StepTold) -> Result<(), Reason>
+    requires told { subject.now.cert.version ≡ Three → told.now ≡ told_of subject.now subject.now.decoded }
     requires step { step_of subject.now ≡ Ok nexts.now }
     requires below { PassesBelow subject.now 17 }
     ensures { TellsLowest subject.now 19 result }
 {
-    if is_timed(&subject.proc) && !pays(subject, nexts) {
+    if is_timed(&subject.proc) && !pays(subject, nexts, told) {
         return Err(Reason::Time);
     }
     Ok(())

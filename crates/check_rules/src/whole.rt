@@ -11,8 +11,9 @@ ghost use Rattle.check_rules.specs.Acceptance.{CoversEntries, EntryFails, FitsRo
 use abs_state::{AbsState, KeptCell};
 use address_map::{Map, Region, Rom};
 use cert_contents::Certificate;
-use cert_lines::{Proc, WORK_LEN};
-use check_cover::{Arrival, Coverer};
+use cert_lines::{Proc, Version, WORK_LEN};
+use check_cover::{Arrival, Coverer, Refinement};
+use flag_conditions::StepConditions;
 use loop_bounds::Effect;
 use t_states::MAX_BUDGET;
 use z80_moves::NMI_ADDRESS;
@@ -72,7 +73,7 @@ fn main_is_covered(coverer: &mut Coverer) -> bool
     ensures exact { IsTrue result ↔ CoversMain coverer.old }
     ensures same { coverer.new ≡ coverer.old }
 {
-    entry_is_covered(coverer, 0, 0, &AbsState::of_main())
+    entry_is_covered(coverer, certificate.version(), 0, 0, &AbsState::of_main())
 }
 
 /// Whether the state at the entry of the NMI routine is covered.
@@ -84,21 +85,38 @@ fn nmi_is_covered(certificate: &Certificate, coverer: &mut Coverer) -> bool
     // By the form, there are at most 256 cells.
     certificate.is_in_form();
     let cells = certificate.cells().len() as u16;
-    entry_is_covered(coverer, 1, NMI_ADDRESS, &AbsState::of_nmi(cells))
+    let state = AbsState::of_nmi(cells);
+    entry_is_covered(coverer, certificate.version(), 1, NMI_ADDRESS, &state)
 }
 
 /// Whether a state is covered at an entry; no row is before it.
-fn entry_is_covered(coverer: &mut Coverer, proc: u16, address: u16, state: &AbsState) -> bool
+fn entry_is_covered(
+    coverer: &mut Coverer,
+    version: Version,
+    proc: u16,
+    address: u16,
+    state: &AbsState,
+) -> bool
     ensures exact { IsTrue result
-        ↔ Covered coverer.old (first_arrival proc address state.now) state.now }
+        ↔ Covered coverer.old (first_arrival version proc address state.now) state.now }
     ensures same { coverer.new ≡ coverer.old }
 {
+    let unchanged = Effect::unchanged();
+    let conditions = StepConditions::none();
     let arrival = Arrival {
         proc,
         address,
         facts: &[],
         before: state,
-        effect: &Effect::unchanged(),
+        effect: &unchanged,
+        refined: match version {
+            Version::One | Version::Two => None,
+            Version::Three => Some(Refinement {
+                moved: &unchanged,
+                linear: &None,
+                conditions: &conditions,
+            }),
+        },
     };
     coverer.covers(&arrival, state)
 }

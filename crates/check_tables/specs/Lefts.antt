@@ -70,7 +70,7 @@ pub record IsLeftAt (rom : List ℕ) (cert : CertificateView) (number : ℕ) (le
   pub decoded : Result Instr DecodeFault
   pub stands : StandsAt rom row.address decoded
   pub exit : AbsState
-  pub leaves : exit_by (is_main row.proc) row.state decoded ≡ Some exit
+  pub leaves : exit_by (is_main row.proc) row.parts row.state decoded ≡ Some exit
   pub is : left ≡ left_of exit
 
 -- the exit of some row of a procedure leaves this

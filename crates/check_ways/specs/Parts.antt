@@ -121,11 +121,11 @@ NextGoesOn cert s next = KindGoesOn cert s next next.kind
 
 -- a row pays for a way, to each row that is asked where it arrives
 pub record PaysWay (s : SubjectView) (way : WayView) : Type 0 where
-  pub each : (target : Row) → Lands s.cert way target → PaysTo s.row way.cost way.arrival.effect target
+  pub each : (target : Row) → Lands s.cert way target → PaysTo s.row way.cost way.arrival target
 
 -- a row pays for a way to the row with this number, if that row is asked
 pub record PaysToRow (s : SubjectView) (way : WayView) (number : ℕ) : Type 0 where
-  pub asked : (row : Row) → slice_get s.cert.rows number ≡ Some row → IsAsked s.cert way row → PaysTo s.row way.cost way.arrival.effect row
+  pub asked : (row : Row) → slice_get s.cert.rows number ≡ Some row → IsAsked s.cert way row → PaysTo s.row way.cost way.arrival row
 
 -- exactly the rows at an address have these numbers
 abbrev pub AreNumbersAt : CertificateView → ArrivalView → ℕ → ℕ → Type 0
@@ -144,11 +144,11 @@ PaysNumber row cost top = Decreases (potential_of row) top cost unchanged (range
 
 -- a row pays the cost to each row with these numbers, by any effect
 pub record PaysAll (s : SubjectView) (start end cost : ℕ) : Type 0 where
-  pub each : (k : ℕ) (target : Row) (effect : Effect) → start ≤ k → k < end → slice_get s.cert.rows k ≡ Some target → PaysTo s.row cost effect target
+  pub each : (k : ℕ) (target : Row) (a : ArrivalView) → start ≤ k → k < end → slice_get s.cert.rows k ≡ Some target → PaysTo s.row cost a target
 
 -- a row pays the cost to each row at an address of a procedure, by any effect
 pub record PaysPlace (s : SubjectView) (proc address cost : ℕ) : Type 0 where
-  pub each : (target : Row) (effect : Effect) → IsRowAt s.cert proc address target → PaysTo s.row cost effect target
+  pub each : (target : Row) (a : ArrivalView) → IsRowAt s.cert proc address target → PaysTo s.row cost a target
 
 -- a row pays for the way back from a call, from this exit of its callee
 abbrev pub PaysReturn : SubjectView → Next → Callee → AbsState → Type 0

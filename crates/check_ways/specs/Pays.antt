@@ -5,7 +5,9 @@ use Rattle.abs_state.specs.Variables.{range_of}
 use Rattle.abs_state.specs.declared.state.AbsState.{AbsState}
 use Rattle.abs_step.specs.declared.next.Next.{Next}
 use Rattle.abs_step.specs.declared.next.NextKind.TheVariants.{Exit}
+use Rattle.check_cover.specs.Arrival.{ArrivalView, RefinementView}
 use Rattle.check_cover.specs.Program.{IsRowAt, split_at}
+use Rattle.check_payments.specs.Paying.{PaysEitherWay}
 use Rattle.check_cover.specs.declared.program.Callee.{Callee}
 use Rattle.cert_lines.specs.declared.proc.Proc.{Proc}
 use Rattle.cert_lines.specs.declared.proc.ProcKind.{ProcKind}
@@ -52,9 +54,16 @@ pub record LeadsToRow (s : SubjectView) (way : WayView) (target : Row) : Type 0 
 
 -- ---- paying
 
--- over its ranges a row's potential pays the cost and leaves another row's potential, rewritten by the effect
-abbrev pub PaysTo : Row → ℕ → Effect → Row → Type 0
-PaysTo row cost effect target = Decreases (potential_of row) (potential_of target) cost effect (range_of row.state) (range_of target.state)
+-- over its ranges a row's potential pays the cost and leaves another row's potential, rewritten by the effect; in
+-- version 3 rewritten with constants first or with variables first
+abbrev pub PaysBy : Row → ℕ → Effect → Option RefinementView → Row → Type 0
+PaysBy row cost effect None target = Decreases (potential_of row) (potential_of target) cost effect (range_of row.state) (range_of target.state)
+PaysBy row cost effect (Some r) target =
+    PaysEitherWay (potential_of row) (potential_of target) cost effect r.moved r.linear (range_of row.state) (range_of target.state)
+
+-- the same for a way that arrives so
+abbrev pub PaysTo : Row → ℕ → ArrivalView → Row → Type 0
+PaysTo row cost a target = PaysBy row cost a.effect a.refined target
 
 -- over its ranges a row's potential pays the cost
 abbrev pub PaysOut : Row → ℕ → Type 0
@@ -78,7 +87,7 @@ IsWithinTime proc row = Decreases (constant_sum (unwrap_or proc.time 0)) (potent
 -- a row of a timed procedure pays
 pub record Pays (s : SubjectView) : Type 0 where
   pub owns : IsSome s.row.potential
-  pub ways : (way : WayView) (target : Row) → LeadsToRow s way target → PaysTo s.row way.cost way.arrival.effect target
+  pub ways : (way : WayView) (target : Row) → LeadsToRow s way target → PaysTo s.row way.cost way.arrival target
   pub calls : (next : Next) (callee : Callee) → CallsCallee s next callee → PaysCall s next callee
   pub exits : (next : Next) → Contains (nexts_from s) next → next.kind ≡ Exit → PaysOut s.row next.cost
   pub entry : s.row.address ≡ s.proc.entry → IsWithinTime s.proc s.row

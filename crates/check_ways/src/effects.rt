@@ -1,9 +1,10 @@
 // The effect of a call together with the run of its callee.
 
 ghost use Rattle.std.specs.Prelude.{◌≡◌};
-ghost use Rattle.check_ways.specs.Ways.{effect_of_call, returned_change};
+ghost use Rattle.check_ways.specs.Ways.{effect_back, effect_by_origins, effect_of_call, high_from, low_from, returned_change, word_from};
 
 use abs_state::AbsState;
+use cert_lines::Version;
 use intervals::RegPair;
 use loop_bounds::{Change, Effect};
 
@@ -46,5 +47,79 @@ fn returned_change(pair: RegPair, origin: Option<RegPair>, change: Change) -> Ch
         | (RegPair::Ix, Some(RegPair::Ix))
         | (RegPair::Iy, Some(RegPair::Iy)) => change,
         _ => Change::Unknown,
+    }
+}
+
+/// The change of the word of a pair in a call; unknown without an origin, and for a pair that is no variable.
+fn word_from(effect: &Effect, origin: Option<RegPair>) -> Change
+    ensures { result ≡ word_from effect.now origin }
+{
+    match origin {
+        Some(RegPair::Bc) => effect.bc,
+        Some(RegPair::De) => effect.de,
+        Some(RegPair::Hl) => effect.hl,
+        Some(RegPair::Ix) => effect.ix,
+        Some(RegPair::Iy) => effect.iy,
+        _ => Change::Unknown,
+    }
+}
+
+/// The same for its high byte.
+fn high_from(effect: &Effect, origin: Option<RegPair>) -> Change
+    ensures { result ≡ high_from effect.now origin }
+{
+    match origin {
+        Some(RegPair::Af) => effect.a,
+        Some(RegPair::Bc) => effect.b,
+        Some(RegPair::De) => effect.d,
+        Some(RegPair::Hl) => effect.h,
+        _ => Change::Unknown,
+    }
+}
+
+/// The same for its low byte.
+fn low_from(effect: &Effect, origin: Option<RegPair>) -> Change
+    ensures { result ≡ low_from effect.now origin }
+{
+    match origin {
+        Some(RegPair::Bc) => effect.c,
+        Some(RegPair::De) => effect.e,
+        Some(RegPair::Hl) => effect.l,
+        _ => Change::Unknown,
+    }
+}
+
+/// The effect of a call with the callee's run in version 3: a pair has the effect of its origin at the exit.
+fn effect_by_origins(effect: &Effect, exit: &AbsState) -> Effect
+    ensures { result ≡ effect_by_origins effect.now exit.now }
+{
+    let pairs = &exit.pairs;
+    let bc = pairs.bc.origin;
+    let de = pairs.de.origin;
+    let hl = pairs.hl.origin;
+    Effect {
+        a: high_from(effect, pairs.af.origin),
+        b: high_from(effect, bc),
+        c: low_from(effect, bc),
+        d: high_from(effect, de),
+        e: low_from(effect, de),
+        h: high_from(effect, hl),
+        l: low_from(effect, hl),
+        bc: word_from(effect, bc),
+        de: word_from(effect, de),
+        hl: word_from(effect, hl),
+        ix: word_from(effect, pairs.ix.origin),
+        iy: word_from(effect, pairs.iy.origin),
+        slot: effect.slot,
+    }
+}
+
+/// The effect of a call with the callee's run, by version.
+pub fn effect_back(version: Version, effect: &Effect, exit: &AbsState) -> Effect
+    ensures { result ≡ effect_back version effect.now exit.now }
+{
+    match version {
+        Version::One | Version::Two => effect_of_call(effect, exit),
+        Version::Three => effect_by_origins(effect, exit),
     }
 }

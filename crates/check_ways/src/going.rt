@@ -6,10 +6,12 @@ ghost use Rattle.abs_state.specs.Entries.{callee_entry};
 ghost use Rattle.check_cover.specs.Covering.{Covered};
 ghost use Rattle.check_cover.specs.Program.{callee_at};
 ghost use Rattle.check_ways.specs.Parts.{AtEachExit, CallGoesOn, IsCoveredWay, NextGoesOn, OnEachExit, OnEachLeft, ReturnCovered, WideCovered};
-ghost use Rattle.check_ways.specs.Ways.{GoesOn, arrival_at_entry, jump_way, step_of};
+ghost use Rattle.cert_lines.specs.declared.version.Version.TheVariants.{Three};
+ghost use Rattle.check_ways.specs.Ways.{GoesOn, arrival_at_entry, jump_way, step_of, told_of};
 
-use crate::effects::effect_of_call;
+use crate::effects::effect_back;
 use crate::subject::Subject;
+use crate::told::StepTold;
 use abs_draft::settled;
 use abs_state::AbsState;
 use abs_step::{Next, NextKind};
@@ -18,12 +20,19 @@ use check_cover::{Callee, Coverer, callee_at};
 use check_tables::{Left, ProcExits};
 
 /// Whether a jump arrives in a covered state.
-fn jump_is_covered(subject: &Subject, next: &Next, coverer: &mut Coverer) -> bool
+fn jump_is_covered(subject: &Subject, next: &Next, told: &StepTold, coverer: &mut Coverer) -> bool
+    requires { subject.now.cert.version ≡ Three → told.now ≡ told_of subject.now subject.now.decoded }
     ensures exact { IsTrue result ↔ IsCoveredWay coverer.old (jump_way subject.now next.now) }
     ensures same { coverer.new ≡ coverer.old }
 {
-    let arrival = subject.arrival_at(subject.row.proc, next.address, &next.effect);
-    coverer.covers(&arrival, &next.state)
+    let arrival = subject.arrival_at(
+        subject.proc_after(),
+        next.address,
+        &next.effect,
+        &next.moved,
+        told,
+    );
+    coverer.covers(&arrival, &subject.state_after(next))
 }
 
 /// Whether a call enters its callee in a covered state.
@@ -33,7 +42,13 @@ fn entry_is_covered(subject: &Subject, next: &Next, callee: &Callee, coverer: &m
         (callee_entry next.now.state) }
     ensures same { coverer.new ≡ coverer.old }
 {
-    let arrival = subject.arrival_at(callee.number, next.address, &next.effect);
+    let arrival = subject.arrival_at(
+        callee.number,
+        next.address,
+        &next.effect,
+        &next.moved,
+        subject.untold(),
+    );
     coverer.covers(&arrival, &next.state.callee())
 }
 
@@ -50,8 +65,16 @@ fn return_is_covered(
     ensures same { coverer.new ≡ coverer.old }
 {
     let after = next.state.after_call(exit);
-    let effect = settled(&effect_of_call(&next.effect, exit), &after);
-    let arrival = subject.arrival_at(subject.row.proc, subject.behind, &effect);
+    let version = subject.certificate.version();
+    let effect = settled(&effect_back(version, &next.effect, exit), &after);
+    let moved = effect_back(version, &next.moved, exit);
+    let arrival = subject.arrival_at(
+        subject.row.proc,
+        subject.behind,
+        &effect,
+        &moved,
+        subject.untold(),
+    );
     coverer.covers(&arrival, &after)
 }
 
@@ -163,39 +186,43 @@ fn call_goes_on(subject: &Subject, next: &Next, coverer: &mut Coverer) -> bool
 }
 
 /// Whether a successor is covered, through a call also back from each exit.
-fn next_goes_on(subject: &Subject, next: &Next, coverer: &mut Coverer) -> bool
+fn next_goes_on(subject: &Subject, next: &Next, told: &StepTold, coverer: &mut Coverer) -> bool
+    requires told { subject.now.cert.version ≡ Three → told.now ≡ told_of subject.now subject.now.decoded }
     ensures exact { IsTrue result ↔ NextGoesOn coverer.old subject.now next.now }
     ensures same { coverer.new ≡ coverer.old }
 {
     match next.kind {
-        NextKind::Jump => jump_is_covered(subject, next, coverer),
+        NextKind::Jump => jump_is_covered(subject, next, told, coverer),
         NextKind::Call => call_goes_on(subject, next, coverer),
         NextKind::Exit => true,
     }
 }
 
 /// Whether each of these successors is covered.
-fn nexts_go_on(subject: &Subject, nexts: &[Next], coverer: &mut Coverer) -> bool
+fn nexts_go_on(subject: &Subject, nexts: &[Next], told: &StepTold, coverer: &mut Coverer) -> bool
+    requires told { subject.now.cert.version ≡ Three → told.now ≡ told_of subject.now subject.now.decoded }
     ensures exact { IsTrue result ↔ All (NextGoesOn coverer.old subject.now) nexts.now }
     ensures same { coverer.new ≡ coverer.old }
 {
     for next in nexts {
-        if !next_goes_on(subject, next, coverer) {
+        if !next_goes_on(subject, next, told, coverer) {
             return false;
         }
     }
     true
 }
 
-/// Whether a row goes on, given its successors (docs/CHECKER.md, "Successors, calls and exits"). Each of its ways, by a
+/// Whether a row goes on, given its successors and what its step says beside (docs/CHECKER.md, "Successors, calls and
+/// exits"). Each of its ways, by a
 /// jump and back from each exit of a callee, has to arrive in a covered state; each of its calls has to enter a called
 /// procedure in a covered state. The coverer is one of the row's certificate. No memory is taken. A call takes a step
 /// for each row of the callee, or for each different exit where the subject has tables.
-pub fn goes_on(subject: &Subject, nexts: &[Next], coverer: &mut Coverer) -> bool
+pub fn goes_on(subject: &Subject, nexts: &[Next], told: &StepTold, coverer: &mut Coverer) -> bool
+    requires told { subject.now.cert.version ≡ Three → told.now ≡ told_of subject.now subject.now.decoded }
     requires certificate { coverer.old ≡ subject.now.cert }
     requires step { step_of subject.now ≡ Ok nexts.now }
     ensures exact { IsTrue result ↔ GoesOn subject.now }
     ensures same { coverer.new ≡ coverer.old }
 {
-    nexts_go_on(subject, nexts, coverer)
+    nexts_go_on(subject, nexts, told, coverer)
 }

@@ -6,7 +6,9 @@ mod exits;
 mod going;
 mod overlapping;
 mod paying;
+mod restarting;
 mod subject;
+mod told;
 mod ways;
 
 pub use effects::effect_of_call;
@@ -14,5 +16,6 @@ pub use exits::may_have_exit;
 pub use going::goes_on;
 pub use overlapping::{is_lone, overlaps_state};
 pub use paying::{cost_before, pays};
-pub use subject::Subject;
+pub use subject::{Subject, SubjectStep};
+pub use told::StepTold;
 pub use ways::Way;

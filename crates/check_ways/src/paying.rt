@@ -6,16 +6,19 @@ ghost use Rattle.check_cover.specs.Program.{callee_at};
 ghost use Rattle.cert_lines.specs.declared.row.Row.{Row};
 ghost use Rattle.check_ways.specs.Parts.{AtEachExit, CallPays, NextPays, AreNumbersAt, OnEachExit, OnEachLeft, PaysAll, PaysNumber, PaysPlace, PaysReturn, PaysToRow, PaysWay};
 ghost use Rattle.check_ways.specs.Pays.{IsLone, IsWithinTime, Pays, PaysCall, PaysOut, PaysTo, constant_sum, cost_before, potential_of};
-ghost use Rattle.check_ways.specs.Ways.{behind_of, step_of};
+ghost use Rattle.cert_lines.specs.declared.version.Version.TheVariants.{Three};
+ghost use Rattle.check_ways.specs.Ways.{behind_of, step_of, told_of};
 
 use crate::overlapping::is_lone;
 use crate::subject::Subject;
+use crate::told::StepTold;
 use crate::ways::Way;
 use abs_step::{Next, NextKind};
 use call_graph::ProcId;
 use cert_contents::RowId;
-use cert_lines::{ProcKind, RowRef};
+use cert_lines::{ProcKind, RowRef, Version};
 use check_cover::{Callee, callee_at};
+use check_payments::pays_either_way;
 use check_tables::Left;
 use loop_bounds::{Effect, Linear, decreases};
 use t_states::NMI_COST;
@@ -49,18 +52,26 @@ fn row_pays_out(subject: &Subject, cost: u32) -> bool
 /// Whether the row pays for a way to another row.
 fn row_pays_to(subject: &Subject, way: &Way, target: &RowRef) -> bool
     ensures { IsTrue result
-        ↔ PaysTo subject.now.row way.now.cost way.now.arrival.effect target.now }
+        ↔ PaysTo subject.now.row way.now.cost way.now.arrival target.now }
 {
     let from = potential_of(&subject.row);
     let to = potential_of(target);
-    decreases(
-        &from,
-        &to,
-        way.cost,
-        &way.effect,
-        &subject.state,
-        &target.state(),
-    )
+    let other = target.state();
+    match way.version {
+        Version::One | Version::Two => {
+            decreases(&from, &to, way.cost, &way.effect, &subject.state, &other)
+        }
+        Version::Three => pays_either_way(
+            &from,
+            &to,
+            way.cost,
+            &way.effect,
+            &way.moved,
+            &way.told.linear,
+            &subject.state,
+            &other,
+        ),
+    }
 }
 
 /// Whether the row pays for a way to the row with this number, if that row is asked.
@@ -229,20 +240,27 @@ fn call_pays(subject: &Subject, next: &Next) -> bool
 }
 
 /// Whether the row pays for one of its successors.
-fn next_pays(subject: &Subject, next: &Next) -> bool
+fn next_pays(subject: &Subject, next: &Next, told: &StepTold) -> bool
+    requires told { subject.now.cert.version ≡ Three → told.now ≡ told_of subject.now subject.now.decoded }
     ensures { IsTrue result ↔ NextPays subject.now next.now }
 {
     match next.kind {
-        NextKind::Jump => pays_way(subject, &subject.jump_way(next)),
+        NextKind::Jump => pays_way(subject, &subject.jump_way(next, told)),
         NextKind::Call => call_pays(subject, next),
         NextKind::Exit => row_pays_out(subject, u32::from(next.cost)),
     }
 }
 
-fn nexts_pay(subject: &Subject, nexts: &[Next]) -> bool
+fn nexts_pay(subject: &Subject, nexts: &[Next], told: &StepTold) -> bool
+    requires told { subject.now.cert.version ≡ Three → told.now ≡ told_of subject.now subject.now.decoded }
     ensures { IsTrue result ↔ All (NextPays subject.now) nexts.now }
 {
-    nexts.iter().all(|next| next_pays(subject, next))
+    for next in nexts {
+        if !next_pays(subject, next, told) {
+            return false;
+        }
+    }
+    true
 }
 
 /// The T-states before the entry of a procedure of this kind: 11 for the NMI routine, those of the acceptance; else 0.
@@ -295,8 +313,9 @@ fn overlaps_entry(subject: &Subject) -> bool
 /// Whether a row pays, given its successors (docs/CHECKER.md, "Paying"). It has to have a potential, which pays for
 /// each way to each row that is asked there, for each call of a procedure, and for each exit. At its procedure's entry
 /// the potential has to be within the time. It is called for rows of timed procedures, and takes no memory.
-pub fn pays(subject: &Subject, nexts: &[Next]) -> bool
-    requires { step_of subject.now ≡ Ok nexts.now }
+pub fn pays(subject: &Subject, nexts: &[Next], told: &StepTold) -> bool
+    requires told { subject.now.cert.version ≡ Three → told.now ≡ told_of subject.now subject.now.decoded }
+    requires step { step_of subject.now ≡ Ok nexts.now }
     ensures { IsTrue result ↔ Pays subject.now }
 {
     if !has_potential(subject) {
@@ -305,5 +324,5 @@ pub fn pays(subject: &Subject, nexts: &[Next]) -> bool
     if !overlaps_entry(subject) {
         return false;
     }
-    nexts_pay(subject, nexts)
+    nexts_pay(subject, nexts, told)
 }

@@ -1,27 +1,42 @@
 // A row of a certificate for a ROM, together with its procedure and its instruction.
 
 ghost use Rattle.std.specs.Prelude.{◌≡◌, ◌≤◌, IfOk, IfErr, Ok, Err, IfSome, MatchOption, None, Some, length, slice_get, unwrap_or};
+ghost use Rattle.cert_lines.specs.declared.version.Version.TheVariants.{Three, Two};
 ghost use Rattle.check_cover.specs.Program.{is_main};
 ghost use Rattle.cert_form.specs.Contents.{map_of_board};
 ghost use Rattle.board_fetch.specs.Decoded.{StandsAt};
 ghost use Rattle.check_ways.specs.Parts.{IsTopOf};
 ghost use Rattle.z80_decode.specs.Spelling.{spelling};
-ghost use Rattle.check_ways.specs.Ways.{IsSubject, behind_of, step_of, writes_from};
+ghost use Rattle.check_ways.specs.Ways.{IsSubject, behind_of, refined_by, step_by, step_of, told_of, untold, writes_from};
 
-use abs_draft::Ground;
+use crate::told::StepTold;
+use abs_draft::{DataWrite, Ground};
 use abs_state::AbsState;
 use abs_step::{Nexts, Reason, RowStep, row_step};
 use address_map::{Map, Rom};
 use board_fetch::fetch;
 use call_graph::ProcId;
 use cert_contents::{Certificate, RowId};
-use cert_lines::{Proc, RowRef};
-use check_cover::{Arrival, is_inline};
+use cert_lines::{Proc, RowRef, Version};
+use check_cover::{Arrival, Refinement, is_inline};
 use check_tables::Tables;
 use loop_bounds::{Effect, Linear};
+use refined_step::{RefinedStep, refined_step};
+use smallvec::SmallVec;
 use std::alloc::Global;
 use std::marker::Model;
 use z80_decode::{DecodeFault, Instr};
+
+/// What the step of a row gives.
+#[derive(Drop)]
+pub struct SubjectStep {
+    /// The data writes, a byte each, in order.
+    pub writes: SmallVec<DataWrite, 2>,
+    /// The successors, or the reason for which the step itself refuses the row.
+    pub answer: Result<Nexts, Reason>,
+    /// In version 3 what the refined step says beside; nothing in versions 1 and 2.
+    pub told: StepTold,
+}
 
 /// A row, its procedure, and its decoded instruction.
 #[derive(Drop)]
@@ -40,13 +55,15 @@ pub struct Subject<'a> {
     pub state: AbsState,
     /// Tables of the certificate for the ROM, if they were made.
     pub(crate) tables: Option<&'a Tables<'a>>,
+    /// What is said of a way without conditions.
+    untold: StepTold,
 }
 
 impl<'a> Model for Subject<'a> {
     ghost use Rattle.std.specs.Prelude.{◌≡◌, IfOk, IfSome, length};
     ghost use Rattle.z80_decode.specs.Spelling.{spelling};
     ghost use Rattle.cert_form.specs.Contents.{map_of_board};
-    ghost use Rattle.check_ways.specs.Ways.{SubjectView, IsSubject, behind_of};
+    ghost use Rattle.check_ways.specs.Ways.{SubjectView, IsSubject, behind_of, untold};
 
     ghost Value = { SubjectView };
 
@@ -56,7 +73,7 @@ impl<'a> Model for Subject<'a> {
         IsSubject (record { rom = s.rom.now; cert = s.certificate.now; row = s.row; proc = s.proc; decoded = s.decoded })
         × (s.map.now ≡ map_of_board s.certificate.now) × (s.map.now.rom_len ≡ length s.rom.now)
         × (s.state ≡ s.row.state) × (s.behind ≡ behind_of s.decoded s.row.address)
-        × IfOk s.decoded (λ instr. s.len ≡ length (spelling instr))
+        × IfOk s.decoded (λ instr. s.len ≡ length (spelling instr)) × (s.untold ≡ untold)
         × IfSome s.tables (λ t. (t.now.rom ≡ s.rom.now) × (t.now.cert ≡ s.certificate.now)) };
 }
 
@@ -92,6 +109,7 @@ impl<'a> Subject<'a> {
             behind,
             state,
             tables: None,
+            untold: StepTold::none(),
         })
     }
 
@@ -124,27 +142,66 @@ impl<'a> Subject<'a> {
         self.proc.time.unwrap_or(0)
     }
 
-    /// The data writes of the row, and its successors or the reason for which the abstract step refuses it.
-    pub fn row_step(&self, alloc: Global) -> RowStep
+    /// The data writes of the row, and its successors or the reason for which the step refuses it, by the version's
+    /// step.
+    pub fn row_step(&self, alloc: Global) -> SubjectStep
         ensures writes { result.writes.items ≡ writes_from self.now }
         ensures ok { IfOk result.answer (λ nexts. step_of self.now ≡ Ok nexts.items) }
         ensures err { IfErr result.answer (λ reason. step_of self.now ≡ Err reason) }
+        ensures told { self.now.cert.version ≡ Three → result.told ≡ told_of self.now self.now.decoded }
+    {
+        match &self.decoded {
+            Ok(instr) => match self.certificate.version() {
+                Version::One | Version::Two => plain(self.plain_step(alloc, instr)),
+                Version::Three => refined(self.refined_step(alloc, instr)),
+            },
+            Err(fault) => plain(RowStep::undecoded(alloc, *fault)),
+        }
+    }
+
+    /// The abstract step of the row's instruction.
+    fn plain_step(&self, alloc: Global, instr: &Instr) -> RowStep
+        requires decoded { self.now.decoded ≡ Ok instr.now }
+        ensures writes { result.writes.items ≡ writes_from self.now }
+        ensures ok { IfOk result.answer (λ nexts. step_by Two self.now instr.now ≡ Ok nexts.items) }
+        ensures err { IfErr result.answer (λ reason. step_by Two self.now instr.now ≡ Err reason) }
     {
         // By the form, there are at most 256 cells.
         self.certificate.is_in_form();
-        match &self.decoded {
-            Ok(instr) => row_step(
-                alloc,
-                &Ground::of(self.rom, self.map, self.certificate.cells()),
-                self.row.address,
-                self.row.proc == 0,
-                is_inline(self.certificate, self.row.address),
-                instr,
-                self.len,
-                &self.state,
-            ),
-            Err(fault) => RowStep::undecoded(alloc, *fault),
-        }
+        row_step(
+            alloc,
+            &Ground::of(self.rom, self.map, self.certificate.cells()),
+            self.row.address,
+            self.row.proc == 0,
+            is_inline(self.certificate, self.row.address),
+            instr,
+            self.len,
+            &self.state,
+        )
+    }
+
+    /// The refined step of the row's instruction.
+    fn refined_step(&self, alloc: Global, instr: &Instr) -> RefinedStep
+        requires decoded { self.now.decoded ≡ Ok instr.now }
+        ensures writes { result.writes.items ≡ writes_from self.now }
+        ensures ok { IfOk result.answer (λ nexts. step_by Three self.now instr.now ≡ Ok nexts.items) }
+        ensures err { IfErr result.answer (λ reason. step_by Three self.now instr.now ≡ Err reason) }
+        ensures linear { result.linear ≡ (told_of self.now (Ok instr.now)).linear }
+        ensures conditions { result.conditions ≡ (told_of self.now (Ok instr.now)).conditions }
+    {
+        // By the form, there are at most 256 cells.
+        self.certificate.is_in_form();
+        refined_step(
+            alloc,
+            &Ground::of(self.rom, self.map, self.certificate.cells()),
+            self.row.address,
+            self.row.proc == 0,
+            is_inline(self.certificate, self.row.address),
+            instr,
+            self.len,
+            &self.state,
+            self.row.parts,
+        )
     }
 
     /// The successors of the row, or the reason for which the abstract step refuses it.
@@ -168,6 +225,8 @@ impl<'a> Subject<'a> {
         proc: ProcId,
         address: u16,
         effect: &'s Effect,
+        moved: &'s Effect,
+        told: &'s StepTold,
     ) -> Arrival<'s>
         ensures { result ≡ record {
           proc = proc;
@@ -175,6 +234,7 @@ impl<'a> Subject<'a> {
           facts = self.now.row.facts;
           before = self.now.row.state;
           effect = effect.now;
+          refined = refined_by self.now.cert.version told.now moved.now;
         } }
     {
         Arrival {
@@ -183,7 +243,65 @@ impl<'a> Subject<'a> {
             facts: self.row.facts.as_slice(),
             before: &self.state,
             effect,
+            refined: refinement(self.certificate.version(), told, moved),
         }
+    }
+
+    /// What is said of a way without conditions.
+    pub(crate) fn untold(&self) -> &StepTold
+        ensures { result.now ≡ untold }
+    {
+        &self.untold
+    }
+}
+
+/// What an arrival has beside its effect: nothing before version 3.
+pub(crate) fn refinement<'s>(
+    version: Version,
+    told: &'s StepTold,
+    moved: &'s Effect,
+) -> Option<Refinement<'s>>
+    ensures { result ≡ refined_by version told.now moved.now }
+{
+    match version {
+        Version::One | Version::Two => None,
+        Version::Three => Some(Refinement {
+            moved,
+            linear: &told.linear,
+            conditions: &told.conditions,
+        }),
+    }
+}
+
+/// What the abstract step gives.
+fn plain(step: RowStep) -> SubjectStep
+    ensures writes { result.writes ≡ step.writes }
+    ensures answer { result.answer ≡ step.answer }
+{
+    let RowStep { writes, answer, .. } = step;
+    SubjectStep {
+        writes,
+        answer,
+        told: StepTold::none(),
+    }
+}
+
+/// What the refined step gives.
+fn refined(step: RefinedStep) -> SubjectStep
+    ensures writes { result.writes ≡ step.writes }
+    ensures answer { result.answer ≡ step.answer }
+    ensures told { result.told ≡ record { linear = step.linear; conditions = step.conditions } }
+{
+    let RefinedStep {
+        writes,
+        answer,
+        conditions,
+        linear,
+    } = step;
+    SubjectStep {
+        writes,
+        answer,
+        told: StepTold { linear, conditions },
     }
 }
 

@@ -5,17 +5,19 @@ ghost use Rattle.abs_state.specs.Covers.{OverlapsState};
 ghost use Rattle.check_cover.specs.Program.{callee_at};
 ghost use Rattle.cert_lines.specs.declared.row.Row.{Row};
 ghost use Rattle.check_ways.specs.Pays.{Lands};
-ghost use Rattle.check_ways.specs.Ways.{call_cost, jump_way, return_way};
+ghost use Rattle.cert_lines.specs.declared.version.Version.TheVariants.{Three};
+ghost use Rattle.check_ways.specs.Ways.{call_cost, jump_way, return_way, told_of};
 
-use crate::effects::effect_of_call;
+use crate::effects::effect_back;
 use crate::overlapping::{is_lone, overlaps_state};
 use crate::subject::Subject;
+use crate::told::StepTold;
 use abs_draft::settled;
 use abs_state::AbsState;
 use abs_step::Next;
 use call_graph::ProcId;
 use cert_contents::{Certificate, RowId};
-use cert_lines::RowRef;
+use cert_lines::{RowRef, Version};
 use check_cover::{Arrival, Callee};
 use loop_bounds::{Effect, Linear};
 use std::marker::Model;
@@ -30,18 +32,22 @@ pub struct Way<'a> {
     pub facts: &'a [Linear],
     pub before: &'a AbsState,
     pub effect: Effect,
+    /// The effect without priority for constants.
+    pub moved: Effect,
+    pub told: &'a StepTold,
+    pub version: Version,
     pub state: AbsState,
     /// At most 1,000,000,023 T-states; the callee's time is in it where the way leads through a call.
     pub cost: u32,
 }
 
 impl<'a> Model for Way<'a> {
-    ghost use Rattle.check_ways.specs.Ways.{WayView};
+    ghost use Rattle.check_ways.specs.Ways.{WayView, refined_by};
 
     ghost Value = { WayView };
 
     ghost view = { λ w. record {
-      arrival = record { proc = w.proc; address = w.address; facts = w.facts.now; before = w.before.now; effect = w.effect };
+      arrival = record { proc = w.proc; address = w.address; facts = w.facts.now; before = w.before.now; effect = w.effect; refined = refined_by w.version w.told.now w.moved };
       state = w.state;
       cost = w.cost;
     } };
@@ -49,16 +55,20 @@ impl<'a> Model for Way<'a> {
 
 impl<'a> Subject<'a> {
     /// The way of a jump. Going on to the next address is a jump too.
-    pub(crate) fn jump_way<'s>(&'s self, next: &Next) -> Way<'s>
+    pub(crate) fn jump_way<'s>(&'s self, next: &Next, told: &'s StepTold) -> Way<'s>
+        requires { self.now.cert.version ≡ Three → told.now ≡ told_of self.now self.now.decoded }
         ensures { result ≡ jump_way self.now next.now }
     {
         Way {
-            proc: self.row.proc,
+            proc: self.proc_after(),
             address: next.address,
             facts: self.row.facts.as_slice(),
             before: &self.state,
             effect: next.effect,
-            state: next.state.copied(),
+            moved: next.moved,
+            told,
+            version: self.certificate.version(),
+            state: self.state_after(next),
             cost: u32::from(next.cost),
         }
     }
@@ -68,14 +78,18 @@ impl<'a> Subject<'a> {
         requires { callee_at self.now.cert next.now.address ≡ Some callee.now }
         ensures { result ≡ return_way self.now next.now callee.now exit.now }
     {
+        let version = self.certificate.version();
         let state = next.state.after_call(exit);
-        let effect = settled(&effect_of_call(&next.effect, exit), &state);
+        let effect = settled(&effect_back(version, &next.effect, exit), &state);
         Way {
             proc: self.row.proc,
             address: self.behind,
             facts: self.row.facts.as_slice(),
             before: &self.state,
             effect,
+            moved: effect_back(version, &next.moved, exit),
+            told: self.untold(),
+            version,
             state,
             cost: self.call_cost(next, callee),
         }
