@@ -10,5 +10,5 @@ mod source;
 mod telling;
 mod zeros;
 
-pub use laws::seen_steps_are_true;
+pub use laws::{conditions_name_registers, seen_steps_are_true};
 pub use source::Source;
