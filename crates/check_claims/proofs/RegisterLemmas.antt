@@ -1,11 +1,11 @@
 -- The variables that the conditions after an instruction name.
-use Rattle.std.proofs.Common.{Bool, true, false, List, [], ◌∷◌, All, Option, Some, None, IfSome, ℤ}
+use Rattle.std.proofs.Common.{Bool, false, List, [], ◌∷◌, All, Option, Some, None, IfSome, ℤ}
 use Rattle.std.proofs.lemmas.List.Elements.{All-cons, All-nil}
-use Rattle.flag_conditions.specs.NewConditions.{arithmetic_after, carry_if_below, difference_after, new_after, of_byte, of_byte_and, of_hl, sign_if_below, sum_after, word_sum_after, zero}
-use Rattle.flag_conditions.specs.Linears.{byte_excess, byte_left, left_of_127, only, word_excess}
+use Rattle.flag_conditions.specs.NewConditions.{arithmetic_after, difference_after, new_after, of_byte_and, of_hl, sign_if_below, sum_after, word_sum_after, zero}
+use Rattle.flag_conditions.specs.Linears.{left_of_127, only}
 use Rattle.flag_conditions.specs.OperandTerm.{operand_term_of, register_variable_of, variable_of_index, variable_of_other, word_of_index_pair, word_of_pair}
 use Rattle.flag_conditions.specs.declared.byte_operand.OperandTerm.{OperandTerm}
-use Rattle.flag_conditions.specs.declared.byte_operand.OperandTerm.TheVariants.{A, Other, Number}
+use Rattle.flag_conditions.specs.declared.byte_operand.OperandTerm.TheVariants.{Other, Number}
 use Rattle.flag_conditions.specs.declared.byte_operand.OtherRegister.{OtherRegister}
 use Rattle.flag_conditions.specs.declared.byte_operand.OtherRegister.TheVariants as others
 use Rattle.flag_conditions.specs.declared.word_operand.OperandWord.{OperandWord}

@@ -62,11 +62,11 @@ change_or Unknown other = other
 abbrev pub slot_or : Option SlotChange → Effect → Option SlotChange
 slot_or None other = None
 slot_or (Some c) other = Some (record {
-    number = c.number;
-    word = change_or c.word (change_of other (Slot c.number Word));
-    high = change_or c.high (change_of other (Slot c.number High));
-    low = change_or c.low (change_of other (Slot c.number Low));
-  })
+  number = c.number;
+  word = change_or c.word (change_of other (Slot c.number Word));
+  high = change_or c.high (change_of other (Slot c.number High));
+  low = change_or c.low (change_of other (Slot c.number Low));
+})
 
 -- the effect, or another one where it is unknown; a slot that the first does not write is known
 abbrev pub effect_or : Effect → Effect → Effect

@@ -11,4 +11,4 @@ mod telling;
 mod zeros;
 
 pub use laws::{conditions_name_registers, seen_steps_are_true};
-pub use source::Source;
+pub use source::StepSource;

@@ -2,12 +2,11 @@
 ghost use Rattle.std.specs.Prelude.{◌≡◌, ◌↔◌, ◌⊎◌, All, IsTrue};
 ghost use Rattle.abs_state.specs.Variables.{range_of};
 ghost use Rattle.linear_sums.specs.Rewriting.{IsSlight};
-ghost use Rattle.check_claims.specs.Claims.{IsConveyedBy, IsToldBefore, IsToldAfter, IsToldBack, TellsBefore, TellsAfter, TellsBack, IsClaimedPart};
-ghost use Rattle.check_claims.specs.Rewritings.{constants_first, variables_first};
+ghost use Rattle.check_claims.specs.Claims.{IsClaimedPart, IsConveyedBy, IsToldAfter, IsToldAfterEitherWay, IsToldBack, IsToldBefore, IsToldBeforeEitherWay, TellsAfter, TellsBack, TellsBefore};
 ghost use Rattle.check_claims.specs.Truth.{PartLaw};
 
 use crate::rewritings::{Rewriting, are_same, constants_first, variables_first};
-use crate::source::Source;
+use crate::source::StepSource;
 use crate::telling::{tells_after, tells_back, tells_before};
 use abs_state::AbsState;
 use flag_letters::{FlagPart, Letter};
@@ -24,24 +23,40 @@ fn is_conveyed_before(
 ) -> bool
     requires { IsSlight rewriting.now.change }
     ensures { IsTrue result
-        ↔ IsConveyedBy part.now.letter (TellsBefore facts.now (range_of before.now) rewriting.now part.now.linear) condition.now }
+        ↔ IsConveyedBy part.now.letter
+        (TellsBefore facts.now (range_of before.now) rewriting.now part.now.linear) condition.now }
 {
     if condition.letter != part.letter {
         return false;
     }
-    if tells_before(facts, before, rewriting, &part.linear, false, &condition.linear) {
+    if tells_before(
+        facts,
+        before,
+        rewriting,
+        &part.linear,
+        false,
+        &condition.linear,
+    ) {
         return true;
     }
     if part.letter != Letter::Zero {
         return false;
     }
-    tells_before(facts, before, rewriting, &part.linear, true, &condition.linear)
+    tells_before(
+        facts,
+        before,
+        rewriting,
+        &part.linear,
+        true,
+        &condition.linear,
+    )
 }
 
 /// Whether a condition over the variables after the step says what the part says, by the ranges after it.
 fn is_conveyed_after(after: &AbsState, part: &FlagPart, condition: &FlagPart) -> bool
     ensures { IsTrue result
-        ↔ IsConveyedBy part.now.letter (TellsAfter (range_of after.now) part.now.linear) condition.now }
+        ↔ IsConveyedBy part.now.letter (TellsAfter (range_of after.now) part.now.linear)
+        condition.now }
 {
     if condition.letter != part.letter {
         return false;
@@ -65,18 +80,33 @@ fn is_conveyed_back(
 ) -> bool
     requires { IsSlight rewriting.now.change }
     ensures { IsTrue result
-        ↔ IsConveyedBy part.now.letter (TellsBack facts.now (range_of before.now) rewriting.now part.now.linear) condition.now }
+        ↔ IsConveyedBy part.now.letter
+        (TellsBack facts.now (range_of before.now) rewriting.now part.now.linear) condition.now }
 {
     if condition.letter != part.letter {
         return false;
     }
-    if tells_back(facts, before, rewriting, &part.linear, false, &condition.linear) {
+    if tells_back(
+        facts,
+        before,
+        rewriting,
+        &part.linear,
+        false,
+        &condition.linear,
+    ) {
         return true;
     }
     if part.letter != Letter::Zero {
         return false;
     }
-    tells_back(facts, before, rewriting, &part.linear, true, &condition.linear)
+    tells_back(
+        facts,
+        before,
+        rewriting,
+        &part.linear,
+        true,
+        &condition.linear,
+    )
 }
 
 /// Whether one of the conditions over the variables before the step says what the part says.
@@ -89,7 +119,8 @@ fn is_told_before(
 ) -> bool
     requires { IsSlight rewriting.now.change }
     ensures { IsTrue result
-        ↔ IsToldBefore facts.now (range_of before.now) rewriting.now part.now conditions.now }
+        ↔ IsToldBefore facts.now (range_of before.now) rewriting.now part.now
+        conditions.now }
 {
     for condition in conditions {
         if is_conveyed_before(facts, before, rewriting, part, condition) {
@@ -122,7 +153,8 @@ fn is_told_back(
 ) -> bool
     requires { IsSlight rewriting.now.change }
     ensures { IsTrue result
-        ↔ IsToldBack facts.now (range_of before.now) rewriting.now part.now conditions.now }
+        ↔ IsToldBack facts.now (range_of before.now) rewriting.now part.now
+        conditions.now }
 {
     for condition in conditions {
         if is_conveyed_back(facts, before, rewriting, part, condition) {
@@ -143,16 +175,28 @@ fn is_told_before_either_way(
     conditions: &[FlagPart],
 ) -> bool
     ensures { IsTrue result
-        ↔ (IsToldBefore facts.now (range_of before.now) (constants_first settled.now linear.now) part.now conditions.now
-        ⊎ IsToldBefore facts.now (range_of before.now) (variables_first settled.now moved.now linear.now) part.now conditions.now) }
+        ↔ IsToldBeforeEitherWay facts.now (range_of before.now) settled.now moved.now linear.now
+        part.now conditions.now }
 {
-    if is_told_before(facts, before, &constants_first(settled, linear), part, conditions) {
+    if is_told_before(
+        facts,
+        before,
+        &constants_first(settled, linear),
+        part,
+        conditions,
+    ) {
         return true;
     }
     if are_same(settled, moved, linear) {
         return false;
     }
-    is_told_before(facts, before, &variables_first(settled, moved, linear), part, conditions)
+    is_told_before(
+        facts,
+        before,
+        &variables_first(settled, moved, linear),
+        part,
+        conditions,
+    )
 }
 
 /// Whether a condition after tells the part, by the ranges after the step or with variables first.
@@ -167,29 +211,46 @@ fn is_told_after_either_way(
     conditions: &[FlagPart],
 ) -> bool
     ensures { IsTrue result
-        ↔ (IsToldAfter (range_of after.now) part.now conditions.now
-        ⊎ IsToldBack facts.now (range_of before.now) (variables_first settled.now moved.now linear.now) part.now conditions.now) }
+        ↔ IsToldAfterEitherWay facts.now (range_of before.now) settled.now moved.now linear.now
+        (range_of after.now) part.now conditions.now }
 {
     if is_told_after(after, part, conditions) {
         return true;
     }
-    is_told_back(facts, before, &variables_first(settled, moved, linear), part, conditions)
+    is_told_back(
+        facts,
+        before,
+        &variables_first(settled, moved, linear),
+        part,
+        conditions,
+    )
 }
 
-impl<'f, 'b, 's, 'm, 'l, 'c> Source<'f, 'b, 's, 'm, 'l, 'c> {
+impl<'f, 'b, 's, 'm, 'l, 'c> StepSource<'f, 'b, 's, 'm, 'l, 'c> {
     /// Whether a flag part is known to hold after the step, in the state `after` (docs/CHECKER.md, "Claims").
     pub fn knows_part(&self, part: &FlagPart, after: &AbsState) -> bool
         ensures exact { IsTrue result ↔ IsClaimedPart self.now after.now part.now }
         ensures true_after { IsTrue result → PartLaw self.now after.now part.now }
     {
         if is_told_before_either_way(
-            self.facts, self.before, self.settled, self.moved, self.linear, part,
+            self.facts,
+            self.before,
+            self.settled,
+            self.moved,
+            self.linear,
+            part,
             self.conditions.before(),
         ) {
             return true;
         }
         is_told_after_either_way(
-            self.facts, self.before, self.settled, self.moved, self.linear, after, part,
+            self.facts,
+            self.before,
+            self.settled,
+            self.moved,
+            self.linear,
+            after,
+            part,
             self.conditions.after(),
         )
     }

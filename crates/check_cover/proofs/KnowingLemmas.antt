@@ -1,9 +1,9 @@
 -- What the tests on facts and flag parts say of an arrival, by its version.
-use Rattle.std.proofs.Common.{◌≡◌, ◌↔◌, ◌∙◌, Bool, IsTrue, List, [], ◌∷◌, length, Option, Some, None, refl, sym, subst, arith}
+use Rattle.std.proofs.Common.{◌≡◌, ◌↔◌, ◌∙◌, Bool, IsTrue, List, [], ◌∷◌, Option, Some, None, refl, sym, subst, arith}
 use Rattle.std.specs.List.{All}
 use Rattle.abs_state.specs.declared.state.AbsState.{AbsState}
 use Rattle.check_claims.specs.Claims.{IsClaimedFact, IsClaimedPart}
-use Rattle.check_claims.specs.Source.{SourceView}
+use Rattle.check_claims.specs.Source.{StepSourceView}
 use Rattle.check_cover.specs.Arrival.{ArrivalView, RefinementView, source_of}
 use Rattle.check_cover.specs.Covering.{IsKnownFact, KnowsFact, KnowsPart}
 use Rattle.flag_letters.specs.declared.part.FlagPart.{FlagPart}
@@ -22,21 +22,21 @@ module _ (a self : ArrivalView) (told : Bool) (is : a ≡ self) where
       (subst (λ (fs : List LinearView). IsTrue told ↔ All (IsKnownFact a.facts a.before a.effect) fs) same h))
 
   -- in version 3
-  pub facts_claimed : (r : RefinementView) (s : SourceView) (facts known : List LinearView) → a.refined ≡ Some r → s ≡ source_of self r → known ≡ facts → (IsTrue told ↔ All (IsClaimedFact s) known) →
+  pub facts_claimed : (r : RefinementView) (s : StepSourceView) (facts known : List LinearView) → a.refined ≡ Some r → s ≡ source_of self r → known ≡ facts → (IsTrue told ↔ All (IsClaimedFact s) known) →
       IsTrue told ↔ All (KnowsFact self self.refined) facts
   facts_claimed r s facts known some source same h =
       subst (λ (o : Option RefinementView). IsTrue told ↔ All (KnowsFact self o) facts) (sym some ∙ refined_is)
-      (subst (λ (t : SourceView). IsTrue told ↔ All (IsClaimedFact t) facts) source
+      (subst (λ (t : StepSourceView). IsTrue told ↔ All (IsClaimedFact t) facts) source
       (subst (λ (fs : List LinearView). IsTrue told ↔ All (IsClaimedFact s) fs) same h))
     where
       refined_is : a.refined ≡ self.refined
       refined_is = subst (λ (b : ArrivalView). a.refined ≡ b.refined) is refl
 
-  pub parts_claimed : (r : RefinementView) (s : SourceView) (state : AbsState) (parts known : List FlagPart) → a.refined ≡ Some r → s ≡ source_of self r → known ≡ parts → (IsTrue told ↔ All (IsClaimedPart s state) known) →
+  pub parts_claimed : (r : RefinementView) (s : StepSourceView) (state : AbsState) (parts known : List FlagPart) → a.refined ≡ Some r → s ≡ source_of self r → known ≡ parts → (IsTrue told ↔ All (IsClaimedPart s state) known) →
       IsTrue told ↔ All (KnowsPart self self.refined state) parts
   parts_claimed r s state parts known some source same h =
       subst (λ (o : Option RefinementView). IsTrue told ↔ All (KnowsPart self o state) parts) (sym some ∙ refined_is)
-      (subst (λ (t : SourceView). IsTrue told ↔ All (IsClaimedPart t state) parts) source
+      (subst (λ (t : StepSourceView). IsTrue told ↔ All (IsClaimedPart t state) parts) source
       (subst (λ (ps : List FlagPart). IsTrue told ↔ All (IsClaimedPart s state) ps) same h))
     where
       refined_is : a.refined ≡ self.refined

@@ -10,7 +10,7 @@ use crate::rows::{covers_state, is_plain, keeps_state};
 use abs_state::AbsState;
 use call_graph::ProcId;
 use cert_lines::RowRef;
-use check_claims::Source;
+use check_claims::StepSource;
 use flag_conditions::StepConditions;
 use linear_effects::LinearEffect;
 use loop_bounds::{Effect, Linear};
@@ -91,9 +91,7 @@ impl<'a, 'r> Arrival<'a, 'r> {
         ensures { IsTrue result ↔ All (KnowsFact self.now self.now.refined) row.now.facts }
     {
         match &self.refined {
-            None => are_known(
-                self.facts, self.before, self.effect, row.facts.as_slice(),
-            ),
+            None => are_known(self.facts, self.before, self.effect, row.facts.as_slice()),
             Some(refined) => self.source(refined).knows_facts(row.facts.as_slice()),
         }
     }
@@ -110,10 +108,10 @@ impl<'a, 'r> Arrival<'a, 'r> {
     }
 
     /// What claims after the step are judged by.
-    fn source(&self, refined: &Refinement<'r>) -> Source<'a, 'a, 'a, 'r, 'r, 'r>
+    fn source(&self, refined: &Refinement<'r>) -> StepSource<'a, 'a, 'a, 'r, 'r, 'r>
         ensures { result ≡ source_of self.now refined.now }
     {
-        Source {
+        StepSource {
             facts: self.facts,
             before: self.before,
             settled: self.effect,

@@ -1,4 +1,4 @@
-use Rattle.std.proofs.Common.{IsTrue, refl, sym, subst}
+use Rattle.std.proofs.Common.{refl}
 use Rattle.check_cover.proofs.RowLemmas.{covers_without_facts}
 use Rattle.check_cover.proofs.arrival.Arrival.is_covered_by.Goals as goal
 
