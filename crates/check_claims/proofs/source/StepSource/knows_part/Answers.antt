@@ -1,9 +1,8 @@
-use Rattle.std.proofs.Common.{◌≡◌, ◌↔◌, ◌⊎◌, Bool, IsTrue, List, subst}
+use Rattle.std.proofs.Common.{◌≡◌, ◌↔◌, Bool, IsTrue, List, subst}
 use Rattle.abs_state.specs.Variables.{range_of}
 use Rattle.abs_state.specs.declared.state.AbsState.{AbsState}
 use Rattle.flag_letters.specs.declared.part.FlagPart.{FlagPart}
-use Rattle.check_claims.specs.Claims.{IsToldAfter, IsToldBack, IsToldBefore}
-use Rattle.check_claims.specs.Rewritings.{constants_first, variables_first}
+use Rattle.check_claims.specs.Claims.{IsToldAfterEitherWay, IsToldBeforeEitherWay}
 use Rattle.check_claims.specs.Source.{StepSourceView}
 use Rattle.check_claims.proofs.Tests.{by_first, by_second}
 use Rattle.check_claims.proofs.TruthLemmas.{part_true}
