@@ -1,5 +1,5 @@
 -- Canons of differences, and of a linear as a sum.
-use Rattle.std.proofs.Common.{◌≡◌, ◌↔◌, ◌∙◌, ℤ, pos, ◌+ℤ◌, ◌*ℤ◌, Option, Some, None, refl, sym, ap, arith, map, inl, inr, List, []}
+use Rattle.std.proofs.Common.{◌≡◌, ◌∙◌, ℤ, pos, ◌+ℤ◌, ◌*ℤ◌, Option, Some, None, refl, sym, ap, arith, map, inl, inr}
 use Rattle.std.proofs.Math.IntN.{+ℤ_idl}
 use Rattle.std.proofs.lemmas.Int.{ints}
 use Rattle.loop_bounds.specs.Linear.{LinearView, total}

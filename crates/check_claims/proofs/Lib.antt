@@ -4,3 +4,4 @@ pub mod Options
 pub mod Tests
 pub mod TruthLemmas
 pub mod SeenLemmas
+pub mod RegisterLemmas

@@ -1,5 +1,5 @@
 -- What holds of a value that is there.
-use Rattle.std.proofs.Common.{◌≡◌, ◌↔◌, Option, Some, None, IsSomeAnd, IsTrue, sym, subst}
+use Rattle.std.proofs.Common.{◌≡◌, ◌↔◌, Option, Some, IsSomeAnd, sym, subst}
 
 -- what is told of the value is told of the option
 pub told_of_some : {X : Type 0} (P : X → Type 0) (o : Option X) (x : X) (b : Type 0) → o ≡ Some x → (b ↔ P x) → b ↔ IsSomeAnd o P

@@ -1,15 +1,13 @@
 -- The values that are seen of a machine.
-use Rattle.std.proofs.Common.{◌≡◌, ◌∙◌, ℕ, ◌+◌, ◌*◌, ◌/◌, ◌%◌, eqb, true, pos, ◌+ℤ◌, ◌*ℤ◌, refl, sym, ap, arith, List}
+use Rattle.std.proofs.Common.{◌≡◌, ℕ, ◌+◌, ◌*◌, ◌/◌, ◌%◌, pos, ◌+ℤ◌, ◌*ℤ◌, refl, arith, List}
 use Rattle.std.specs.Prelude.{slice_index}
 use Rattle.std.proofs.lemmas.Bool.{eqb-true}
 use Rattle.std.proofs.lemmas.Int.{ints}
 use Rattle.intervals.specs.Domain.{Entry}
-use Rattle.intervals.specs.Logic.{is_single}
 use Rattle.intervals.specs.Range.{Within}
 use Rattle.linear_sums.specs.Bytes.{AgreesWithBytes}
 use Rattle.linear_sums.specs.Canon.{HasOneValues}
 use Rattle.loop_bounds.specs.declared.variable.Part.TheVariants.{Word, High, Low}
-use Rattle.loop_bounds.specs.declared.variable.Variable.{Variable}
 use Rattle.loop_bounds.specs.declared.variable.Variable.TheVariants.{A, B, C, D, E, H, L, Bc, De, Hl, Ix, Iy, Slot}
 use Rattle.z80_draft.specs.Registers.{IsRegs}
 use Rattle.abs_state.specs.CutLaws.{variable_lies}

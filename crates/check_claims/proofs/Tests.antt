@@ -1,5 +1,5 @@
 -- Tests one after the other.
-use Rattle.std.proofs.Common.{◌≡◌, ◌↔◌, ◌⊎◌, inl, inr, Bool, true, false, IsTrue, refl, sym, subst, rules}
+use Rattle.std.proofs.Common.{◌≡◌, ◌↔◌, ◌⊎◌, inl, inr, Bool, true, false, IsTrue, sym, subst, rules}
 
 never : IsTrue false → ⊥
 never e = search rules

@@ -1,6 +1,5 @@
 -- What is claimed after a step is true.
-use Rattle.std.proofs.Common.{◌≡◌, ◌≢◌, ◌↔◌, ◌∙◌, ℕ, ◌<◌, Bool, true, false, eqb, not, List, length, get_or, All, Contains, ℤ, pos, neg_ℤ, ◌+ℤ◌, ◌*ℤ◌, Option, Some, None, IfSome, IsSomeAnd, inl, inr, ◌⊎◌, IsTrue, refl, sym, ap, subst, arith}
-use Rattle.std.specs.Prelude.{◌<ℤ◌}
+use Rattle.std.proofs.Common.{◌≡◌, ◌↔◌, ◌∙◌, ℕ, Bool, true, false, eqb, List, get_or, All, Contains, ℤ, pos, neg_ℤ, Option, Some, None, IfSome, IsSomeAnd, inl, inr, IsTrue, refl, sym, ap, subst, arith}
 use Rattle.std.proofs.lemmas.Int.{ints}
 use Rattle.abs_state.specs.Variables.{range_of}
 use Rattle.abs_state.specs.declared.state.AbsState.{AbsState}
@@ -17,7 +16,7 @@ use Rattle.linear_sums.proofs.SumLemmas.{value_plus_multiple}
 use Rattle.linear_sums.specs.Bytes.{AgreesWithBytes}
 use Rattle.linear_sums.specs.Canon.{HasOneValues, IsZeroIn}
 use Rattle.linear_sums.specs.Rewriting.{rewritten, FollowsEffect}
-use Rattle.linear_sums.specs.Sum.{sign, plus_multiple}
+use Rattle.linear_sums.specs.Sum.{sign}
 use Rattle.linear_sums.specs.declared.rewriting.LinearChange.{LinearChange}
 use Rattle.std.proofs.lemmas.Bool.{cases_Bool, eqb-true}
 use Rattle.loop_bounds.specs.Effect.{Valuation, change_of, changed, part_change, slot_change, whole}
@@ -32,10 +31,10 @@ use Rattle.loop_bounds.specs.declared.effect.SlotChange.{SlotChange}
 use Rattle.loop_bounds.specs.declared.variable.Variable.{Variable}
 use Rattle.loop_bounds.specs.declared.variable.Variable.TheVariants as variables
 use Rattle.z80_alu.specs.declared.flags.Flags.{Flags}
-use Rattle.check_claims.specs.Claims.{AtSign, BecomesZero, IsClaimedFact, IsClaimedPart, IsConveyed, IsToldBefore, IsToldAfter, IsToldBack}
+use Rattle.check_claims.specs.Claims.{AtSign, IsClaimedFact, IsClaimedPart, IsConveyed, IsToldBefore}
 use Rattle.check_claims.specs.Rewritings.{change_if_slight, change_or, change_beside, constants_first, effect_or, is_slight, slight_change, slot_or, unless_constant, variables_first}
-use Rattle.check_claims.specs.Source.{SourceView}
-use Rattle.check_claims.specs.Truth.{AreTrueConditions, ComeBoth, ComesBoth, FactLaw, IsTrueSource, PartLaw}
+use Rattle.check_claims.specs.Source.{StepSourceView}
+use Rattle.check_claims.specs.Truth.{AreTrueConditions, ComeBoth, ComesBoth, IsTrueSource}
 use Rattle.check_claims.specs.Zeros.{less, IsZeroBy}
 use Rattle.check_claims.specs.declared.rewritings.Rewriting.{Rewriting}
 
@@ -65,7 +64,7 @@ no_difference x s false t e =
 
 -- ---- both rewritings are true
 
-module _ (s : SourceView) (x y : Valuation) (t : IsTrueSource s x y) where
+module _ (s : StepSourceView) (x y : Valuation) (t : IsTrueSource s x y) where
   -- the value of the linear effect's variable
   slight_true : (e : LinearEffect) (slight : Bool) → pos (y e.variable) ≡ value (whole x) e.linear → IfSome (change_if_slight e slight) (λ c. pos (y c.variable) ≡ value (whole x) c.value)
   slight_true e true h = h
@@ -184,7 +183,7 @@ conveyed_true part Tells conditions flags z y same holds h =
     (λ negated tells. same negated h.condition h.listed tells) h.by.1
     (subst (λ (l : Letter). IsTrue (flag_of l flags) ↔ IsSetAt l (value (whole z) h.condition.linear)) h.by.0 held)
 
-module _ (s : SourceView) (x y : Valuation) (t : IsTrueSource s x y) (after : AbsState) (flags : Flags) (c : AreTrueConditions s after flags x y) where
+module _ (s : StepSourceView) (x y : Valuation) (t : IsTrueSource s x y) (after : AbsState) (flags : Flags) (c : AreTrueConditions s after flags x y) where
   listed_comes : (condition : FlagPart) → Contains s.conditions.after condition → ComeBoth s x y condition.linear
   listed_comes condition (k, within, is) = subst (λ (p : FlagPart). ComeBoth s x y p.linear) is (c.come k condition within)
 

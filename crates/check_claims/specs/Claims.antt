@@ -1,16 +1,18 @@
 -- Which facts and flag parts are known to hold after a step (docs/CHECKER.md, "Claims").
-use Rattle.std.specs.Prelude.{◌≡◌, ◌⊎◌, Bool, true, false, List, Contains, IsSomeAnd}
+use Rattle.std.specs.Prelude.{◌≡◌, ◌⊎◌, Bool, true, false, List, Contains, IsSomeAnd, Option}
 use Rattle.abs_state.specs.Variables.{range_of}
 use Rattle.abs_state.specs.declared.state.AbsState.{AbsState}
 use Rattle.flag_letters.specs.declared.letter.Letter.{Letter}
 use Rattle.flag_letters.specs.declared.letter.Letter.TheVariants.{Zero, ZeroIfBelow, CarryIfBelow, SignIfBelow}
 use Rattle.flag_letters.specs.declared.part.FlagPart.{FlagPart}
+use Rattle.linear_effects.specs.declared.variable_effect.LinearEffect.{LinearEffect}
 use Rattle.linear_sums.specs.Canon.{IsZeroIn}
 use Rattle.linear_sums.specs.Rewriting.{rewritten}
 use Rattle.loop_bounds.specs.Linear.{LinearView}
 use Rattle.loop_bounds.specs.Ranges.{Box}
+use Rattle.loop_bounds.specs.declared.effect.Effect.{Effect}
 use Rattle.check_claims.specs.Rewritings.{constants_first, variables_first}
-use Rattle.check_claims.specs.Source.{SourceView}
+use Rattle.check_claims.specs.Source.{StepSourceView}
 use Rattle.check_claims.specs.Zeros.{less, IsZeroBy}
 use Rattle.check_claims.specs.declared.rewritings.Rewriting.{Rewriting}
 
@@ -20,11 +22,14 @@ use Rattle.check_claims.specs.declared.rewritings.Rewriting.{Rewriting}
 abbrev pub BecomesZero : List LinearView → Box → Rewriting → LinearView → Type 0
 BecomesZero facts box r fact = IsSomeAnd (rewritten r.effect r.change fact) (IsZeroBy facts box)
 
--- a fact is known to hold after a step: it becomes 0 with constants first or with variables first
-abbrev pub IsClaimedFact : SourceView → LinearView → Type 0
-IsClaimedFact s fact =
-    BecomesZero s.facts (range_of s.before) (constants_first s.settled s.linear) fact
-    ⊎ BecomesZero s.facts (range_of s.before) (variables_first s.settled s.moved s.linear) fact
+-- it does with constants first or with variables first
+abbrev pub BecomesZeroEitherWay : List LinearView → Box → Effect → Effect → Option LinearEffect → LinearView → Type 0
+BecomesZeroEitherWay facts box settled moved linear fact =
+    BecomesZero facts box (constants_first settled linear) fact ⊎ BecomesZero facts box (variables_first settled moved linear) fact
+
+-- a fact is known to hold after a step
+abbrev pub IsClaimedFact : StepSourceView → LinearView → Type 0
+IsClaimedFact s fact = BecomesZeroEitherWay s.facts (range_of s.before) s.settled s.moved s.linear fact
 
 -- ---- flag parts
 
@@ -73,11 +78,19 @@ IsToldAfter box part conditions = IsConveyed part.letter (TellsAfter box part.li
 abbrev pub IsToldBack : List LinearView → Box → Rewriting → FlagPart → List FlagPart → Type 0
 IsToldBack facts box r part conditions = IsConveyed part.letter (TellsBack facts box r part.linear) conditions
 
--- A flag part is known to hold after a step to a state: a condition before tells it, with constants first or variables
--- first; or a condition after does, by the ranges of the state, or with variables first.
-abbrev pub IsClaimedPart : SourceView → AbsState → FlagPart → Type 0
+-- a condition before the step tells the part with constants first or with variables first
+abbrev pub IsToldBeforeEitherWay : List LinearView → Box → Effect → Effect → Option LinearEffect → FlagPart → List FlagPart → Type 0
+IsToldBeforeEitherWay facts box settled moved linear part conditions =
+    IsToldBefore facts box (constants_first settled linear) part conditions
+    ⊎ IsToldBefore facts box (variables_first settled moved linear) part conditions
+
+-- a condition after the step tells the part by the ranges after it, or with variables first
+abbrev pub IsToldAfterEitherWay : List LinearView → Box → Effect → Effect → Option LinearEffect → Box → FlagPart → List FlagPart → Type 0
+IsToldAfterEitherWay facts box settled moved linear after part conditions =
+    IsToldAfter after part conditions ⊎ IsToldBack facts box (variables_first settled moved linear) part conditions
+
+-- a flag part is known to hold after a step to a state
+abbrev pub IsClaimedPart : StepSourceView → AbsState → FlagPart → Type 0
 IsClaimedPart s after part =
-    (IsToldBefore s.facts (range_of s.before) (constants_first s.settled s.linear) part s.conditions.before
-    ⊎ IsToldBefore s.facts (range_of s.before) (variables_first s.settled s.moved s.linear) part s.conditions.before)
-    ⊎ (IsToldAfter (range_of after) part s.conditions.after
-    ⊎ IsToldBack s.facts (range_of s.before) (variables_first s.settled s.moved s.linear) part s.conditions.after)
+    IsToldBeforeEitherWay s.facts (range_of s.before) s.settled s.moved s.linear part s.conditions.before
+    ⊎ IsToldAfterEitherWay s.facts (range_of s.before) s.settled s.moved s.linear (range_of after) part s.conditions.after

@@ -5,3 +5,4 @@ pub mod Zeros
 pub mod Claims
 pub mod Truth
 pub mod SeenLaws
+pub mod RegisterLaws

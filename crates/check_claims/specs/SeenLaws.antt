@@ -12,13 +12,13 @@ use Rattle.loop_bounds.specs.Effect.{whole}
 use Rattle.loop_bounds.specs.Linear.{value}
 use Rattle.z80_alu.specs.Flags.{flags_of}
 use Rattle.z80_draft.specs.Registers.{IsRegs}
-use Rattle.check_claims.specs.Source.{SourceView}
+use Rattle.check_claims.specs.Source.{StepSourceView}
 use Rattle.check_claims.specs.Truth.{AreTrueConditions, ComeBoth, IsTrueSource}
 
 -- the state before the step holds of a machine, the facts are 0, and the linear effect is true of what it becomes
 abbrev pub SeenValuesAreTrue : Type 0
 SeenValuesAreTrue =
-    (s : SourceView) (cells : List KeptCell) (entry : Entry) (old new : Seen) → IsRegs old.regs → Holds s.before cells entry old
+    (s : StepSourceView) (cells : List KeptCell) (entry : Entry) (old new : Seen) → IsRegs old.regs → Holds s.before cells entry old
     → All (λ fact. value (whole (value_in old)) fact ≡ pos 0) s.facts
     → IfSome s.linear (λ e. pos (value_in new e.variable) ≡ value (whole (value_in old)) e.linear)
     → IsTrueSource s (value_in old) (value_in new)
@@ -26,7 +26,7 @@ SeenValuesAreTrue =
 -- the state after the step holds of what the machine becomes, and the conditions are true of its flags
 abbrev pub SeenConditionsAreTrue : Type 0
 SeenConditionsAreTrue =
-    (s : SourceView) (after : AbsState) (cells : List KeptCell) (entry : Entry) (old new : Seen) → IsRegs new.regs
+    (s : StepSourceView) (after : AbsState) (cells : List KeptCell) (entry : Entry) (old new : Seen) → IsRegs new.regs
     → Holds after cells entry new → HoldsParts s.conditions.before (flags_of new.regs.main.f) (value_in old)
     → AreSeen s.conditions.after new
     → All (λ condition. ComeBoth s (value_in old) (value_in new) condition.linear) s.conditions.after

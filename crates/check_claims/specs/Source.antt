@@ -8,7 +8,7 @@ use Rattle.loop_bounds.specs.declared.effect.Effect.{Effect}
 
 -- the facts and the state of the row before, the effect with and without priority for constants, the linear effect, and
 -- the conditions of the step
-pub record SourceView : Type 0 where
+pub record StepSourceView : Type 0 where
   pub facts : List LinearView
   pub before : AbsState
   pub settled : Effect

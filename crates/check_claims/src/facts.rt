@@ -1,13 +1,12 @@
 // Which facts are known to hold after a step.
-ghost use Rattle.std.specs.Prelude.{◌↔◌, ◌⊎◌, All, IsTrue};
+ghost use Rattle.std.specs.Prelude.{◌↔◌, All, IsTrue};
 ghost use Rattle.abs_state.specs.Variables.{range_of};
 ghost use Rattle.linear_sums.specs.Rewriting.{IsSlight};
-ghost use Rattle.check_claims.specs.Claims.{BecomesZero, IsClaimedFact};
-ghost use Rattle.check_claims.specs.Rewritings.{constants_first, variables_first};
+ghost use Rattle.check_claims.specs.Claims.{BecomesZero, BecomesZeroEitherWay, IsClaimedFact};
 ghost use Rattle.check_claims.specs.Truth.{FactLaw};
 
 use crate::rewritings::{Rewriting, are_same, constants_first, rewritten_by, variables_first};
-use crate::source::Source;
+use crate::source::StepSource;
 use crate::zeros::is_zero_by;
 use abs_state::AbsState;
 use linear_effects::LinearEffect;
@@ -34,8 +33,8 @@ fn becomes_zero_either_way(
     fact: &Linear,
 ) -> bool
     ensures { IsTrue result
-        ↔ (BecomesZero facts.now (range_of before.now) (constants_first settled.now linear.now) fact.now
-        ⊎ BecomesZero facts.now (range_of before.now) (variables_first settled.now moved.now linear.now) fact.now) }
+        ↔ BecomesZeroEitherWay facts.now (range_of before.now) settled.now moved.now linear.now
+        fact.now }
 {
     if becomes_zero(facts, before, &constants_first(settled, linear), fact) {
         return true;
@@ -51,7 +50,7 @@ fn becomes_zero_either_way(
     )
 }
 
-impl<'f, 'b, 's, 'm, 'l, 'c> Source<'f, 'b, 's, 'm, 'l, 'c> {
+impl<'f, 'b, 's, 'm, 'l, 'c> StepSource<'f, 'b, 's, 'm, 'l, 'c> {
     /// Whether a fact is known to hold after the step (docs/CHECKER.md, "Claims").
     pub fn knows_fact(&self, fact: &Linear) -> bool
         ensures exact { IsTrue result ↔ IsClaimedFact self.now fact.now }

@@ -2,12 +2,11 @@
 ghost use Rattle.std.specs.Prelude.{◌≡◌, ◌↔◌, ◌⊎◌, All, IsTrue};
 ghost use Rattle.abs_state.specs.Variables.{range_of};
 ghost use Rattle.linear_sums.specs.Rewriting.{IsSlight};
-ghost use Rattle.check_claims.specs.Claims.{IsConveyedBy, IsToldBefore, IsToldAfter, IsToldBack, TellsBefore, TellsAfter, TellsBack, IsClaimedPart};
-ghost use Rattle.check_claims.specs.Rewritings.{constants_first, variables_first};
+ghost use Rattle.check_claims.specs.Claims.{IsClaimedPart, IsConveyedBy, IsToldAfter, IsToldAfterEitherWay, IsToldBack, IsToldBefore, IsToldBeforeEitherWay, TellsAfter, TellsBack, TellsBefore};
 ghost use Rattle.check_claims.specs.Truth.{PartLaw};
 
 use crate::rewritings::{Rewriting, are_same, constants_first, variables_first};
-use crate::source::Source;
+use crate::source::StepSource;
 use crate::telling::{tells_after, tells_back, tells_before};
 use abs_state::AbsState;
 use flag_letters::{FlagPart, Letter};
@@ -24,7 +23,8 @@ fn is_conveyed_before(
 ) -> bool
     requires { IsSlight rewriting.now.change }
     ensures { IsTrue result
-        ↔ IsConveyedBy part.now.letter (TellsBefore facts.now (range_of before.now) rewriting.now part.now.linear) condition.now }
+        ↔ IsConveyedBy part.now.letter
+        (TellsBefore facts.now (range_of before.now) rewriting.now part.now.linear) condition.now }
 {
     if condition.letter != part.letter {
         return false;
@@ -55,7 +55,8 @@ fn is_conveyed_before(
 /// Whether a condition over the variables after the step says what the part says, by the ranges after it.
 fn is_conveyed_after(after: &AbsState, part: &FlagPart, condition: &FlagPart) -> bool
     ensures { IsTrue result
-        ↔ IsConveyedBy part.now.letter (TellsAfter (range_of after.now) part.now.linear) condition.now }
+        ↔ IsConveyedBy part.now.letter (TellsAfter (range_of after.now) part.now.linear)
+        condition.now }
 {
     if condition.letter != part.letter {
         return false;
@@ -79,7 +80,8 @@ fn is_conveyed_back(
 ) -> bool
     requires { IsSlight rewriting.now.change }
     ensures { IsTrue result
-        ↔ IsConveyedBy part.now.letter (TellsBack facts.now (range_of before.now) rewriting.now part.now.linear) condition.now }
+        ↔ IsConveyedBy part.now.letter
+        (TellsBack facts.now (range_of before.now) rewriting.now part.now.linear) condition.now }
 {
     if condition.letter != part.letter {
         return false;
@@ -117,7 +119,8 @@ fn is_told_before(
 ) -> bool
     requires { IsSlight rewriting.now.change }
     ensures { IsTrue result
-        ↔ IsToldBefore facts.now (range_of before.now) rewriting.now part.now conditions.now }
+        ↔ IsToldBefore facts.now (range_of before.now) rewriting.now part.now
+        conditions.now }
 {
     for condition in conditions {
         if is_conveyed_before(facts, before, rewriting, part, condition) {
@@ -150,7 +153,8 @@ fn is_told_back(
 ) -> bool
     requires { IsSlight rewriting.now.change }
     ensures { IsTrue result
-        ↔ IsToldBack facts.now (range_of before.now) rewriting.now part.now conditions.now }
+        ↔ IsToldBack facts.now (range_of before.now) rewriting.now part.now
+        conditions.now }
 {
     for condition in conditions {
         if is_conveyed_back(facts, before, rewriting, part, condition) {
@@ -171,8 +175,8 @@ fn is_told_before_either_way(
     conditions: &[FlagPart],
 ) -> bool
     ensures { IsTrue result
-        ↔ (IsToldBefore facts.now (range_of before.now) (constants_first settled.now linear.now) part.now conditions.now
-        ⊎ IsToldBefore facts.now (range_of before.now) (variables_first settled.now moved.now linear.now) part.now conditions.now) }
+        ↔ IsToldBeforeEitherWay facts.now (range_of before.now) settled.now moved.now linear.now
+        part.now conditions.now }
 {
     if is_told_before(
         facts,
@@ -207,8 +211,8 @@ fn is_told_after_either_way(
     conditions: &[FlagPart],
 ) -> bool
     ensures { IsTrue result
-        ↔ (IsToldAfter (range_of after.now) part.now conditions.now
-        ⊎ IsToldBack facts.now (range_of before.now) (variables_first settled.now moved.now linear.now) part.now conditions.now) }
+        ↔ IsToldAfterEitherWay facts.now (range_of before.now) settled.now moved.now linear.now
+        (range_of after.now) part.now conditions.now }
 {
     if is_told_after(after, part, conditions) {
         return true;
@@ -222,7 +226,7 @@ fn is_told_after_either_way(
     )
 }
 
-impl<'f, 'b, 's, 'm, 'l, 'c> Source<'f, 'b, 's, 'm, 'l, 'c> {
+impl<'f, 'b, 's, 'm, 'l, 'c> StepSource<'f, 'b, 's, 'm, 'l, 'c> {
     /// Whether a flag part is known to hold after the step, in the state `after` (docs/CHECKER.md, "Claims").
     pub fn knows_part(&self, part: &FlagPart, after: &AbsState) -> bool
         ensures exact { IsTrue result ↔ IsClaimedPart self.now after.now part.now }

@@ -128,8 +128,8 @@ pub fn variables_first(settled: &Effect, moved: &Effect, linear: &Option<LinearE
 
 /// Whether both ways are one: there is no linear effect, and constants have changed nothing.
 pub(crate) fn are_same(settled: &Effect, moved: &Effect, linear: &Option<LinearEffect>) -> bool
-    ensures { IsTrue result
-        → variables_first settled.now moved.now linear.now ≡ constants_first settled.now linear.now }
+    ensures { IsTrue result → variables_first settled.now moved.now linear.now
+        ≡ constants_first settled.now linear.now }
 {
     linear.is_none() && are_equal(settled, moved)
 }

@@ -8,7 +8,7 @@ use std::marker::Model;
 
 /// What a step starts from and what it makes: by these a claim about the variables or the flags after it is judged.
 #[derive(Drop)]
-pub struct Source<'f, 'b, 's, 'm, 'l, 'c> {
+pub struct StepSource<'f, 'b, 's, 'm, 'l, 'c> {
     /// The facts of the row before the step.
     pub facts: &'f [Linear],
     /// The state of that row.
@@ -23,10 +23,10 @@ pub struct Source<'f, 'b, 's, 'm, 'l, 'c> {
     pub conditions: &'c StepConditions,
 }
 
-impl<'f, 'b, 's, 'm, 'l, 'c> Model for Source<'f, 'b, 's, 'm, 'l, 'c> {
-    ghost use Rattle.check_claims.specs.Source.{SourceView};
+impl<'f, 'b, 's, 'm, 'l, 'c> Model for StepSource<'f, 'b, 's, 'm, 'l, 'c> {
+    ghost use Rattle.check_claims.specs.Source.{StepSourceView};
 
-    ghost Value = { SourceView };
+    ghost Value = { StepSourceView };
 
     ghost view = { λ s. record {
       facts = s.facts.now;

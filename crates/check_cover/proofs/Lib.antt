@@ -5,3 +5,4 @@ pub mod OrderedLists
 pub mod PlainLemmas
 pub mod ProgramLemmas
 pub mod RowLemmas
+pub mod KnowingLemmas

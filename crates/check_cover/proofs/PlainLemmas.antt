@@ -1,4 +1,4 @@
--- A row without facts that covers a state covers each state that this one covers, at splits too.
+-- A row without facts and flag parts that covers a state covers each state that this one covers, at splits too.
 use Rattle.std.proofs.lemmas.Option.{get_or_from_slice_get, slice_get_within}
 use Rattle.check_cover.proofs.CoveringLemmas.{AreRowsAt}
 use Rattle.cert_lines.specs.declared.row.Row.{Row}
@@ -22,7 +22,7 @@ some_plain : (cert : CertificateView) (a : ArrivalView) (wide state : AbsState) 
 some_plain cert a wide state plain over = record {
   row = plain.row;
   at = plain.at;
-  covers = (covers_without_facts a state plain.row true plain.facts
+  covers = (covers_without_facts a state plain.row true plain.facts plain.parts
       ((λ yes. state_covers_along plain.row.state wide state plain.covers over), (λ covers. refl))).0 refl;
 }
 
@@ -43,13 +43,14 @@ pub covered_plain : (cert : CertificateView) (a : ArrivalView) (wide state : Abs
     Covered cert a state
 covered_plain cert a wide state plain over = by_plain cert a wide state (split_at cert a.proc a.address) plain over
 
--- one of the rows at an address, given by its number, has no facts and covers a state
+-- one of the rows at an address, given by its number, has no facts and flag parts, and covers a state
 pub plainly : (cert : CertificateView) (a : ArrivalView) (state : AbsState) (start end k : ℕ) → AreRowsAt cert a start end → start ≤ k → k < end →
-    RowCovers cert a state k → IfSome (slice_get cert.rows k) (λ row. row.facts ≡ []) → CoversPlainly cert a.proc a.address state
+    RowCovers cert a state k → IfSome (slice_get cert.rows k) (λ row. (row.facts ≡ []) × (row.parts ≡ [])) → CoversPlainly cert a.proc a.address state
 unfolding tightened_by
 plainly cert a state start end k rows from below covers free =
     let place = (rows k covers.row covers.at).0 (from, below) in
-    let none : covers.row.facts ≡ [] = subst (λ (o : Option Row). IfSome o (λ row. row.facts ≡ [])) covers.at free in
+    let bare : (covers.row.facts ≡ []) × (covers.row.parts ≡ []) = subst (λ (o : Option Row). IfSome o (λ row. (row.facts ≡ []) × (row.parts ≡ []))) covers.at free in
+    let none : covers.row.facts ≡ [] = bare.0 in
     record {
       row = covers.row;
       at = record {
@@ -58,5 +59,6 @@ plainly cert a state start end k rows from below covers free =
         at = place.1;
       };
       facts = none;
+      parts = bare.1;
       covers = subst (λ (facts : List LinearView). IfSome (tightened_by facts state) (CoversState covers.row.state)) none covers.covers.tightened;
     }

@@ -8,7 +8,7 @@ use Rattle.linear_effects.specs.declared.variable_effect.LinearEffect.{LinearEff
 use Rattle.loop_bounds.specs.Effect.{unchanged}
 use Rattle.loop_bounds.specs.Linear.{LinearView}
 use Rattle.loop_bounds.specs.declared.effect.Effect.{Effect}
-use Rattle.check_claims.specs.Source.{SourceView}
+use Rattle.check_claims.specs.Source.{StepSourceView}
 
 -- what version 3 adds to a step: the effect without priority for constants, the linear effect, and the conditions
 pub record RefinementView : Type 0 where
@@ -47,7 +47,7 @@ first_arrival version proc address state = record {
 }
 
 -- what claims after the step are judged by
-abbrev pub source_of : ArrivalView → RefinementView → SourceView
+abbrev pub source_of : ArrivalView → RefinementView → StepSourceView
 source_of a r = record {
   facts = a.facts;
   before = a.before;

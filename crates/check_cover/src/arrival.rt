@@ -10,7 +10,7 @@ use crate::rows::{covers_state, is_plain, keeps_state};
 use abs_state::AbsState;
 use call_graph::ProcId;
 use cert_lines::RowRef;
-use check_claims::Source;
+use check_claims::StepSource;
 use flag_conditions::StepConditions;
 use linear_effects::LinearEffect;
 use loop_bounds::{Effect, Linear};
@@ -42,16 +42,16 @@ impl<'a> Model for Refinement<'a> {
 /// A state arrives at an address of a procedure, from a row with these facts and the state `before`, by a step with
 /// this effect, and in version 3 with what that version adds.
 #[derive(Drop)]
-pub struct Arrival<'a> {
+pub struct Arrival<'a, 'r> {
     pub proc: ProcId,
     pub address: u16,
     pub facts: &'a [Linear],
     pub before: &'a AbsState,
     pub effect: &'a Effect,
-    pub refined: Option<Refinement<'a>>,
+    pub refined: Option<Refinement<'r>>,
 }
 
-impl<'a> Model for Arrival<'a> {
+impl<'a, 'r> Model for Arrival<'a, 'r> {
     ghost use Rattle.check_cover.specs.Arrival.{ArrivalView};
 
     ghost Value = { ArrivalView };
@@ -66,7 +66,7 @@ impl<'a> Model for Arrival<'a> {
     } };
 }
 
-impl<'a> Arrival<'a> {
+impl<'a, 'r> Arrival<'a, 'r> {
     /// Whether a row covers the state that arrives.
     pub(crate) fn is_covered_by(&self, state: &AbsState, row: &RowRef) -> bool
         ensures { IsTrue result ↔ CoversArrival self.now state.now row.now }
@@ -91,9 +91,7 @@ impl<'a> Arrival<'a> {
         ensures { IsTrue result ↔ All (KnowsFact self.now self.now.refined) row.now.facts }
     {
         match &self.refined {
-            None => are_known(
-                self.facts, self.before, self.effect, row.facts.as_slice(),
-            ),
+            None => are_known(self.facts, self.before, self.effect, row.facts.as_slice()),
             Some(refined) => self.source(refined).knows_facts(row.facts.as_slice()),
         }
     }
@@ -110,10 +108,10 @@ impl<'a> Arrival<'a> {
     }
 
     /// What claims after the step are judged by.
-    fn source(&self, refined: &Refinement<'a>) -> Source<'a, 'a, 'a, 'a, 'a, 'a>
+    fn source(&self, refined: &Refinement<'r>) -> StepSource<'a, 'a, 'a, 'r, 'r, 'r>
         ensures { result ≡ source_of self.now refined.now }
     {
-        Source {
+        StepSource {
             facts: self.facts,
             before: self.before,
             settled: self.effect,

@@ -95,11 +95,7 @@ impl<'a> Coverer<'a> {
         };
         let rows = self.certificate.rows_at(proc, address);
         let id = self.likely_row(rows.start, rows.end, &arrival, state)?;
-        if self.is_plain(id) {
-            Some(id)
-        } else {
-            None
-        }
+        if self.is_plain(id) { Some(id) } else { None }
     }
 
     /// Whether there is a row with this number, and it has no facts and no flag parts.

@@ -1,5 +1,4 @@
 use Rattle.check_claims.proofs.SeenLemmas.{seen_agrees, seen_ones}
-use Rattle.abs_state.specs.Variables.{value_in}
 use Rattle.check_claims.proofs.laws.seen_steps_are_true.Goals as goal
 
 pub returns-clause-values : goal.returns-clause-values

@@ -1,6 +1,5 @@
-use Rattle.std.proofs.Common.{◌≡◌, ℕ, eqb, true, refl, ap, sym, ◌∙◌, subst, Option, Some, None, rules, IsTrue, Bool, false, not}
+use Rattle.std.proofs.Common.{◌≡◌, ℕ, eqb, true, refl, ap, sym, ◌∙◌, subst, Option, Some, None, rules, false, not}
 use Rattle.std.specs.Option.{is_some}
-use Rattle.loop_bounds.specs.Effect.{change_of}
 use Rattle.loop_bounds.specs.declared.effect.Change.{Change}
 use Rattle.loop_bounds.specs.declared.effect.Change.TheVariants.{Old, Raised, Lowered, Constant, Unknown}
 use Rattle.loop_bounds.specs.declared.effect.Effect.{Effect}

@@ -1,4 +1,4 @@
-use Rattle.std.proofs.Common.{◌↔◌, ◌∙◌, IsTrue, Bool, ap, not, sym, subst}
+use Rattle.std.proofs.Common.{◌↔◌, ◌∙◌, IsTrue, ap, not, sym, subst}
 use Rattle.std.specs.Prelude.{pos}
 use Rattle.abs_state.specs.Variables.{range_of}
 use Rattle.linear_sums.specs.Canon.{IsZeroIn}

@@ -1,4 +1,4 @@
-use Rattle.std.proofs.Common.{◌↔◌, ◌∙◌, IsTrue, IsSomeAnd, ap, sym, subst}
+use Rattle.std.proofs.Common.{◌↔◌, IsTrue, IsSomeAnd, sym, subst}
 use Rattle.abs_state.specs.Variables.{range_of}
 use Rattle.linear_sums.specs.Rewriting.{rewritten}
 use Rattle.loop_bounds.specs.Linear.{LinearView}

@@ -1,4 +1,4 @@
-use Rattle.std.proofs.Common.{◌↔◌, ◌∙◌, IsTrue, ap, sym, subst}
+use Rattle.std.proofs.Common.{◌↔◌, IsTrue, sym, subst}
 use Rattle.abs_state.specs.Variables.{range_of}
 use Rattle.loop_bounds.specs.Linear.{LinearView}
 use Rattle.check_claims.specs.Zeros.{less, IsZeroBy}

@@ -1,7 +1,7 @@
 use Rattle.std.proofs.Common.{◌≡◌, true, false, refl, sym, subst, arith}
 use Rattle.check_claims.specs.Claims.{IsClaimedFact}
 use Rattle.check_claims.proofs.Lists.{also_of_next}
-use Rattle.check_claims.proofs.source.Source.knows_facts.Goals as goal
+use Rattle.check_claims.proofs.source.StepSource.knows_facts.Goals as goal
 
 never : false ≡ true → ⊥
 never e = cc

@@ -1,34 +1,30 @@
-use Rattle.std.proofs.Common.{◌≡◌, ◌↔◌, ◌⊎◌, Bool, IsTrue, List, subst}
+use Rattle.std.proofs.Common.{◌≡◌, ◌↔◌, Bool, IsTrue, List, subst}
 use Rattle.abs_state.specs.Variables.{range_of}
 use Rattle.abs_state.specs.declared.state.AbsState.{AbsState}
 use Rattle.flag_letters.specs.declared.part.FlagPart.{FlagPart}
-use Rattle.check_claims.specs.Claims.{IsClaimedPart, IsToldAfter, IsToldBack, IsToldBefore}
-use Rattle.check_claims.specs.Rewritings.{constants_first, variables_first}
-use Rattle.check_claims.specs.Source.{SourceView}
+use Rattle.check_claims.specs.Claims.{IsToldAfterEitherWay, IsToldBeforeEitherWay}
+use Rattle.check_claims.specs.Source.{StepSourceView}
 use Rattle.check_claims.proofs.Tests.{by_first, by_second}
 use Rattle.check_claims.proofs.TruthLemmas.{part_true}
-use Rattle.check_claims.proofs.source.Source.knows_part.Goals as goal
+use Rattle.check_claims.proofs.source.StepSource.knows_part.Goals as goal
 
-abbrev ToldBefore : SourceView → FlagPart → List FlagPart → Type 0
-ToldBefore s part conditions =
-    IsToldBefore s.facts (range_of s.before) (constants_first s.settled s.linear) part conditions
-    ⊎ IsToldBefore s.facts (range_of s.before) (variables_first s.settled s.moved s.linear) part conditions
+abbrev ToldBefore : StepSourceView → FlagPart → List FlagPart → Type 0
+ToldBefore s part conditions = IsToldBeforeEitherWay s.facts (range_of s.before) s.settled s.moved s.linear part conditions
 
-abbrev ToldAfter : SourceView → AbsState → FlagPart → List FlagPart → Type 0
+abbrev ToldAfter : StepSourceView → AbsState → FlagPart → List FlagPart → Type 0
 ToldAfter s after part conditions =
-    IsToldAfter (range_of after) part conditions
-    ⊎ IsToldBack s.facts (range_of s.before) (variables_first s.settled s.moved s.linear) part conditions
+    IsToldAfterEitherWay s.facts (range_of s.before) s.settled s.moved s.linear (range_of after) part conditions
 
-of_before : (s self : SourceView) (part : FlagPart) (conditions : List FlagPart) (told : Bool) → s ≡ self → conditions ≡ s.conditions.before →
+of_before : (s self : StepSourceView) (part : FlagPart) (conditions : List FlagPart) (told : Bool) → s ≡ self → conditions ≡ s.conditions.before →
     (IsTrue told ↔ ToldBefore s part conditions) → IsTrue told ↔ ToldBefore self part self.conditions.before
 of_before s self part conditions told is list h =
-    subst (λ (r : SourceView). IsTrue told ↔ ToldBefore r part r.conditions.before) is
+    subst (λ (r : StepSourceView). IsTrue told ↔ ToldBefore r part r.conditions.before) is
     (subst (λ (l : List FlagPart). IsTrue told ↔ ToldBefore s part l) list h)
 
-of_after : (s self : SourceView) (after : AbsState) (part : FlagPart) (conditions : List FlagPart) (told : Bool) → s ≡ self → conditions ≡ s.conditions.after →
+of_after : (s self : StepSourceView) (after : AbsState) (part : FlagPart) (conditions : List FlagPart) (told : Bool) → s ≡ self → conditions ≡ s.conditions.after →
     (IsTrue told ↔ ToldAfter s after part conditions) → IsTrue told ↔ ToldAfter self after part self.conditions.after
 of_after s self after part conditions told is list h =
-    subst (λ (r : SourceView). IsTrue told ↔ ToldAfter r after part r.conditions.after) is
+    subst (λ (r : StepSourceView). IsTrue told ↔ ToldAfter r after part r.conditions.after) is
     (subst (λ (l : List FlagPart). IsTrue told ↔ ToldAfter s after part l) list h)
 
 pub returns-then-is_told_before_either_way-clause-exact : goal.returns-then-is_told_before_either_way-clause-exact
