@@ -4,4 +4,4 @@ pub mod Operations
 pub mod WordOperations
 pub mod EachInstruction
 pub mod True
-pub mod Complements
+pub mod OtherSides

@@ -20,18 +20,18 @@ use Rattle.flag_parts.specs.Parts.{HoldsPart, HoldsParts, flag_of, IsSetAt}
 use Rattle.flag_letters.specs.declared.letter.Letter.{Letter}
 use Rattle.flag_letters.specs.declared.letter.Letter.TheVariants as letters
 use Rattle.flag_letters.specs.declared.part.FlagPart.{FlagPart}
-use Rattle.flag_conditions.specs.Complement.{with_negated}
-use Rattle.flag_conditions.specs.Conditions.{StepConditionsView, carried, conditions_of, turned, turned_by, AreTrue}
+use Rattle.flag_conditions.specs.OtherSide.{with_negated}
+use Rattle.flag_conditions.specs.Conditions.{StepConditionsView, carried, carry_part_turned, conditions_of, turned_by, AreTrue}
 use Rattle.flag_conditions.specs.FlagChanges.{changes_of, leaves}
 use Rattle.flag_conditions.specs.NewConditions.{carry_if_below, new_before}
-use Rattle.flag_conditions.proofs.Complements.{complement_below}
+use Rattle.flag_conditions.proofs.OtherSides.{other_side_below}
 use Rattle.flag_conditions.proofs.EachInstruction.{each_before, each_after}
 use Rattle.flag_conditions.proofs.KeptFlags.{carry_turned, left_alone}
 
--- a part of C that is turned holds of the complement of C
-turned_holds : (s : LinearView) (f g : Flags) (x : Valuation) → g.carry ≡ not f.carry → HoldsPart (carry_if_below s) f x → IfSome (turned letters.CarryIfBelow s) (λ q. HoldsPart q g x)
+-- the part of C that says the opposite holds where C is turned
+turned_holds : (s : LinearView) (f g : Flags) (x : Valuation) → g.carry ≡ not f.carry → HoldsPart (carry_if_below s) f x → IfSome (carry_part_turned letters.CarryIfBelow s) (λ q. HoldsPart q g x)
 turned_holds s f g x e h =
-    let other : IsTrue (not f.carry) ↔ (value (whole x) (with_negated (negsuc 0 -ℤ s.constant) s.terms) <ℤ pos 0) = complement_below (whole x) s f.carry h in
+    let other : IsTrue (not f.carry) ↔ (value (whole x) (with_negated (negsuc 0 -ℤ s.constant) s.terms) <ℤ pos 0) = other_side_below (whole x) s f.carry h in
     let there : HoldsPart (carry_if_below (with_negated (negsuc 0 -ℤ s.constant) s.terms)) g x = subst (λ (b : Bool). IsTrue b ↔ (value (whole x) (with_negated (negsuc 0 -ℤ s.constant) s.terms) <ℤ pos 0)) (sym e) other in
     if_small (nat_le (unsigned_abs (negsuc 0 -ℤ s.constant)) 1000000000) there
   where
@@ -39,10 +39,10 @@ turned_holds s f g x e h =
     if_small true p = p
     if_small false p = tt
 
-turned_part : (part : FlagPart) (f g : Flags) (x : Valuation) → g.carry ≡ not f.carry → HoldsPart part f x → IfSome (turned part.letter part.linear) (λ q. HoldsPart q g x)
+turned_part : (part : FlagPart) (f g : Flags) (x : Valuation) → g.carry ≡ not f.carry → HoldsPart part f x → IfSome (carry_part_turned part.letter part.linear) (λ q. HoldsPart q g x)
 turned_part part f g x e = at part.letter part.linear
   where
-    at : (letter : Letter) (s : LinearView) → HoldsPart (record { letter = letter; linear = s }) f x → IfSome (turned letter s) (λ q. HoldsPart q g x)
+    at : (letter : Letter) (s : LinearView) → HoldsPart (record { letter = letter; linear = s }) f x → IfSome (carry_part_turned letter s) (λ q. HoldsPart q g x)
     at letters.CarryIfBelow s h = turned_holds s f g x e h
     at letters.Zero s h = tt
     at letters.ZeroIfBelow s h = tt

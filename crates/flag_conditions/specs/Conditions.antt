@@ -16,7 +16,7 @@ use Rattle.flag_parts.specs.Parts.{AreSeen, HoldsParts}
 use Rattle.flag_letters.specs.declared.letter.Letter.{Letter}
 use Rattle.flag_letters.specs.declared.letter.Letter.TheVariants as letters
 use Rattle.flag_letters.specs.declared.part.FlagPart.{FlagPart}
-use Rattle.flag_conditions.specs.Complement.{complement}
+use Rattle.flag_conditions.specs.OtherSide.{other_side}
 use Rattle.flag_conditions.specs.FlagChanges.{changes_of, leaves}
 use Rattle.flag_conditions.specs.NewConditions.{carry_if_below, new_before, new_after}
 
@@ -27,14 +27,14 @@ pub record StepConditionsView : Type 0 where
 
 -- ---- from the row's parts
 
--- a part of C, of the complement of C
-abbrev pub turned : Letter → LinearView → Option FlagPart
-turned letters.CarryIfBelow s = option_map carry_if_below (complement s)
-turned letter s = None
+-- the part of C that says the opposite
+abbrev pub carry_part_turned : Letter → LinearView → Option FlagPart
+carry_part_turned letters.CarryIfBelow s = option_map carry_if_below (other_side s)
+carry_part_turned letter s = None
 
 -- CCF turns the parts of C; other instructions that change a flag leave no part of it
 abbrev pub turned_by : Instr → FlagPart → Option FlagPart
-turned_by ComplementCarry part = turned part.letter part.linear
+turned_by ComplementCarry part = carry_part_turned part.letter part.linear
 turned_by instr part = None
 
 -- the condition that a part of the row gives: itself, where the instruction leaves its flag alone

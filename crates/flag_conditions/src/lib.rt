@@ -5,12 +5,12 @@
 mod arithmetic;
 mod byte_operand;
 mod changes;
-mod complement;
 mod linears;
 mod logic;
 mod new_conditions;
 mod new_parts;
 mod of_step;
+mod other_side;
 mod parts;
 mod word_operand;
 mod words;

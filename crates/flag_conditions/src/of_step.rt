@@ -1,12 +1,12 @@
 // The conditions of an instruction.
 ghost use Rattle.std.specs.Prelude.{◌≡◌, ◌≤◌, [], length};
 ghost use Rattle.std.specs.List.{filter_map};
-ghost use Rattle.flag_conditions.specs.Conditions.{carried, conditions_of, turned, AreTrue};
+ghost use Rattle.flag_conditions.specs.Conditions.{carried, carry_part_turned, conditions_of, AreTrue};
 
 use crate::changes::FlagChanges;
-use crate::complement::complement;
 use crate::new_conditions::{new_after, new_before};
 use crate::new_parts::NewParts;
+use crate::other_side::other_side;
 use crate::parts::carry_if_below;
 use arrayvec::ArrayVec;
 use flag_letters::{FlagPart, FlagParts, Letter};
@@ -62,12 +62,12 @@ impl StepConditions {
     }
 }
 
-/// A part of C, of the complement of C. None for another part, and where its constant would be too great for a linear.
-fn turned(part: &FlagPart) -> Option<FlagPart>
-    ensures { result ≡ turned part.now.letter part.now.linear }
+/// The part of C that says the opposite. None for another part, and where its constant would be too great for a linear.
+fn carry_part_turned(part: &FlagPart) -> Option<FlagPart>
+    ensures { result ≡ carry_part_turned part.now.letter part.now.linear }
 {
     match part.letter {
-        Letter::CarryIfBelow => match complement(&part.linear) {
+        Letter::CarryIfBelow => match other_side(&part.linear) {
             Some(linear) => Some(carry_if_below(linear)),
             None => None,
         },
@@ -83,7 +83,7 @@ fn carried(instr: &Instr, part: FlagPart) -> Option<FlagPart>
         return Some(part);
     }
     match instr {
-        Instr::ComplementCarry => turned(&part),
+        Instr::ComplementCarry => carry_part_turned(&part),
         _ => None,
     }
 }

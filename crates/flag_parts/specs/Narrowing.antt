@@ -39,12 +39,12 @@ abbrev pub zero_by : List Term → LinearView → AbsState → Option AbsState
 zero_by [] linear s = if is_none linear.constant then Some s else None
 zero_by (t ∷ ts) linear s = tightened range_of cut_to linear s
 
-abbrev pub zero : LinearView → AbsState → Option AbsState
-zero linear s = zero_by linear.terms linear s
+abbrev pub at_zero : LinearView → AbsState → Option AbsState
+at_zero linear s = zero_by linear.terms linear s
 
 -- the state where the linear is as said; none if nothing is left
 abbrev pub narrowed_by : ZeroTest → LinearView → AbsState → Option AbsState
-narrowed_by IsZero linear s = zero linear s
+narrowed_by IsZero linear s = at_zero linear s
 narrowed_by IsNotZero linear s = not_zero linear s
 narrowed_by (LiesOn side) linear s = limited range_of cut_to side linear s
 

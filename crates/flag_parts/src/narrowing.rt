@@ -10,7 +10,7 @@ ghost use Rattle.abs_state.specs.Holds.{Holds};
 ghost use Rattle.abs_state.specs.Seen.{Seen};
 ghost use Rattle.abs_state.specs.Variables.{value_in};
 ghost use Rattle.abs_state.specs.declared.cell.KeptCell.{KeptCell};
-ghost use Rattle.flag_parts.specs.Narrowing.{said, IsAsSaid, zero, narrowed_by, narrowed_by_part, narrowed};
+ghost use Rattle.flag_parts.specs.Narrowing.{said, IsAsSaid, at_zero, narrowed_by, narrowed_by_part, narrowed};
 ghost use Rattle.flag_parts.specs.Parts.{HoldsPart, AreSeen};
 
 use crate::excluding::exclude_zero;
@@ -47,8 +47,8 @@ fn said(letter: Letter, condition: Condition) -> Option<ZeroTest>
 
 /// Restricts a state to where a linear is 0. Nothing is left if the linear is another constant.
 fn restrict_to_zero(linear: &Linear, state: &mut AbsState) -> bool
-    ensures exact { MatchBool result (zero linear.now state.old ≡ Some state.new)
-        (zero linear.now state.old ≡ None) }
+    ensures exact { MatchBool result (at_zero linear.now state.old ≡ Some state.new)
+        (at_zero linear.now state.old ≡ None) }
     ensures holds { (cells : List KeptCell) (entry : Entry) (m : Seen) → IsRegs m.regs
         → Holds state.old cells entry m → value (whole (value_in m)) linear.now ≡ pos 0
         → IsTrue result × Holds state.new cells entry m }

@@ -50,7 +50,7 @@ use Rattle.flag_conditions.specs.Conditions.{AreTrue, AreTrueOf, IsAsKnown, Step
 use Rattle.linear_effects.specs.Carried.{IsTrueRange, carried_range}
 use Rattle.linear_effects.specs.Effects.{BecomesSo, IsDescribed, IsTrueEffect, effect_of}
 use Rattle.linear_effects.specs.declared.variable_effect.LinearEffect.{LinearEffect}
-use Rattle.refined_step.specs.Conditionals.{NarrowsSoundly, condition_of, conditional_nexts, conditional_way, from_narrowed, met}
+use Rattle.refined_step.specs.Conditionals.{NarrowsSoundly, tested_condition, conditional_nexts, conditional_way, from_narrowed, met}
 use Rattle.refined_step.specs.Kept.{AreTrueOfStep, KeepsRefined}
 use Rattle.refined_step.specs.Refined.{refined_answer, refined_by, refined_nexts, sharpened_nexts, step_carried, step_conditions, step_effect}
 use Rattle.refined_step.specs.Sharpening.{cut_successor, sharpened, value_range}
@@ -122,7 +122,7 @@ module _ (g : GroundView) (address : ℕ) (main inline : Bool) (a : AbsState) (i
 
   -- ---- with a condition
 
-  after_narrowed : (condition : Condition) → condition_of instr ≡ Some condition → NarrowsSoundly condition parts a → AreSeen parts m → IsInOrder g region running a instr ws (conditional_nexts g address main inline instr condition parts a)
+  after_narrowed : (condition : Condition) → tested_condition instr ≡ Some condition → NarrowsSoundly condition parts a → AreSeen parts m → IsInOrder g region running a instr ws (conditional_nexts g address main inline instr condition parts a)
       → After g.cells region running a instr ws (conditional_nexts g address main inline instr condition parts a) c
   after_narrowed condition is narrows seen order =
       let k = conditional instr condition is in
@@ -241,10 +241,10 @@ pub refined_keeps : (g : GroundView) (address : ℕ) (main inline : Bool) (a : A
     → AreTrue (step_conditions g address inline instr parts a) instr (operand_of g address inline a instr) parts (known_carry (range_of a) parts)
     → IsTrueEffect (step_effect g address inline instr parts a) instr a.pairs (operand_of g address inline a instr) (known_carry (range_of a) parts)
     → IsTrueRange (step_carried g address inline instr parts a) instr a.pairs (operand_of g address inline a instr) (known_carry (range_of a) parts)
-    → ((condition : Condition) → condition_of instr ≡ Some condition → NarrowsSoundly condition parts a)
+    → ((condition : Condition) → tested_condition instr ≡ Some condition → NarrowsSoundly condition parts a)
     → KeepsRefined g address main a instr parts (refined_nexts g address main inline instr parts a) (step_conditions g address inline instr parts a) (step_effect g address inline instr parts a)
 refined_keeps g address main inline a instr parts fits stands none tells conditions_true effect_true range_true narrows region running c hardware at is_main before seen order =
-    (after (condition_of instr) refl order, truths)
+    (after (tested_condition instr) refl order, truths)
   where
     m : Seen
     m = seen_of g.cells running.words c.state
@@ -304,7 +304,7 @@ refined_keeps g address main inline a instr parts fits stands none tells conditi
         let found : BecomesSo e m (instr_draft c instr) = subst (λ (o : Option LinearEffect). IfSome o (λ x. BecomesSo x m (instr_draft c instr))) is becomes in
         after_sharpened g address main inline a instr parts fits stands none region running c hardware at is_main before e byte carry is found regs same ordered
 
-    after : (o : Option Condition) → condition_of instr ≡ o → IsInOrder g region running a instr (writes_of g address a (Ok instr)) (refined_by o g address main inline instr parts a)
+    after : (o : Option Condition) → tested_condition instr ≡ o → IsInOrder g region running a instr (writes_of g address a (Ok instr)) (refined_by o g address main inline instr parts a)
         → After g.cells region running a instr (writes_of g address a (Ok instr)) (refined_by o g address main inline instr parts a) c
     after (Some condition) is ordered = after_narrowed g address main inline a instr parts fits stands none region running c hardware at is_main before condition is (narrows condition is) seen ordered
     after None is ordered = unconditional effect refl carried refl ordered
@@ -320,7 +320,7 @@ module _ (g : GroundView) (address : ℕ) (main inline : Bool) (a : AbsState) (i
   pub answered_keeps : (nexts : List Next) (byte : RangeView) (carry : Option Bool) (conditions : StepConditionsView) (effect : Option LinearEffect) (carried : Option RangeView)
       → byte ≡ operand_of g address inline a instr → carry ≡ known_carry (range_of a) parts → conditions ≡ conditions_of instr byte parts carry → effect ≡ effect_of instr a.pairs byte carry → carried ≡ carried_range instr a.pairs byte carry
       → length a.shape ≤ 64 → refined_answer g address main inline instr parts a ≡ Ok nexts → TellsCarry carry parts a → AreTrue conditions instr byte parts carry → IsTrueEffect effect instr a.pairs byte carry → IsTrueRange carried instr a.pairs byte carry
-      → ((condition : Condition) → condition_of instr ≡ Some condition → NarrowsSoundly condition parts a) → StandsAt g.rom address (Ok instr) → KeepsRefined g address main a instr parts nexts conditions effect
+      → ((condition : Condition) → tested_condition instr ≡ Some condition → NarrowsSoundly condition parts a) → StandsAt g.rom address (Ok instr) → KeepsRefined g address main a instr parts nexts conditions effect
   answered_keeps nexts byte carry conditions effect carried is_byte is_carry is_conditions is_effect is_carried fits answer tells conditions_true effect_true range_true narrows stands =
       let t = told (refusal main inline instr a) (refined_nexts g address main inline instr parts a) nexts answer in
       let byte_is : RangeView = operand_of g address inline a instr in

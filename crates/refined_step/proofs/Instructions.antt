@@ -39,7 +39,7 @@ use Rattle.linear_effects.specs.ByteEffects.{complemented}
 use Rattle.linear_effects.specs.Carried.{carried_range}
 use Rattle.linear_effects.specs.Effects.{becoming, effect_of}
 use Rattle.linear_effects.specs.declared.variable_effect.LinearEffect.{LinearEffect}
-use Rattle.refined_step.specs.Conditionals.{condition_of}
+use Rattle.refined_step.specs.Conditionals.{tested_condition}
 
 -- ---- with a condition
 
@@ -51,7 +51,7 @@ pub record IsConditional (instr : Instr) (condition : Condition) : Type 0 where
 no_condition : (P : Type 0) (condition : Condition) → (let o : Option Condition = None in o) ≡ Some condition → P
 no_condition P condition e = absurd (cc)
 
-pub conditional : (instr : Instr) (condition : Condition) → condition_of instr ≡ Some condition → IsConditional instr condition
+pub conditional : (instr : Instr) (condition : Condition) → tested_condition instr ≡ Some condition → IsConditional instr condition
 unfolding test_of before_test
 conditional (instrs.JumpIf given nn) condition e = subst (IsConditional (instrs.JumpIf given nn)) (same_Some given condition e) (record { test = refl; first = refl; jumps = λ s. refl })
 conditional (instrs.JumpRelativeIf given by) condition e = subst (IsConditional (instrs.JumpRelativeIf given by)) (same_Some (long_condition given) condition e) (record { test = refl; first = refl; jumps = λ s. refl })

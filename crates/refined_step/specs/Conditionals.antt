@@ -21,12 +21,12 @@ use Rattle.flag_parts.specs.Parts.{AreSeen}
 use Rattle.flag_letters.specs.declared.part.FlagPart.{FlagPart}
 
 -- the condition of JP cc, JR cc, CALL cc and RET cc
-abbrev pub condition_of : Instr → Option Condition
-condition_of (JumpIf condition nn) = Some condition
-condition_of (JumpRelativeIf condition e) = Some (long_condition condition)
-condition_of (CallIf condition nn) = Some condition
-condition_of (ReturnIf condition) = Some condition
-condition_of _ = None
+abbrev pub tested_condition : Instr → Option Condition
+tested_condition (JumpIf condition nn) = Some condition
+tested_condition (JumpRelativeIf condition e) = Some (long_condition condition)
+tested_condition (CallIf condition nn) = Some condition
+tested_condition (ReturnIf condition) = Some condition
+tested_condition _ = None
 
 -- the condition that is met where this one is not
 abbrev pub opposite : Condition → Condition

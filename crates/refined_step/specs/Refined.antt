@@ -16,7 +16,7 @@ use Rattle.flag_conditions.specs.Conditions.{StepConditionsView, conditions_of}
 use Rattle.linear_effects.specs.Carried.{carried_range}
 use Rattle.linear_effects.specs.Effects.{effect_of}
 use Rattle.linear_effects.specs.declared.variable_effect.LinearEffect.{LinearEffect}
-use Rattle.refined_step.specs.Conditionals.{condition_of, conditional_nexts}
+use Rattle.refined_step.specs.Conditionals.{tested_condition, conditional_nexts}
 use Rattle.refined_step.specs.Sharpening.{cut_successor, sharpened}
 
 -- the conditions of the step of a row
@@ -51,7 +51,7 @@ refined_by None g address main inline instr parts s =
 
 -- the refined successors of a row at an instruction
 abbrev pub refined_nexts : GroundView → ℕ → Bool → Bool → Instr → List FlagPart → AbsState → List Next
-refined_nexts g address main inline instr parts s = refined_by (condition_of instr) g address main inline instr parts s
+refined_nexts g address main inline instr parts s = refined_by (tested_condition instr) g address main inline instr parts s
 
 -- the refined successors, or the lowest reason that refuses the row for itself, which the parts don't change
 abbrev pub refined_answer : GroundView → ℕ → Bool → Bool → Instr → List FlagPart → AbsState → Result (List Next) Reason

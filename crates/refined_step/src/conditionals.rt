@@ -11,7 +11,7 @@ ghost use Rattle.abs_state.specs.Seen.{Seen};
 ghost use Rattle.abs_state.specs.declared.cell.KeptCell.{KeptCell};
 ghost use Rattle.flag_parts.specs.Narrowing.{narrowed};
 ghost use Rattle.flag_parts.specs.Parts.{AreSeen};
-ghost use Rattle.refined_step.specs.Conditionals.{condition_of, opposite, met, conditional_way, conditional_nexts, NarrowsSoundly};
+ghost use Rattle.refined_step.specs.Conditionals.{tested_condition, opposite, met, conditional_way, conditional_nexts, NarrowsSoundly};
 
 use abs_draft::Ground;
 use abs_state::AbsState;
@@ -34,8 +34,8 @@ fn of_short(condition: ShortCondition) -> Condition
 }
 
 /// The condition of JP cc, JR cc, CALL cc and RET cc.
-pub(crate) fn condition_of(instr: &Instr) -> Option<Condition>
-    ensures { result ≡ condition_of instr.now }
+pub(crate) fn tested_condition(instr: &Instr) -> Option<Condition>
+    ensures { result ≡ tested_condition instr.now }
 {
     match instr {
         Instr::JumpIf(condition, _) | Instr::CallIf(condition, _) | Instr::ReturnIf(condition) =>

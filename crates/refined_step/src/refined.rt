@@ -5,12 +5,12 @@ ghost use Rattle.z80_decode.specs.Spelling.{spelling};
 ghost use Rattle.z80_decode.specs.declared.kinds.Condition.{Condition as ConditionKind};
 ghost use Rattle.abs_step.specs.Successors.{answer_of, nexts_of, writes_of};
 ghost use Rattle.linear_effects.specs.Effects.{HasSlightTerms};
-ghost use Rattle.refined_step.specs.Conditionals.{condition_of, NarrowsSoundly};
+ghost use Rattle.refined_step.specs.Conditionals.{tested_condition, NarrowsSoundly};
 ghost use Rattle.refined_step.specs.Kept.{KeepsRefined};
 ghost use Rattle.refined_step.specs.Refined.{step_conditions, step_effect, step_carried, sharpened_nexts, refined_nexts, refined_answer};
 ghost use Rattle.refined_step.specs.Sharpening.{cut_successor, sharpened};
 
-use crate::conditionals::{condition_of, conditional_nexts};
+use crate::conditionals::{conditional_nexts, tested_condition};
 use crate::sharpening::{cut_successor, sharpen};
 use abs_draft::Ground;
 use abs_state::AbsState;
@@ -127,10 +127,10 @@ fn refined_nexts(
     requires carried { carried ≡ step_carried ground.now address inline instr.now parts.now state.now }
     ensures value { result.items
         ≡ refined_nexts ground.now address main inline instr.now parts.now state.now }
-    ensures narrows { (condition : ConditionKind) → condition_of instr.now ≡ Some condition
+    ensures narrows { (condition : ConditionKind) → tested_condition instr.now ≡ Some condition
         → NarrowsSoundly condition parts.now state.now }
 {
-    match condition_of(instr) {
+    match tested_condition(instr) {
         Some(condition) => conditional_nexts(
             alloc, ground, address, main, inline, instr, len, condition, parts, state,
         ),
@@ -170,7 +170,7 @@ fn refined_answer(
         refined_answer ground.now address main inline instr.now parts.now state.now ≡ Err reason) }
     ensures fits { IfOk result (λ nexts. length state.now.shape ≤ 64) }
     ensures narrows { IfOk result (λ nexts. (condition : ConditionKind)
-        → condition_of instr.now ≡ Some condition → NarrowsSoundly condition parts.now state.now) }
+        → tested_condition instr.now ≡ Some condition → NarrowsSoundly condition parts.now state.now) }
 {
     match answer {
         Ok(own) => Ok(refined_nexts(

@@ -1,7 +1,7 @@
 -- The loop over the terms.
 use Rattle.std.proofs.Common.{rules}
-use Rattle.flag_conditions.proofs.Complements.{next_linear}
-use Rattle.flag_conditions.proofs.complement.with_negated.Goals as goal
+use Rattle.flag_conditions.proofs.OtherSides.{next_linear}
+use Rattle.flag_conditions.proofs.other_side.with_negated.Goals as goal
 
 pub unwrap-result-requires : goal.unwrap-result-requires
 unwrap-result-requires c =

@@ -1,4 +1,4 @@
--- The complement of a linear is one, and it is below 0 exactly where the linear is not.
+-- -1 - L is a linear, and it is below 0 exactly where L is not.
 use Rattle.std.proofs.Common.{◌≡◌, ◌∙◌, ℕ, ◌<◌, ◌≤◌, Bool, not, List, [], ◌∷◌, length, get_or, take, map, All, ℤ, pos, negsuc, neg_ℤ, ◌-ℤ◌, ◌+ℤ◌, ◌*ℤ◌, refl, sym, subst, ap, arith, unsigned_abs}
 use Rattle.std.specs.Prelude.{IsTrue, ◌↔◌, ◌<ℤ◌}
 use Rattle.std.proofs.Math.IntN.{zero-*ℤ}
@@ -12,7 +12,7 @@ use Rattle.loop_bounds.specs.Linear.{IsLinear, LinearView, extended, total, valu
 use Rattle.loop_bounds.specs.Variable.{rank_of}
 use Rattle.loop_bounds.specs.declared.linear.Term.{Term}
 use Rattle.loop_bounds.specs.declared.variable.Variable.{Variable}
-use Rattle.flag_conditions.specs.Complement.{negated, with_negated}
+use Rattle.flag_conditions.specs.OtherSide.{negated, with_negated}
 
 -- ---- one more term
 
@@ -47,8 +47,8 @@ total_negated : (x : Variable → ℤ) (ts : List Term) → total x (map negated
 total_negated x [] = refl
 total_negated x (t ∷ ts) = omega (arith, ints, negated_product t.coefficient (x t.variable), total_negated x ts)
 
-pub complement_below : (x : Variable → ℤ) (s : LinearView) (b : Bool) → (IsTrue b ↔ (value x s <ℤ pos 0)) → IsTrue (not b) ↔ (value x (with_negated (negsuc 0 -ℤ s.constant) s.terms) <ℤ pos 0)
-complement_below x s b h =
+pub other_side_below : (x : Variable → ℤ) (s : LinearView) (b : Bool) → (IsTrue b ↔ (value x s <ℤ pos 0)) → IsTrue (not b) ↔ (value x (with_negated (negsuc 0 -ℤ s.constant) s.terms) <ℤ pos 0)
+other_side_below x s b h =
     let terms = total_negated x s.terms in
     let opposite : value x (with_negated (negsuc 0 -ℤ s.constant) s.terms) ≡ negsuc 0 -ℤ value x s = omega (arith, ints, terms) in
     turned b (value x s) (value x (with_negated (negsuc 0 -ℤ s.constant) s.terms)) opposite h

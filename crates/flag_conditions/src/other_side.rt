@@ -1,6 +1,6 @@
-// The complement of a linear.
+// A linear that is below 0 exactly where another is not.
 ghost use Rattle.std.specs.Prelude.{◌≡◌, []};
-ghost use Rattle.flag_conditions.specs.Complement.{complement, with_negated};
+ghost use Rattle.flag_conditions.specs.OtherSide.{other_side, with_negated};
 
 use loop_bounds::{Linear, Term};
 
@@ -22,8 +22,8 @@ fn with_negated(constant: Linear, linear: &Linear) -> Linear
 }
 
 /// -1 - L, which is below 0 exactly where L is not. None where its constant is above 1,000,000,000 in size.
-pub(crate) fn complement(linear: &Linear) -> Option<Linear>
-    ensures { result ≡ complement linear.now }
+pub(crate) fn other_side(linear: &Linear) -> Option<Linear>
+    ensures { result ≡ other_side linear.now }
 {
     match Linear::of_constant(-1 - linear.constant()) {
         Some(constant) => Some(with_negated(constant, linear)),

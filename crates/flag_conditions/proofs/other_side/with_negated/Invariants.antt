@@ -1,8 +1,8 @@
 -- The loop over the terms.
 use Rattle.std.proofs.Common.{◌≡◌, take}
 use Rattle.loop_bounds.specs.Linear.{IsLinear}
-use Rattle.flag_conditions.specs.Complement.{with_negated}
-use Rattle.flag_conditions.proofs.complement.with_negated.Given as goal
+use Rattle.flag_conditions.specs.OtherSide.{with_negated}
+use Rattle.flag_conditions.proofs.other_side.with_negated.Given as goal
 
 abbrev pub invariant-loop-term : goal.invariant-loop-term
 invariant-loop-term l = record {
