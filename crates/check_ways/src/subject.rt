@@ -227,7 +227,7 @@ impl<'a> Subject<'a> {
         effect: &'s Effect,
         moved: &'s Effect,
         told: &'s StepTold,
-    ) -> Arrival<'s>
+    ) -> Arrival<'s, 's>
         ensures { result ≡ record {
           proc = proc;
           address = address;
