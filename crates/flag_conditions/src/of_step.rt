@@ -1,5 +1,5 @@
 // The conditions of an instruction.
-ghost use Rattle.std.specs.Prelude.{◌≡◌, ◌≤◌, length};
+ghost use Rattle.std.specs.Prelude.{◌≡◌, ◌≤◌, [], length};
 ghost use Rattle.std.specs.List.{filter_map};
 ghost use Rattle.flag_conditions.specs.Conditions.{carried, carry_part_turned, conditions_of, AreTrue};
 
@@ -35,6 +35,16 @@ impl Model for StepConditions {
 }
 
 impl StepConditions {
+    /// No conditions.
+    pub fn none() -> StepConditions
+        ensures { result ≡ record { before = []; after = [] } }
+    {
+        StepConditions {
+            before: ArrayVec::new(),
+            after: NewParts::none(),
+        }
+    }
+
     /// The conditions over the variables before the instruction, at most eleven.
     pub fn before(&self) -> &[FlagPart]
         ensures value { result.now ≡ self.now.before }
