@@ -1,5 +1,5 @@
 // The refined step of a row with flag parts.
-ghost use Rattle.std.specs.Prelude.{◌≡◌, ◌≤◌, length, map, option_to_list, Ok, Err, Some, IfOk, IfErr, IfSome};
+ghost use Rattle.std.specs.Prelude.{◌≡◌, ◌≤◌, [], length, map, option_to_list, Ok, Err, Some, None, IfOk, IfErr, IfSome};
 ghost use Rattle.board_fetch.specs.Decoded.{StandsAt};
 ghost use Rattle.z80_decode.specs.Spelling.{spelling};
 ghost use Rattle.z80_decode.specs.declared.kinds.Condition.{Condition as ConditionKind};
@@ -23,7 +23,7 @@ use linear_effects::{LinearEffect, carried_range, linear_effect};
 use loop_bounds::Variable;
 use smallvec::SmallVec;
 use std::alloc::Global;
-use z80_decode::Instr;
+use z80_decode::{DecodeFault, Instr};
 
 /// What the refined step makes of a row with flag parts.
 #[derive(Drop)]
@@ -36,6 +36,24 @@ pub struct RefinedStep {
     pub conditions: StepConditions,
     /// The variable that the step makes a linear of the variables before it, if there is one.
     pub linear: Option<LinearEffect>,
+}
+
+impl RefinedStep {
+    /// The step of a row with no instruction at its address, for this fault of the decoder. It writes nothing and tells
+    /// nothing, and reason 4 refuses the row. It takes no memory.
+    pub fn undecoded(alloc: Global, fault: DecodeFault) -> RefinedStep
+        ensures writes { result.writes.items ≡ [] }
+        ensures answer { result.answer ≡ Err (Reason.Decode fault) }
+        ensures conditions { result.conditions ≡ record { before = []; after = [] } }
+        ensures linear { result.linear ≡ None }
+    {
+        RefinedStep {
+            writes: SmallVec::new(alloc),
+            answer: Err(Reason::Decode(fault)),
+            conditions: StepConditions::none(),
+            linear: None,
+        }
+    }
 }
 
 /// The successor, if there is one, sharpened by a linear effect.
