@@ -33,8 +33,8 @@ IsClaimedFact s fact = BecomesZeroEitherWay s.facts (range_of s.before) s.settle
 
 -- ---- flag parts
 
--- The linear of a condition tells that of a part as it is, or with its sign turned. Only where a letter says that a linear
--- is 0 its sign does not matter.
+-- The linear of a condition tells that of a part as it is, or with its sign turned. The sign does not matter only where
+-- the letter says that a linear is 0.
 abbrev pub AtSign : Letter → (Bool → Type 0) → Type 0
 AtSign Zero Tells = Tells false ⊎ Tells true
 AtSign ZeroIfBelow Tells = Tells false

@@ -2,15 +2,16 @@
 ghost use Rattle.check_claims.specs.RegisterLaws.{ConditionsNameRegisters};
 ghost use Rattle.check_claims.specs.SeenLaws.{SeenValuesAreTrue, SeenConditionsAreTrue};
 
-/// A law: if the state before the step holds of a machine, its facts are 0 and its linear effect is true, then the values
-/// seen are as the source says; and so are the conditions, if the state after holds of what the machine becomes.
+/// A law. Let the state before a step hold of a machine, its facts be 0 and its linear effect be true. Then the values
+/// seen of the machine before and after the step are as the source says. Let the state after the step hold too, and the
+/// conditions be true of the flags. Then the conditions are as the source says.
 pub fn seen_steps_are_true()
     ensures values { SeenValuesAreTrue }
     ensures conditions { SeenConditionsAreTrue }
 {}
 
-/// A law: the conditions over the variables after an instruction name no slot. So each variable that they name is there,
-/// whatever the machine's words on the stack.
+/// A law: the conditions over the variables after an instruction name no slot. So what they name is there, however many
+/// words the machine has on the stack.
 pub fn conditions_name_registers()
     ensures { ConditionsNameRegisters }
 {}

@@ -65,9 +65,9 @@ impl<'a> Coverer<'a> {
         }
     }
 
-    /// Whether a row without facts and flag parts at an address of a procedure is found that covers a state. Such a row covers each
-    /// state that this one covers, however it arrives. The search looks only where the row is likely, so it may miss
-    /// one.
+    /// Whether a row without facts and flag parts at an address of a procedure is found that covers a state. Such a row
+    /// covers each state that this one covers, however it arrives. The search looks only where the row is likely, so it
+    /// may miss one.
     pub fn covers_plainly(&mut self, proc: ProcId, address: u16, state: &AbsState) -> bool
         ensures found { IsTrue result → CoversPlainly self.old proc address state.now }
         ensures same { self.new ≡ self.old }
