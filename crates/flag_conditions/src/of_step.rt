@@ -1,5 +1,5 @@
 // The conditions of an instruction.
-ghost use Rattle.std.specs.Prelude.{◌≡◌, ◌≤◌, [], length};
+ghost use Rattle.std.specs.Prelude.{◌≡◌, ◌≤◌, length};
 ghost use Rattle.std.specs.List.{filter_map};
 ghost use Rattle.flag_conditions.specs.Conditions.{carried, conditions_of, AreTrue};
 
@@ -33,16 +33,6 @@ impl Model for StepConditions {
 }
 
 impl StepConditions {
-    /// No conditions: nothing is told of the flags.
-    pub fn none() -> StepConditions
-        ensures { result ≡ record { before = []; after = [] } }
-    {
-        StepConditions {
-            before: ArrayVec::new(),
-            after: NewParts::none(),
-        }
-    }
-
     /// The conditions over the variables before the instruction, at most eleven.
     pub fn before(&self) -> &[FlagPart]
         ensures value { result.now ≡ self.now.before }
