@@ -6,3 +6,4 @@ pub mod Claims
 pub mod Truth
 pub mod SeenLaws
 pub mod RegisterLaws
+pub mod SlightLaws

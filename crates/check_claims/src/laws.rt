@@ -1,5 +1,6 @@
 // Laws: what is seen of a machine before and after a step is as a source says.
 ghost use Rattle.check_claims.specs.RegisterLaws.{ConditionsNameRegisters};
+ghost use Rattle.check_claims.specs.SlightLaws.{SlightEffectsStay};
 ghost use Rattle.check_claims.specs.SeenLaws.{SeenValuesAreTrue, SeenConditionsAreTrue};
 
 /// A law. Let the state before a step hold of a machine, its facts be 0 and its linear effect be true. Then the values
@@ -14,4 +15,9 @@ pub fn seen_steps_are_true()
 /// words the machine has on the stack.
 pub fn conditions_name_registers()
     ensures { ConditionsNameRegisters }
+{}
+
+/// A law: a linear effect whose coefficients are at most 256 in size is not left out.
+pub fn slight_effects_stay()
+    ensures { SlightEffectsStay }
 {}

@@ -10,6 +10,6 @@ mod source;
 mod telling;
 mod zeros;
 
-pub use laws::{conditions_name_registers, seen_steps_are_true};
+pub use laws::{conditions_name_registers, seen_steps_are_true, slight_effects_stay};
 pub use rewritings::{Rewriting, constants_first, variables_first};
 pub use source::StepSource;
