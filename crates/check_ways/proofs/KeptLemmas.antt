@@ -6,11 +6,10 @@ use Rattle.std.proofs.lemmas.Option.{get_or_from_slice_get, same_Some, slice_get
 use Rattle.abs_state.specs.declared.mode.Mode.{Mode}
 use Rattle.abs_state.specs.declared.mode.Mode.TheVariants as modes
 use Rattle.abs_state.specs.declared.state.AbsState.{AbsState}
-use Rattle.check_cover.specs.Program.{ground_for, is_inline, is_main}
 use Rattle.cert_lines.specs.declared.row.Row.{Row}
 use Rattle.cert_form.specs.Contents.{CertificateView}
 use Rattle.cert_form.specs.Form.{IsInForm}
-use Rattle.check_ways.proofs.ReturnLemmas.{each_answers, left_in_form}
+use Rattle.check_ways.proofs.ReturnLemmas.{left_in_form, numbered_tells}
 use Rattle.check_ways.specs.Parts.{AnyExit, IsExitAt, OnEachExit, OnEachLeft, OnSomeExit}
 use Rattle.check_ways.specs.Ways.{SubjectView, IsExit}
 use Rattle.check_tables.specs.Lefts.{AreLeft, IsLeft, left_of, mode_number, numbered_mode, state_of}
@@ -35,20 +34,21 @@ left_bare e = ap (λ (m : Mode). record e { mode = m; flag = None; shape = [] })
 -- ---- exits, and what they leave
 
 -- an exit of a procedure leaves something
-pub is_left : (rom : List ℕ) (cert : CertificateView) (proc : ℕ) (exit : AbsState) → IsExit rom cert proc exit → IsLeft rom cert proc (left_of exit)
-is_left rom cert proc exit leaves =
+pub is_left : (rom : List ℕ) (cert : CertificateView) (proc : ℕ) (exit : AbsState) → IsInForm cert → IsExit rom cert proc exit → IsLeft rom cert proc (left_of exit)
+is_left rom cert proc exit form leaves =
     let s = leaves.subject in
     let (k, within, is) = leaves.is_subject.listed in
     let own : slice_get s.cert.rows k ≡ Some s.row = slice_get_read s.cert.rows _ k s.row refl within (sym is) in
+    let at : slice_get cert.rows k ≡ Some s.row = subst (λ (c : CertificateView). slice_get c.rows k ≡ Some s.row) leaves.same.1 own in
     record {
       number = k;
       here = record {
         row = s.row;
-        at = subst (λ (c : CertificateView). slice_get c.rows k ≡ Some s.row) leaves.same.1 own;
+        at = at;
         decoded = s.decoded;
         stands = subst (λ (x : List ℕ). StandsAt x s.row.address s.decoded) leaves.same.0 leaves.is_subject.stands;
         exit = exit;
-        leaves = (each_answers (ground_for s.rom s.cert) s.row.address (is_inline s.cert s.row.address) (is_main s.row.proc) s.row.state s.decoded exit).0
+        leaves = (numbered_tells s cert k form leaves.same.1 at exit).0
             record { next = leaves.next; leads = leaves.leads; kind = leaves.kind; state = leaves.state };
         is = refl;
       };
@@ -92,7 +92,7 @@ pub each_left : (s : SubjectView) (proc : ℕ) (lefts : List Left) (P : AbsState
 each_left s proc lefts P answer form left respects exact = (
   (λ yes. record {
     each = λ exit leaves.
-        let listed = left.each (left_of exit) (is_left s.rom s.cert proc exit leaves) in
+        let listed = left.each (left_of exit) (is_left s.rom s.cert proc exit form leaves) in
         (respects exit).0 (subst P (left_bare exit) ((exact.0 yes).each (left_of exit) listed));
   }),
   (λ all. exact.1 record {
@@ -144,7 +144,7 @@ pub some_left : (s : SubjectView) (proc : ℕ) (lefts : List Left) (empty : Bool
 some_left s proc [] empty form left is =
     subst (λ (b : Bool). IsTrue (not b) ↔ OnSomeExit s proc AnyExit) (sym is) (
       (λ yes. absurd (false≢true yes)),
-      (λ some. absurd (nothing (left_of some.exit) (left.each (left_of some.exit) (is_left s.rom s.cert proc some.exit some.of)))),
+      (λ some. absurd (nothing (left_of some.exit) (left.each (left_of some.exit) (is_left s.rom s.cert proc some.exit form some.of)))),
     )
   where
     nothing : (l : Left) → Contains [] l → ⊥

@@ -11,7 +11,8 @@ pub returns-then-wide_is_covered-clause-exact : goal.returns-then-wide_is_covere
 returns-then-wide_is_covered-clause-exact c =
     let kept = c.in-Some.ensures {u = tt} in (
       (λ yes.
-          wide_some c.args.coverer.now c.args.subject.now c.args.next.now c.args.callee.now c.in-Some.exits.now kept.0 kept.1
+          wide_some c.args.coverer.now c.args.subject.now c.args.next.now c.args.callee.now c.in-Some.exits.now
+          (subst (λ (x : SubjectView). IsInForm x.cert) c.subject.view_is c.is_in_form.ensures) kept.0 kept.1
           (c.wide_is_covered.ensures.some c.if-wide_is_covered.true) (c.wide_is_covered.ensures.found c.if-wide_is_covered.true)),
       (λ all. c.if-wide_is_covered.true),
     )
