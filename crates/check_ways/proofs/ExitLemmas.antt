@@ -189,8 +189,8 @@ before_change f keeps [] n listed leaves = absurd (none_in n listed)
 before_change f keeps (x ∷ xs) n (zero, within, is) leaves = (x, (0, omega arith, refl), sym (keeps x) ∙ ap (λ (y : Next). y.kind) is ∙ leaves)
 before_change f keeps (x ∷ xs) n (suc k, within, is) leaves =
     let rest = before_change f keeps xs n (k, omega (arith, within), is) leaves in
-    let (m, inside, same) = rest.1.0 in
-    (rest.0, (suc m, omega (arith, inside), same), rest.1.1)
+    let (m, inside, same) = rest.1 in
+    (rest.0, (suc m, omega (arith, inside), same), rest.2)
 
 cut_kind : (n : Next) (o : Option AbsState) → (with_cut_state n o).kind ≡ n.kind
 cut_kind n None = refl
@@ -220,7 +220,7 @@ module _ (g : GroundView) (address : ℕ) (main inline : Bool) (instr : Instr) (
       n.kind ≡ Exit → may_leave s (Ok instr) ≡ true
   changed_leaves f n keeps listed leaves =
       let own = before_change f keeps (nexts_by g address main inline instr s false) n listed leaves in
-      outcome_leaves s false own.0 refl own.1.0 own.1.1
+      outcome_leaves s false own.0 refl own.1 own.2
 
   sharpened_leaves : (linear : Option LinearEffect) (carried : Option RangeView) (n : Next) →
       Contains (sharpened_nexts g address main inline instr linear carried s) n → n.kind ≡ Exit → may_leave s (Ok instr) ≡ true

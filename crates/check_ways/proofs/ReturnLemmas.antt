@@ -1,5 +1,5 @@
 -- A return leaves its procedure in at most one state, which the row determines.
-use Rattle.std.proofs.Common.{◌≡◌, ◌-◌, ◌↔◌, ◌&&◌, ◌∙◌, ℕ, zero, suc, if◌then◌else◌, not, Bool, true, false, List, [], ◌∷◌, ◌++◌, length, take, Option, Some, None, IfSome, Result, Ok, Err, slice_get, option_map, refl, sym, subst, ap, inl, inr, arith}
+use Rattle.std.proofs.Common.{◌≡◌, ◌-◌, ◌↔◌, ◌&&◌, ◌∙◌, ℕ, zero, suc, if◌then◌else◌, not, Bool, true, false, List, [], ◌∷◌, ◌++◌, length, take, Option, Some, None, IfSome, Result, Ok, Err, slice_get, option_and_then, option_map, refl, sym, subst, ap, inl, inr, arith}
 use Rattle.std.specs.List.{Contains}
 use Rattle.std.proofs.lemmas.Bool.{cases_Bool}
 use Rattle.std.proofs.lemmas.Option.{same_Some}
@@ -15,24 +15,37 @@ use Rattle.abs_state.specs.declared.mode.Mode.{Mode}
 use Rattle.abs_state.specs.declared.mode.Mode.TheVariants as modes
 use Rattle.abs_state.specs.declared.state.AbsState.{AbsState}
 use Rattle.z80_actions.specs.Known.{returns_if_taken}
-use Rattle.abs_step.specs.Successors.{answer_of, is_empty, next_of, nexts_of, way_on}
+use Rattle.abs_step.specs.Successors.{answer_of, is_empty, next_of, nexts_by, nexts_of, way_on}
 use Rattle.abs_step.specs.declared.next.Next.{Next}
 use Rattle.abs_step.specs.declared.next.NextKind.TheVariants.{Jump, Exit}
 use Rattle.board_fetch.specs.Decoded.{StandsAt}
 use Rattle.check_cover.specs.Program.{ground_for, is_inline, is_main}
 use Rattle.cert_lines.specs.declared.proc.Proc.{Proc}
+use Rattle.cert_flags.specs.Flags.{AreFlags}
+use Rattle.cert_flags.specs.declared.flags.RowFlags.{RowFlags}
+use Rattle.cert_lines.specs.Row.{row_flags}
+use Rattle.cert_lines.specs.Version.{flag_form}
 use Rattle.cert_lines.specs.declared.row.Row.{Row}
+use Rattle.cert_lines.specs.declared.version.Version.{Version}
+use Rattle.cert_lines.specs.declared.version.Version.TheVariants.{One, Two, Three}
 use Rattle.cert_form.specs.Contents.{CertificateView}
-use Rattle.cert_form.specs.Form.{IsInForm}
-use Rattle.check_ways.proofs.ExitLemmas.{exit_way, leaves_by, no_exit_in, none_in, stated}
-use Rattle.check_ways.proofs.SubjectLemmas.{row_has_proc, subject_at}
+use Rattle.cert_form.specs.Form.{IsInForm, IsRowOf}
+use Rattle.check_ways.proofs.ExitLemmas.{exit_way, leaves_by, no_exit_in, none_in, refined_leaves, stated}
+use Rattle.check_ways.proofs.SubjectLemmas.{each_at, row_has_proc, subject_at}
 use Rattle.check_ways.specs.Parts.{IsExitAt, IsExitIn, may_leave}
-use Rattle.check_ways.specs.Ways.{nexts_in}
-use Rattle.check_tables.specs.Exits.{exit_by, is_at_end, state_left}
+use Rattle.check_ways.specs.Ways.{SubjectView, nexts_from, nexts_in, step_by, step_from}
+use Rattle.check_tables.specs.Exits.{exit_by, is_at_end, state_left, state_where}
+use Rattle.flag_letters.specs.declared.part.FlagPart.{FlagPart}
+use Rattle.flag_parts.specs.Narrowing.{narrowed}
 use Rattle.intervals.specs.Range.{single}
 use Rattle.intervals.specs.declared.pair.Pair.{Pair}
 use Rattle.intervals.specs.declared.reg_pair.RegPair.{RegPair}
 use Rattle.intervals.specs.declared.reg_pair.RegPair.TheVariants.{Af, Bc, De, Hl}
+use Rattle.linear_effects.specs.Carried.{carried_range}
+use Rattle.linear_effects.specs.Effects.{effect_of}
+use Rattle.refined_step.proofs.NarrowedStack.{KeepsStack, narrowed_kept}
+use Rattle.refined_step.specs.Conditionals.{conditional_nexts, conditional_way, from_narrowed, met}
+use Rattle.refined_step.specs.Refined.{refined_answer}
 use Rattle.stack_shape.specs.declared.slot.Slot.{Slot}
 use Rattle.z80_decode.specs.declared.fault.DecodeFault.{DecodeFault}
 use Rattle.z80_decode.specs.declared.instr.Instr.{Instr}
@@ -261,7 +274,7 @@ module _ (g : GroundView) (address : ℕ) (inline : Bool) where
   unfolding test_of
   left_stays cc' None n listed leaves = none_in n listed
   left_stays cc' (Some t) n listed leaves =
-      jumps_stay (tested (Condition_test cc') false (known_at_test g address inline (instrs.ReturnIf cc') t))
+      jumps_stay _
       (λ left. next_of false (instrs.ReturnIf cc') false Jump left) (λ k. refl) n listed leaves
 
   -- a return that is taken leaves in the state where its condition is met

@@ -12,7 +12,7 @@ use Rattle.cert_form.specs.Contents.{CertificateView}
 use Rattle.check_ways.specs.Parts.{AreNumbersAt, IsTopOf, OnEachExit, PaysAll, PaysNumber, PaysPlace, PaysReturn, PaysWay}
 use Rattle.check_payments.specs.Paying.{PaysEitherWay}
 use Rattle.check_ways.specs.Pays.{PaysBy, PaysTo, constant_sum, potential_of}
-use Rattle.check_ways.specs.Ways.{SubjectView, WayView, behind_of, call_cost}
+use Rattle.check_ways.specs.Ways.{SubjectView, WayView, behind_of, call_cost, return_way}
 use Rattle.check_tables.specs.Tables.{IsAtMost}
 use Rattle.loop_bounds.specs.Bounds.{Decreases}
 use Rattle.loop_bounds.specs.Effect.{unchanged, whole}
@@ -34,8 +34,8 @@ PaysSum from to cost effect (Some r) source target = PaysEitherWay from to cost 
 -- what pays for a number pays for a smaller one, by any effect and to any ranges, and in version 3 too
 pays_less : (from : LinearView) (one other : ℤ) (cost : ℕ) (effect : Effect) (refined : Option RefinementView) (source target : Box) → one ≤ℤ other →
     Decreases from (constant other) cost unchanged source source → PaysSum from (constant one) cost effect refined source target
-pays_less from one other cost effect None source target least pays before free lies lies_free =
-    less_left (value (whole before) from) (pos cost) one other least (pays before before lies lies)
+pays_less from one other cost effect None source target least pays =
+    λ before free lies lies_free. less_left (value (whole before) from) (pos cost) one other least (pays before before lies lies)
 pays_less from one other cost effect (Some r) source target least pays =
     inl (λ before free lies lies_free. less_left (value (whole before) from) (pos cost) one other least (pays before before lies lies))
 
@@ -87,7 +87,7 @@ pays_a_way s way start end rows pays = record {
 pub pays_each_return : (s : SubjectView) (next : Next) (callee : Callee) → PaysPlace s s.row.proc (behind_of s.decoded s.row.address) (call_cost next callee) →
     OnEachExit s callee.number (PaysReturn s next callee)
 pays_each_return s next callee pays = record {
-  each = λ exit leaves. record { each = λ target lands. pays.each target _ lands.at };
+  each = λ exit leaves. record { each = λ target lands. pays.each target (return_way s next callee exit).arrival lands.at };
 }
 
 -- exactly the rows at an address have these numbers
