@@ -277,6 +277,7 @@ pub(crate) fn refinement<'s>(
 fn plain(step: RowStep) -> SubjectStep
     ensures writes { result.writes ≡ step.writes }
     ensures answer { result.answer ≡ step.answer }
+    ensures told { result.told ≡ untold }
 {
     let RowStep { writes, answer, .. } = step;
     SubjectStep {
