@@ -191,16 +191,17 @@ impl<'a> Subject<'a> {
     {
         // By the form, there are at most 256 cells.
         self.certificate.is_in_form();
+        let row = &self.row;
         refined_step(
             alloc,
             &Ground::of(self.rom, self.map, self.certificate.cells()),
-            self.row.address,
-            self.row.proc == 0,
-            is_inline(self.certificate, self.row.address),
+            row.address,
+            row.proc == 0,
+            is_inline(self.certificate, row.address),
             instr,
             self.len,
             &self.state,
-            self.row.parts,
+            row.parts,
         )
     }
 
