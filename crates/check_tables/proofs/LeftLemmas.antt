@@ -166,7 +166,7 @@ gathers_all rom cert proc start end k lefts rows past gathers = record {
 -- ---- one row
 
 abbrev Tells : List ℕ → Row → Option AbsState → Type 0
-Tells rom row only = (decoded : Result Instr DecodeFault) → StandsAt rom row.address decoded → only ≡ exit_by (is_main row.proc) row.state decoded
+Tells rom row only = (decoded : Result Instr DecodeFault) → StandsAt rom row.address decoded → only ≡ exit_by (is_main row.proc) row.parts row.state decoded
 
 -- a row without an exit adds nothing
 pub adds_none : (rom : List ℕ) (cert : CertificateView) (number : ℕ) (row : Row) (lefts : List Left) → slice_get cert.rows number ≡ Some row →
@@ -175,7 +175,7 @@ adds_none rom cert number row lefts at tells = record {
   exit = λ left is.
       let same : is.row ≡ row = same_Some is.row row (sym is.at ∙ at) in
       let none = tells is.decoded (subst (λ (r : Row). StandsAt rom r.address is.decoded) same is.stands) in
-      let some = subst (λ (r : Row). exit_by (is_main r.proc) r.state is.decoded ≡ Some is.exit) same is.leaves in
+      let some = subst (λ (r : Row). exit_by (is_main r.proc) r.parts r.state is.decoded ≡ Some is.exit) same is.leaves in
       absurd (not_some is.exit (none ∙ some));
   kept = λ left listed. listed;
   only = λ left listed. inl listed;
@@ -204,7 +204,7 @@ adds_one rom cert number row exit old new at tells stands has kept only = record
   exit = λ left is.
       let same : is.row ≡ row = same_Some is.row row (sym is.at ∙ at) in
       let told = tells is.decoded (subst (λ (r : Row). StandsAt rom r.address is.decoded) same is.stands) in
-      let some = subst (λ (r : Row). exit_by (is_main r.proc) r.state is.decoded ≡ Some is.exit) same is.leaves in
+      let some = subst (λ (r : Row). exit_by (is_main r.proc) r.parts r.state is.decoded ≡ Some is.exit) same is.leaves in
       let one : exit ≡ is.exit = same_Some exit is.exit (told ∙ some) in
       subst (λ (l : Left). Contains new l) (ap left_of one ∙ sym is.is) has;
   kept = kept;

@@ -1,15 +1,16 @@
 -- The exits of a procedure are those of its rows, and those of a row are among its successors.
-use Rattle.std.proofs.Common.{◌≡◌, ◌<◌, ◌≤◌, ◌↔◌, ◌&&◌, ℕ, zero, suc, if◌then◌else◌, not, Bool, true, false, List, [], ◌∷◌, ◌++◌, Option, Some, None, Result, Ok, Err, slice_get, refl, sym, subst, ap, ◌∙◌, inl, inr, arith, drop, is_some, IsTrue, ◌+◌}
+use Rattle.std.proofs.Common.{◌≡◌, ◌<◌, ◌≤◌, ◌↔◌, ◌&&◌, ℕ, zero, suc, if◌then◌else◌, not, Bool, true, false, List, [], ◌∷◌, ◌++◌, Option, Some, None, Result, Ok, Err, IfSome, map, length, option_and_then, slice_get, refl, sym, subst, ap, ◌∙◌, inl, inr, arith, drop, is_some, IsTrue, ◌+◌}
 use Rattle.std.specs.List.{Contains}
 use Rattle.std.proofs.lemmas.Bool.{cases_lt, false≢true}
 use Rattle.std.proofs.lemmas.List.Elements.{Contains-append_cases}
 use Rattle.std.proofs.lemmas.Option.{same_Some, slice_get_read}
 use Rattle.abs_draft.specs.Ground.{GroundView}
-use Rattle.abs_draft.specs.Outcomes.{after_moves, before_test, behind_test, known_before, test_of, tested}
+use Rattle.abs_draft.specs.Outcomes.{after_moves, before_test, behind_test, known_at_test, known_before, test_of, tested}
 use Rattle.abs_draft.specs.declared.draft.AbsDraft.{AbsDraft}
+use Rattle.abs_state.specs.Variables.{cut_to, range_of}
 use Rattle.abs_state.specs.declared.state.AbsState.{AbsState}
 use Rattle.z80_actions.specs.Known.{returns_if_taken}
-use Rattle.abs_step.specs.Successors.{answer_by, answer_of, is_call, is_empty, next_kind_of, next_of, refusal, nexts_of, way_on, ways_on}
+use Rattle.abs_step.specs.Successors.{answer_by, answer_of, is_call, is_empty, next_kind_of, next_of, refusal, nexts_by, nexts_of, way_by, way_on, ways_on}
 use Rattle.abs_step.specs.declared.next.Next.{Next}
 use Rattle.abs_step.specs.declared.next.NextKind.{NextKind}
 use Rattle.abs_step.specs.declared.next.NextKind.TheVariants.{Jump, Call, Exit}
@@ -19,12 +20,24 @@ use Rattle.board_fetch.specs.Decoded.{StandsAt}
 use Rattle.check_cover.specs.Program.{ground_for, is_inline, is_main}
 use Rattle.cert_lines.specs.declared.proc.Proc.{Proc}
 use Rattle.cert_lines.specs.declared.row.Row.{Row}
+use Rattle.cert_lines.specs.declared.version.Version.{Version}
+use Rattle.cert_lines.specs.declared.version.Version.TheVariants.{One, Two, Three}
 use Rattle.cert_form.specs.Contents.{CertificateView}
 use Rattle.check_ways.specs.Parts.{AnyExit, AtEachExit, AtSomeExit, AreExitsOf, HasNoExit, IsExitAt, IsExitIn, IsOnlyExit, OnEachExit, OnSomeExit, may_leave}
-use Rattle.check_ways.specs.Ways.{SubjectView, IsExit, IsNumbered, nexts_from, nexts_in, step_of}
+use Rattle.check_ways.specs.Ways.{SubjectView, IsExit, IsNumbered, nexts_from, nexts_in, step_by, step_from, step_of}
+use Rattle.flag_letters.specs.declared.part.FlagPart.{FlagPart}
+use Rattle.flag_parts.specs.Narrowing.{narrowed}
+use Rattle.intervals.specs.Range.{RangeView}
+use Rattle.linear_effects.specs.declared.variable_effect.LinearEffect.{LinearEffect}
+use Rattle.loop_bounds.specs.declared.variable.Variable.TheVariants as variables
+use Rattle.refined_step.proofs.NarrowedStack.{KeepsStack, narrowed_kept}
+use Rattle.refined_step.specs.Conditionals.{conditional_way, from_narrowed, met, tested_condition}
+use Rattle.refined_step.specs.Refined.{refined_answer, refined_by as nexts_refined, refined_nexts, sharpened_nexts, step_carried, step_effect}
+use Rattle.refined_step.specs.Sharpening.{cut_successor, sharpened, value_range, with_cut_state}
 use Rattle.stack_shape.specs.declared.slot.Slot.{Slot}
 use Rattle.z80_decode.specs.declared.fault.DecodeFault.{DecodeFault}
 use Rattle.z80_decode.specs.declared.instr.Instr.{Instr}
+use Rattle.z80_decode.specs.declared.kinds.Condition.{Condition}
 use Rattle.z80_moves.specs.declared.moves.Test.{Test}
 use Rattle.z80_moves.specs.Moves.{moves_of}
 
@@ -114,29 +127,28 @@ pub exit_way : (k : Option AbsDraft) (f : AbsDraft → Next) (n : Next) → Cont
 exit_way None f n listed = absurd (none_in n listed)
 exit_way (Some k) f n listed = (k, in_one (f k) n listed)
 
--- if a successor is of this kind or a jump, and it is an exit, the kind is that of an exit
-two_ways : (o p : Option AbsDraft) (f h : AbsDraft → Next) (kind : NextKind) (n : Next) → ((k : AbsDraft) → (f k).kind ≡ kind) → ((k : AbsDraft) → (h k).kind ≡ Jump) →
-    Contains (way_on o f ++ way_on p h) n → n.kind ≡ Exit → kind ≡ Exit
-two_ways o p f h kind n taken left listed leaves =
-    elim (Contains-append_cases (way_on o f) (way_on p h) n listed) [
-      | inl first ↦
-          let way = exit_way o f n first in
-          sym (taken way.0) ∙ ap (λ (x : Next). x.kind) way.1 ∙ leaves
-      | inr second ↦
-          let way = exit_way p h n second in
-          let jumps : Jump ≡ Exit = sym (left way.0) ∙ ap (λ (x : Next). x.kind) way.1 ∙ leaves in
-          cc
-    ]
+-- an exit among the successors of an outcome is one of an instruction that leaves the procedure when it is taken
+way_kind : (g : GroundView) (main inline : Bool) (instr : Instr) (kind : NextKind) (test : Option Test) (k : AbsDraft) (taken : Bool) (n : Next) →
+    Contains (way_by g main inline instr kind test k taken) n → n.kind ≡ Exit → kind ≡ Exit
+way_kind g main inline instr kind None k true n listed leaves = absurd (none_in n listed)
+way_kind g main inline instr kind None k false n listed leaves =
+    ap (λ (x : Next). x.kind) (in_one (next_of main instr false kind k) n listed) ∙ leaves
+way_kind g main inline instr kind (Some test) k true n listed leaves =
+    let way = exit_way (tested test true k) (λ (t : AbsDraft). next_of main instr true kind (after_moves g inline (behind_test (moves_of instr)) t)) n listed in
+    ap (λ (x : Next). x.kind) way.1 ∙ leaves
+way_kind g main inline instr kind (Some test) k false n listed leaves =
+    let way = exit_way (tested test false k) (λ (l : AbsDraft). next_of main instr false Jump l) n listed in
+    let jumps : Jump ≡ Exit = ap (λ (x : Next). x.kind) way.1 ∙ leaves in
+    cc
 
--- an exit is a successor of an instruction that leaves the procedure when it is taken
+-- and so among those of both outcomes
 exit_kind : (g : GroundView) (main inline : Bool) (instr : Instr) (kind : NextKind) (test : Option Test) (k : AbsDraft) (n : Next) →
     Contains (ways_on g main inline instr kind test k) n → n.kind ≡ Exit → kind ≡ Exit
-exit_kind g main inline instr kind None k n listed leaves =
-    ap (λ (x : Next). x.kind) (in_one (next_of main instr false kind k) n listed) ∙ leaves
-exit_kind g main inline instr kind (Some test) k n listed leaves =
-    two_ways (tested test true k) (tested test false k)
-    (λ (t : AbsDraft). next_of main instr true kind (after_moves g inline (behind_test (moves_of instr)) t))
-    (λ (l : AbsDraft). next_of main instr false Jump l) kind n (λ t. refl) (λ l. refl) listed leaves
+exit_kind g main inline instr kind test k n listed leaves =
+    elim (Contains-append_cases (way_by g main inline instr kind test k true) (way_by g main inline instr kind test k false) n listed) [
+      | inl first ↦ way_kind g main inline instr kind test k true n first leaves
+      | inr second ↦ way_kind g main inline instr kind test k false n second leaves
+    ]
 
 -- an instruction that leaves the procedure when it is taken is a return, on an empty shape
 abbrev kind_by : Bool → Bool → Bool → Bool → NextKind
@@ -168,14 +180,101 @@ leaves_by g address main inline state (Ok instr) exit leaves = by (refusal main 
         (exit_kind g main inline instr (next_kind_of inline instr state.shape) (test_of (moves_of instr))
         (after_moves g inline (before_test (moves_of instr)) (known_before address instr state)) h.next h.leads h.kind)
 
+-- ---- the refined step
+
+-- a successor that is an exit after a change of successors is one before it
+before_change : (f : Next → Next) → ((x : Next) → (f x).kind ≡ x.kind) → (xs : List Next) (n : Next) → Contains (map f xs) n → n.kind ≡ Exit →
+    (x : Next) × Contains xs x × (x.kind ≡ Exit)
+before_change f keeps [] n listed leaves = absurd (none_in n listed)
+before_change f keeps (x ∷ xs) n (zero, within, is) leaves = (x, (0, omega arith, refl), sym (keeps x) ∙ ap (λ (y : Next). y.kind) is ∙ leaves)
+before_change f keeps (x ∷ xs) n (suc k, within, is) leaves =
+    let rest = before_change f keeps xs n (k, omega (arith, within), is) leaves in
+    let (m, inside, same) = rest.1 in
+    (rest.0, (suc m, omega (arith, inside), same), rest.2)
+
+cut_kind : (n : Next) (o : Option AbsState) → (with_cut_state n o).kind ≡ n.kind
+cut_kind n None = refl
+cut_kind n (Some t) = refl
+
+same_empty : (a b : List Slot) → length a ≡ length b → is_empty a ≡ is_empty b
+same_empty [] [] e = refl
+same_empty [] (x ∷ xs) e = absurd (omega (arith, e))
+same_empty (x ∷ xs) [] e = absurd (omega (arith, e))
+same_empty (x ∷ xs) (y ∷ ys) e = refl
+
+module _ (g : GroundView) (address : ℕ) (main inline : Bool) (instr : Instr) (parts : List FlagPart) (s : AbsState) where
+  -- an exit of one outcome, from a state with as many slots
+  outcome_leaves : (t : AbsState) (taken : Bool) (n : Next) → length t.shape ≡ length s.shape → Contains (nexts_by g address main inline instr t taken) n →
+      n.kind ≡ Exit → may_leave s (Ok instr) ≡ true
+  outcome_leaves t taken n long listed leaves =
+      subst (λ (b : Bool). (b && returns_if_taken instr) ≡ true) (same_empty t.shape s.shape long)
+      (kind_leaves inline instr t.shape
+      (way_kind g main inline instr (next_kind_of inline instr t.shape) (test_of (moves_of instr)) (known_at_test g address inline instr t) taken n listed leaves))
+
+  narrowed_leaves : (o : Option AbsState) (taken : Bool) (n : Next) → IfSome o (KeepsStack s) → Contains (from_narrowed g address main inline instr o taken) n →
+      n.kind ≡ Exit → may_leave s (Ok instr) ≡ true
+  narrowed_leaves None taken n kept listed leaves = absurd (none_in n listed)
+  narrowed_leaves (Some t) taken n kept listed leaves = outcome_leaves t taken n kept.long listed leaves
+
+  changed_leaves : (f : Next → Next) (n : Next) → ((x : Next) → (f x).kind ≡ x.kind) → Contains (map f (nexts_by g address main inline instr s false)) n →
+      n.kind ≡ Exit → may_leave s (Ok instr) ≡ true
+  changed_leaves f n keeps listed leaves =
+      let own = before_change f keeps (nexts_by g address main inline instr s false) n listed leaves in
+      outcome_leaves s false own.0 refl own.1 own.2
+
+  sharpened_leaves : (linear : Option LinearEffect) (carried : Option RangeView) (n : Next) →
+      Contains (sharpened_nexts g address main inline instr linear carried s) n → n.kind ≡ Exit → may_leave s (Ok instr) ≡ true
+  sharpened_leaves (Some e) carried n listed leaves =
+      changed_leaves (sharpened s e) n (λ x. cut_kind x (option_and_then (cut_to x.state e.variable) (value_range (range_of s) e.linear))) listed leaves
+  sharpened_leaves None (Some r) n listed leaves =
+      changed_leaves (cut_successor variables.A (Some r)) n (λ x. cut_kind x (option_and_then (cut_to x.state variables.A) (Some r))) listed leaves
+  sharpened_leaves None None n listed leaves =
+      kind_leaves inline instr s.shape
+      (exit_kind g main inline instr (next_kind_of inline instr s.shape) (test_of (moves_of instr))
+      (after_moves g inline (before_test (moves_of instr)) (known_before address instr s)) n listed leaves)
+
+  tested_leaves : (tests : Option Condition) (n : Next) → Contains (nexts_refined tests g address main inline instr parts s) n → n.kind ≡ Exit →
+      may_leave s (Ok instr) ≡ true
+  tested_leaves (Some condition) n listed leaves =
+      elim (Contains-append_cases (conditional_way g address main inline instr condition parts s true)
+      (conditional_way g address main inline instr condition parts s false) n listed) [
+        | inl first ↦
+            narrowed_leaves (narrowed (met condition true) parts s) true n (narrowed_kept (met condition true) parts s) first leaves
+        | inr second ↦
+            narrowed_leaves (narrowed (met condition false) parts s) false n (narrowed_kept (met condition false) parts s) second leaves
+      ]
+  tested_leaves None n listed leaves =
+      sharpened_leaves (step_effect g address inline instr parts s) (step_carried g address inline instr parts s) n listed leaves
+
+  -- a row with an exit by the refined step may leave
+  pub refined_leaves : (exit : AbsState) → IsExitIn (nexts_in (refined_answer g address main inline instr parts s)) exit → may_leave s (Ok instr) ≡ true
+  refined_leaves exit leaves = by (refusal main inline instr s) leaves
+    where
+      by : (reason : Option Reason) → IsExitIn (nexts_in (answer_by reason (refined_nexts g address main inline instr parts s))) exit →
+          may_leave s (Ok instr) ≡ true
+      by (Some reason) h = absurd (no_exit_in exit h)
+      by None h = tested_leaves (tested_condition instr) h.next h.leads h.kind
+
+-- a row with an exit may leave, in each version
+leaves_of : (s : SubjectView) (exit : AbsState) → IsExitIn (nexts_from s) exit → may_leave s.row.state s.decoded ≡ true
+leaves_of s exit leaves = by s.decoded leaves
+  where
+    by_version : (version : Version) (instr : Instr) → IsExitIn (nexts_in (step_by version s instr)) exit → may_leave s.row.state (Ok instr) ≡ true
+    by_version One instr h = leaves_by (ground_for s.rom s.cert) s.row.address (is_main s.row.proc) (is_inline s.cert s.row.address) s.row.state (Ok instr) exit h
+    by_version Two instr h = leaves_by (ground_for s.rom s.cert) s.row.address (is_main s.row.proc) (is_inline s.cert s.row.address) s.row.state (Ok instr) exit h
+    by_version Three instr h =
+        refined_leaves (ground_for s.rom s.cert) s.row.address (is_main s.row.proc) (is_inline s.cert s.row.address) instr s.row.parts s.row.state exit h
+    by : (decoded : Result Instr DecodeFault) → IsExitIn (nexts_in (step_from s decoded)) exit → may_leave s.row.state decoded ≡ true
+    by (Err fault) h = absurd (no_exit_in exit h)
+    by (Ok instr) h = by_version s.cert.version instr h
+
 -- a row that may not leave has no exit
 pub may_leave_only : (rom : List ℕ) (cert : CertificateView) (number : ℕ) (row : Row) → slice_get cert.rows number ≡ Some row →
     ((decoded : Result Instr DecodeFault) → StandsAt rom row.address decoded → false ≡ may_leave row.state decoded) → HasNoExit rom cert number
 may_leave_only rom cert number row at never exit leaves =
     let s = leaves.subject in
     let here = stated rom cert number row s at leaves.is in
-    let may : may_leave s.row.state s.decoded ≡ true =
-    leaves_by (ground_for s.rom s.cert) s.row.address (is_main s.row.proc) (is_inline s.cert s.row.address) s.row.state s.decoded exit leaves.leaves in
+    let may : may_leave s.row.state s.decoded ≡ true = leaves_of s exit leaves.leaves in
     let may_here : may_leave row.state s.decoded ≡ true = subst (λ (r : Row). may_leave r.state s.decoded ≡ true) here.0 may in
     let not : false ≡ may_leave row.state s.decoded = never s.decoded here.1.stands in
     false≢true (not ∙ may_here)

@@ -3,16 +3,22 @@ use Rattle.std.proofs.Common.{◌≡◌, ◌<◌, ◌≤◌, ◌+◌, ◌==◌, 
 use Rattle.std.specs.List.{Contains}
 use Rattle.std.proofs.lemmas.Bool.{cases_Bool, cases_lt, eqb-true, false≢true}
 use Rattle.std.proofs.lemmas.Option.{get_or_from_slice_get, same_Some, slice_get_read, slice_get_within}
+use Rattle.abs_draft.specs.Outcomes.{settled}
+use Rattle.abs_state.specs.Entries.{after_call}
 use Rattle.abs_state.specs.declared.mode.Mode.{Mode}
 use Rattle.abs_state.specs.declared.mode.Mode.TheVariants as modes
 use Rattle.abs_state.specs.declared.state.AbsState.{AbsState}
-use Rattle.check_cover.specs.Program.{ground_for, is_inline, is_main}
+use Rattle.abs_step.specs.declared.next.Next.{Next}
+use Rattle.check_cover.specs.declared.program.Callee.{Callee}
 use Rattle.cert_lines.specs.declared.row.Row.{Row}
+use Rattle.cert_lines.specs.declared.version.Version.{Version}
+use Rattle.cert_lines.specs.declared.version.Version.TheVariants.{One, Two, Three}
+use Rattle.loop_bounds.specs.declared.effect.Effect.{Effect}
 use Rattle.cert_form.specs.Contents.{CertificateView}
 use Rattle.cert_form.specs.Form.{IsInForm}
-use Rattle.check_ways.proofs.ReturnLemmas.{each_answers, left_in_form}
+use Rattle.check_ways.proofs.ReturnLemmas.{left_in_form, numbered_tells}
 use Rattle.check_ways.specs.Parts.{AnyExit, IsExitAt, OnEachExit, OnEachLeft, OnSomeExit}
-use Rattle.check_ways.specs.Ways.{SubjectView, IsExit}
+use Rattle.check_ways.specs.Ways.{SubjectView, IsExit, WayView, behind_of, call_cost, effect_back, refined_by, return_way, untold}
 use Rattle.check_tables.specs.Lefts.{AreLeft, IsLeft, left_of, mode_number, numbered_mode, state_of}
 use Rattle.check_tables.specs.Tables.{AreExits, ProcExitsView}
 use Rattle.check_tables.specs.declared.left.Left.{Left}
@@ -35,20 +41,21 @@ left_bare e = ap (λ (m : Mode). record e { mode = m; flag = None; shape = [] })
 -- ---- exits, and what they leave
 
 -- an exit of a procedure leaves something
-pub is_left : (rom : List ℕ) (cert : CertificateView) (proc : ℕ) (exit : AbsState) → IsExit rom cert proc exit → IsLeft rom cert proc (left_of exit)
-is_left rom cert proc exit leaves =
+pub is_left : (rom : List ℕ) (cert : CertificateView) (proc : ℕ) (exit : AbsState) → IsInForm cert → IsExit rom cert proc exit → IsLeft rom cert proc (left_of exit)
+is_left rom cert proc exit form leaves =
     let s = leaves.subject in
     let (k, within, is) = leaves.is_subject.listed in
     let own : slice_get s.cert.rows k ≡ Some s.row = slice_get_read s.cert.rows _ k s.row refl within (sym is) in
+    let at : slice_get cert.rows k ≡ Some s.row = subst (λ (c : CertificateView). slice_get c.rows k ≡ Some s.row) leaves.same.1 own in
     record {
       number = k;
       here = record {
         row = s.row;
-        at = subst (λ (c : CertificateView). slice_get c.rows k ≡ Some s.row) leaves.same.1 own;
+        at = at;
         decoded = s.decoded;
         stands = subst (λ (x : List ℕ). StandsAt x s.row.address s.decoded) leaves.same.0 leaves.is_subject.stands;
         exit = exit;
-        leaves = (each_answers (ground_for s.rom s.cert) s.row.address (is_inline s.cert s.row.address) (is_main s.row.proc) s.row.state s.decoded exit).0
+        leaves = (numbered_tells s cert k form leaves.same.1 at exit).0
             record { next = leaves.next; leads = leaves.leads; kind = leaves.kind; state = leaves.state };
         is = refl;
       };
@@ -87,12 +94,44 @@ left_by rom cert proc left form is =
 abbrev pub Respects : (AbsState → Type 0) → Type 0
 Respects P = (e : AbsState) → P (bare e) ↔ P e
 
+-- the effect of a call with the callee's run asks for the exit's origins alone
+back_bare : (version : Version) (effect : Effect) (e : AbsState) → effect_back version effect (bare e) ≡ effect_back version effect e
+back_bare One effect e = refl
+back_bare Two effect e = refl
+back_bare Three effect e = refl
+
+abbrev way_with : SubjectView → Next → Callee → AbsState → Effect → Effect → WayView
+way_with s next callee exit effect moved = record {
+  arrival = record {
+    proc = s.row.proc;
+    address = behind_of s.decoded s.row.address;
+    facts = s.row.facts;
+    before = s.row.state;
+    effect = settled (after_call next.state exit) effect;
+    refined = refined_by s.cert.version untold moved;
+  };
+  state = after_call next.state exit;
+  cost = call_cost next callee;
+}
+
+way_bare : (s : SubjectView) (next : Next) (callee : Callee) (e : AbsState) → return_way s next callee (bare e) ≡ return_way s next callee e
+way_bare s next callee e =
+    ap (λ (x : Effect). way_with s next callee e x (effect_back s.cert.version next.moved (bare e))) (back_bare s.cert.version next.effect e)
+    ∙ ap (λ (x : Effect). way_with s next callee e (effect_back s.cert.version next.effect e) x) (back_bare s.cert.version next.moved e)
+
+-- what holds of the way back does not depend on them either
+pub respects_way : (s : SubjectView) (next : Next) (callee : Callee) (P : WayView → Type 0) → Respects (λ (exit : AbsState). P (return_way s next callee exit))
+respects_way s next callee P e = (
+  (λ h. subst (λ (w : WayView). P w) (way_bare s next callee e) h),
+  (λ h. subst (λ (w : WayView). P w) (sym (way_bare s next callee e)) h),
+)
+
 pub each_left : (s : SubjectView) (proc : ℕ) (lefts : List Left) (P : AbsState → Type 0) (answer : Bool) → IsInForm s.cert → AreLeft s.rom s.cert proc lefts →
     Respects P → (IsTrue answer ↔ OnEachLeft lefts P) → IsTrue answer ↔ OnEachExit s proc P
 each_left s proc lefts P answer form left respects exact = (
   (λ yes. record {
     each = λ exit leaves.
-        let listed = left.each (left_of exit) (is_left s.rom s.cert proc exit leaves) in
+        let listed = left.each (left_of exit) (is_left s.rom s.cert proc exit form leaves) in
         (respects exit).0 (subst P (left_bare exit) ((exact.0 yes).each (left_of exit) listed));
   }),
   (λ all. exact.1 record {
@@ -144,7 +183,7 @@ pub some_left : (s : SubjectView) (proc : ℕ) (lefts : List Left) (empty : Bool
 some_left s proc [] empty form left is =
     subst (λ (b : Bool). IsTrue (not b) ↔ OnSomeExit s proc AnyExit) (sym is) (
       (λ yes. absurd (false≢true yes)),
-      (λ some. absurd (nothing (left_of some.exit) (left.each (left_of some.exit) (is_left s.rom s.cert proc some.exit some.of)))),
+      (λ some. absurd (nothing (left_of some.exit) (left.each (left_of some.exit) (is_left s.rom s.cert proc some.exit form some.of)))),
     )
   where
     nothing : (l : Left) → Contains [] l → ⊥

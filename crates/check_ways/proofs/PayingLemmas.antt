@@ -64,11 +64,11 @@ pays_more s way start k answer found exact each n from below =
 
 -- a row that is asked is paid exactly where the potentials say so
 pub row_paid : (s : SubjectView) (way : WayView) (k : ℕ) (row : Row) (lone answer : Bool) → slice_get s.cert.rows k ≡ Some row → (IsTrue lone ↔ IsLone s.cert way.arrival.proc way.arrival.address) →
-    IsTrue lone ⊎ OverlapsState row.state way.state → (IsTrue answer ↔ PaysTo s.row way.cost way.arrival.effect row) → IsTrue answer ↔ PaysToRow s way k
+    IsTrue lone ⊎ OverlapsState row.state way.state → (IsTrue answer ↔ PaysTo s.row way.cost way.arrival row) → IsTrue answer ↔ PaysToRow s way k
 row_paid s way k row lone answer at alone asks exact = (
   (λ told. record {
     asked = λ other at_other asked.
-        subst (λ (r : Row). PaysTo s.row way.cost way.arrival.effect r) (same_Some row other (sym at ∙ at_other)) (exact.0 told);
+        subst (λ (r : Row). PaysTo s.row way.cost way.arrival r) (same_Some row other (sym at ∙ at_other)) (exact.0 told);
   }),
   (λ pays. exact.1 (pays.asked row at (asked_by asks))),
 )

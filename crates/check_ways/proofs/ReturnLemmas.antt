@@ -1,5 +1,5 @@
 -- A return leaves its procedure in at most one state, which the row determines.
-use Rattle.std.proofs.Common.{◌≡◌, ◌-◌, ◌↔◌, ◌&&◌, ◌∙◌, ℕ, zero, suc, if◌then◌else◌, not, Bool, true, false, List, [], ◌∷◌, ◌++◌, length, take, Option, Some, None, IfSome, Result, Ok, Err, slice_get, option_map, refl, sym, subst, ap, inl, inr, arith}
+use Rattle.std.proofs.Common.{◌≡◌, ◌-◌, ◌↔◌, ◌&&◌, ◌∙◌, ℕ, zero, suc, if◌then◌else◌, not, Bool, true, false, List, [], ◌∷◌, ◌++◌, length, take, Option, Some, None, IfSome, Result, Ok, Err, slice_get, option_and_then, option_map, refl, sym, subst, ap, inl, inr, arith}
 use Rattle.std.specs.List.{Contains}
 use Rattle.std.proofs.lemmas.Bool.{cases_Bool}
 use Rattle.std.proofs.lemmas.Option.{same_Some}
@@ -15,24 +15,37 @@ use Rattle.abs_state.specs.declared.mode.Mode.{Mode}
 use Rattle.abs_state.specs.declared.mode.Mode.TheVariants as modes
 use Rattle.abs_state.specs.declared.state.AbsState.{AbsState}
 use Rattle.z80_actions.specs.Known.{returns_if_taken}
-use Rattle.abs_step.specs.Successors.{answer_of, is_empty, next_of, nexts_of, way_on}
+use Rattle.abs_step.specs.Successors.{answer_of, is_empty, next_of, nexts_by, nexts_of, way_on}
 use Rattle.abs_step.specs.declared.next.Next.{Next}
 use Rattle.abs_step.specs.declared.next.NextKind.TheVariants.{Jump, Exit}
 use Rattle.board_fetch.specs.Decoded.{StandsAt}
 use Rattle.check_cover.specs.Program.{ground_for, is_inline, is_main}
 use Rattle.cert_lines.specs.declared.proc.Proc.{Proc}
+use Rattle.cert_flags.specs.Flags.{AreFlags}
+use Rattle.cert_flags.specs.declared.flags.RowFlags.{RowFlags}
+use Rattle.cert_lines.specs.Row.{row_flags}
+use Rattle.cert_lines.specs.Version.{flag_form}
 use Rattle.cert_lines.specs.declared.row.Row.{Row}
+use Rattle.cert_lines.specs.declared.version.Version.{Version}
+use Rattle.cert_lines.specs.declared.version.Version.TheVariants.{One, Two, Three}
 use Rattle.cert_form.specs.Contents.{CertificateView}
-use Rattle.cert_form.specs.Form.{IsInForm}
-use Rattle.check_ways.proofs.ExitLemmas.{exit_way, leaves_by, no_exit_in, none_in, stated}
-use Rattle.check_ways.proofs.SubjectLemmas.{row_has_proc, subject_at}
+use Rattle.cert_form.specs.Form.{IsInForm, IsRowOf}
+use Rattle.check_ways.proofs.ExitLemmas.{exit_way, leaves_by, no_exit_in, none_in, refined_leaves, stated}
+use Rattle.check_ways.proofs.SubjectLemmas.{each_at, row_has_proc, subject_at}
 use Rattle.check_ways.specs.Parts.{IsExitAt, IsExitIn, may_leave}
-use Rattle.check_ways.specs.Ways.{nexts_in}
-use Rattle.check_tables.specs.Exits.{exit_by, is_at_end, state_left}
+use Rattle.check_ways.specs.Ways.{SubjectView, nexts_from, nexts_in, step_by, step_from}
+use Rattle.check_tables.specs.Exits.{exit_by, is_at_end, state_left, state_where}
+use Rattle.flag_letters.specs.declared.part.FlagPart.{FlagPart}
+use Rattle.flag_parts.specs.Narrowing.{narrowed}
 use Rattle.intervals.specs.Range.{single}
 use Rattle.intervals.specs.declared.pair.Pair.{Pair}
 use Rattle.intervals.specs.declared.reg_pair.RegPair.{RegPair}
 use Rattle.intervals.specs.declared.reg_pair.RegPair.TheVariants.{Af, Bc, De, Hl}
+use Rattle.linear_effects.specs.Carried.{carried_range}
+use Rattle.linear_effects.specs.Effects.{effect_of}
+use Rattle.refined_step.proofs.NarrowedStack.{KeepsStack, narrowed_kept}
+use Rattle.refined_step.specs.Conditionals.{conditional_nexts, conditional_way, from_narrowed, met}
+use Rattle.refined_step.specs.Refined.{refined_answer}
 use Rattle.stack_shape.specs.declared.slot.Slot.{Slot}
 use Rattle.z80_decode.specs.declared.fault.DecodeFault.{DecodeFault}
 use Rattle.z80_decode.specs.declared.instr.Instr.{Instr}
@@ -155,7 +168,7 @@ keeps_empty s (Some t) empty keeps = keeps ∙ empty
 
 module _ (g : GroundView) (address : ℕ) (inline : Bool) where
   abbrev Answers : Bool → AbsState → Instr → Type 0
-  Answers main s instr = Tells (nexts_in (answer_of g address main inline s (Ok instr))) (exit_by main s (Ok instr))
+  Answers main s instr = Tells (nexts_in (answer_of g address main inline s (Ok instr))) (exit_by main [] s (Ok instr))
 
   if_answers : (mode : Mode) (s : AbsState) (cc' : Condition) → is_unset mode ≡ false →
       Tells (nexts_of g address false inline (instrs.ReturnIf cc') (at mode s)) (condition_is true cc' (at mode s))
@@ -192,12 +205,12 @@ module _ (g : GroundView) (address : ℕ) (inline : Bool) where
   return_answers false modes.Nmi s (instrs.ReturnIf cc') is = if_answers modes.Nmi s cc' refl
   return_answers main mode s _ is = absurd (cc)
 
-  no_return : (s : AbsState) (instr : Instr) → returns_if_taken instr ≡ false → state_left instr s ≡ None
-  no_return s instrs.Return is = cc
-  no_return s (instrs.ReturnIf cc') is = cc
-  no_return s instrs.ReturnFromInterrupt is = cc
-  no_return s instrs.ReturnFromNonMaskable is = cc
-  no_return s _ is = refl
+  no_return : (parts : List FlagPart) (s : AbsState) (instr : Instr) → returns_if_taken instr ≡ false → state_left instr parts s ≡ None
+  no_return parts s instrs.Return is = cc
+  no_return parts s (instrs.ReturnIf cc') is = cc
+  no_return parts s instrs.ReturnFromInterrupt is = cc
+  no_return parts s instrs.ReturnFromNonMaskable is = cc
+  no_return parts s _ is = refl
 
   empty_if : (shape : List Slot) → is_empty shape ≡ true → shape ≡ []
   empty_if [] e = refl
@@ -213,18 +226,31 @@ module _ (g : GroundView) (address : ℕ) (inline : Bool) where
   either_none false o e = refl
 
   -- a row that may not leave has no exit
-  stays : (main : Bool) (s : AbsState) (instr : Instr) → (is_empty s.shape && returns_if_taken instr) ≡ false → exit_by main s (Ok instr) ≡ None
-  stays main s instr may =
+  stays : (main : Bool) (parts : List FlagPart) (s : AbsState) (instr : Instr) → (is_empty s.shape && returns_if_taken instr) ≡ false →
+      exit_by main parts s (Ok instr) ≡ None
+  stays main parts s instr may =
       elim (cases_Bool (returns_if_taken instr)) [
         | inl returns ↦
             let words : is_empty s.shape ≡ false = first_false (is_empty s.shape) (returns_if_taken instr) may returns in
-            ap (λ (b : Bool). if b && (not (is_unset s.mode) && not main) then state_left instr s else None) words
-        | inr none ↦ either_none (is_at_end main s) (state_left instr s) (no_return s instr none)
+            ap (λ (b : Bool). if b && (not (is_unset s.mode) && not main) then state_left instr parts s else None) words
+        | inr none ↦ either_none (is_at_end main s) (state_left instr parts s) (no_return parts s instr none)
       ]
     where
       first_false : (a b : Bool) → (a && b) ≡ false → b ≡ true → a ≡ false
       first_false false b e y = refl
       first_false true b e y = sym y ∙ e
+
+  -- successors of a row that may not leave
+  stays_tells : (main : Bool) (parts : List FlagPart) (s : AbsState) (instr : Instr) (nexts : List Next) →
+      ((exit : AbsState) → IsExitIn nexts exit → may_leave s (Ok instr) ≡ true) → (is_empty s.shape && returns_if_taken instr) ≡ false →
+      Tells nexts (exit_by main parts s (Ok instr))
+  stays_tells main parts s instr nexts leaves never =
+      subst (λ (o : Option AbsState). Tells nexts o) (sym (stays main parts s instr never))
+      (λ exit. (
+        (λ there. absurd (let may : may_leave s (Ok instr) ≡ true = leaves exit there in
+            let wrong : true ≡ false = sym may ∙ never in cc)),
+        (λ some. cc),
+      ))
 
   answers : (main : Bool) (s : AbsState) (instr : Instr) → Answers main s instr
   answers main s instr =
@@ -234,18 +260,122 @@ module _ (g : GroundView) (address : ℕ) (inline : Bool) where
             let empty = empty_if s.shape both.0 in
             subst (λ (shape : List Slot). Answers main (record s { shape = shape }) instr) (sym empty) (return_answers main s.mode s instr both.1)
         | inr never ↦
-            subst (λ (o : Option AbsState). Tells (nexts_in (answer_of g address main inline s (Ok instr))) o) (sym (stays main s instr never))
-            (λ exit. (
-              (λ leaves. absurd (let may : may_leave s (Ok instr) ≡ true = leaves_by g address main inline s (Ok instr) exit leaves in
-                  let wrong : true ≡ false = sym may ∙ never in cc)),
-              (λ some. cc),
-            ))
+            stays_tells main [] s instr (nexts_in (answer_of g address main inline s (Ok instr)))
+            (λ exit there. leaves_by g address main inline s (Ok instr) exit there) never
       ]
 
-  pub each_answers : (main : Bool) (s : AbsState) (decoded : Result Instr DecodeFault) →
-      Tells (nexts_in (answer_of g address main inline s decoded)) (exit_by main s decoded)
-  each_answers main s (Err fault) = none_tells
-  each_answers main s (Ok instr) = answers main s instr
+  -- ---- the exit by the refined step
+
+  abbrev Refines : Bool → List FlagPart → AbsState → Instr → Type 0
+  Refines main parts s instr = Tells (nexts_in (refined_answer g address main inline instr parts s)) (exit_by main parts s (Ok instr))
+
+  -- a return that is not taken goes on
+  left_stays : (cc' : Condition) (o : Option AbsState) → Stay (from_narrowed g address false inline (instrs.ReturnIf cc') o false)
+  unfolding test_of
+  left_stays cc' None n listed leaves = none_in n listed
+  left_stays cc' (Some t) n listed leaves =
+      jumps_stay _
+      (λ left. next_of false (instrs.ReturnIf cc') false Jump left) (λ k. refl) n listed leaves
+
+  -- a return that is taken leaves in the state where its condition is met
+  taken_tells : (cc' : Condition) (t : AbsState) (rest : List Next) → Stay rest →
+      Tells (nexts_by g address false inline (instrs.ReturnIf cc') (record t { shape = [] }) true ++ rest) (condition_is true cc' (record t { shape = [] }))
+  unfolding after_move after_moves before_test behind_test test_of
+  taken_tells cc' t rest stay =
+      let s : AbsState = record t { shape = [] } in
+      let k = known_before address (instrs.ReturnIf cc') s in
+      test_tells k (condition_is true cc' s) rest
+      (λ taken. next_of false (instrs.ReturnIf cc') true Exit (after_moves g inline (behind_test (moves_of (instrs.ReturnIf cc'))) taken)) (λ t. refl) popped
+      (keeps_empty s (condition_is true cc' s) refl (condition_keeps true cc' s)) stay
+
+  no_slots : (shape : List Slot) → length shape ≡ 0 → shape ≡ []
+  no_slots [] e = refl
+  no_slots (slot ∷ slots) e = absurd (omega (arith, e))
+
+  narrowed_tells : (cc' : Condition) (s : AbsState) (o : Option AbsState) (rest : List Next) → s.shape ≡ [] → IfSome o (KeepsStack s) → Stay rest →
+      Tells (from_narrowed g address false inline (instrs.ReturnIf cc') o true ++ rest) (option_and_then (condition_is true cc') o)
+  narrowed_tells cc' s None rest empty kept stay = stay_tells rest stay
+  narrowed_tells cc' s (Some t) rest empty kept stay =
+      let none : t.shape ≡ [] = no_slots t.shape (kept.long ∙ ap (λ (shape : List Slot). length shape) empty) in
+      subst (λ (shape : List Slot).
+      Tells (nexts_by g address false inline (instrs.ReturnIf cc') (record t { shape = shape }) true ++ rest) (condition_is true cc' (record t { shape = shape })))
+      (sym none) (taken_tells cc' t rest stay)
+
+  if_refines : (parts : List FlagPart) (s : AbsState) (cc' : Condition) → s.shape ≡ [] →
+      Tells (conditional_nexts g address false inline (instrs.ReturnIf cc') cc' parts s) (state_where cc' parts s)
+  if_refines parts s cc' empty =
+      narrowed_tells cc' s (narrowed cc' parts s) (conditional_way g address false inline (instrs.ReturnIf cc') cc' parts s false) empty
+      (narrowed_kept cc' parts s) (left_stays cc' (narrowed (met cc' false) parts s))
+
+  return_refines : (main : Bool) (parts : List FlagPart) (mode : Mode) (s : AbsState) (instr : Instr) → returns_if_taken instr ≡ true →
+      Refines main parts (at mode s) instr
+  unfolding effect_of carried_range
+  return_refines main parts mode s instrs.Return is = return_answers main mode s instrs.Return is
+  return_refines main parts mode s instrs.ReturnFromInterrupt is = return_answers main mode s instrs.ReturnFromInterrupt is
+  return_refines main parts mode s instrs.ReturnFromNonMaskable is = return_answers main mode s instrs.ReturnFromNonMaskable is
+  return_refines main parts modes.Unset s (instrs.ReturnIf cc') is = none_tells
+  return_refines true parts modes.Set s (instrs.ReturnIf cc') is = none_tells
+  return_refines true parts modes.Nmi s (instrs.ReturnIf cc') is = none_tells
+  return_refines false parts modes.Set s (instrs.ReturnIf cc') is = if_refines parts (at modes.Set s) cc' refl
+  return_refines false parts modes.Nmi s (instrs.ReturnIf cc') is = if_refines parts (at modes.Nmi s) cc' refl
+  return_refines main parts mode s _ is = absurd (cc)
+
+  refines : (main : Bool) (parts : List FlagPart) (s : AbsState) (instr : Instr) → Refines main parts s instr
+  refines main parts s instr =
+      elim (cases_Bool (is_empty s.shape && returns_if_taken instr)) [
+        | inl may ↦
+            let both = both_true (is_empty s.shape) (returns_if_taken instr) may in
+            let empty = empty_if s.shape both.0 in
+            subst (λ (shape : List Slot). Refines main parts (record s { shape = shape }) instr) (sym empty)
+            (return_refines main parts s.mode s instr both.1)
+        | inr never ↦
+            stays_tells main parts s instr (nexts_in (refined_answer g address main inline instr parts s))
+            (refined_leaves g address main inline instr parts s) never
+      ]
+
+-- ---- the exit by version
+
+-- flag parts are of version 3 alone
+abbrev SuitParts : Version → List FlagPart → Type 0
+SuitParts One parts = parts ≡ []
+SuitParts Two parts = parts ≡ []
+SuitParts Three parts = Unit {0}
+
+flags_suit : (version : Version) (slots : ℕ) (flags : RowFlags) → AreFlags (flag_form version) slots flags → SuitParts version flags.parts
+flags_suit One slots flags are = are.1
+flags_suit Two slots flags are = are.1
+flags_suit Three slots flags are = tt
+
+-- the parts of a row of a certificate in form
+parts_in_form : (cert : CertificateView) (number : ℕ) (row : Row) → IsInForm cert → slice_get cert.rows number ≡ Some row → SuitParts cert.version row.parts
+parts_in_form cert number row form at =
+    let of = each_at (IsRowOf cert.version (length cert.procs) (length cert.cells)) cert.rows number row form.certificate.rows.each at in
+    flags_suit cert.version (length row.state.shape) (row_flags row) of.form.flags
+
+-- a row has the exit that its instruction determines, and no other
+subject_tells : (s : SubjectView) → SuitParts s.cert.version s.row.parts →
+    Tells (nexts_from s) (exit_by (is_main s.row.proc) s.row.parts s.row.state s.decoded)
+subject_tells s suits = by s.decoded
+  where
+    by_version : (version : Version) (instr : Instr) → SuitParts version s.row.parts →
+        Tells (nexts_in (step_by version s instr)) (exit_by (is_main s.row.proc) s.row.parts s.row.state (Ok instr))
+    by_version One instr none =
+        subst (λ (ps : List FlagPart). Tells (nexts_in (step_by One s instr)) (exit_by (is_main s.row.proc) ps s.row.state (Ok instr))) (sym none)
+        (answers (ground_for s.rom s.cert) s.row.address (is_inline s.cert s.row.address) (is_main s.row.proc) s.row.state instr)
+    by_version Two instr none =
+        subst (λ (ps : List FlagPart). Tells (nexts_in (step_by Two s instr)) (exit_by (is_main s.row.proc) ps s.row.state (Ok instr))) (sym none)
+        (answers (ground_for s.rom s.cert) s.row.address (is_inline s.cert s.row.address) (is_main s.row.proc) s.row.state instr)
+    by_version Three instr any =
+        refines (ground_for s.rom s.cert) s.row.address (is_inline s.cert s.row.address) (is_main s.row.proc) s.row.parts s.row.state instr
+    by : (decoded : Result Instr DecodeFault) → Tells (nexts_in (step_from s decoded)) (exit_by (is_main s.row.proc) s.row.parts s.row.state decoded)
+    by (Err fault) = none_tells
+    by (Ok instr) = by_version s.cert.version instr suits
+
+-- the same for a row of a certificate in form
+pub numbered_tells : (s : SubjectView) (cert : CertificateView) (number : ℕ) → IsInForm cert → s.cert ≡ cert → slice_get cert.rows number ≡ Some s.row →
+    Tells (nexts_from s) (exit_by (is_main s.row.proc) s.row.parts s.row.state s.decoded)
+numbered_tells s cert number form same at =
+    subject_tells s (subst (λ (c : CertificateView). SuitParts c.version s.row.parts) (sym same) (parts_in_form cert number s.row form at))
 
 -- ---- the exit of a row by its number
 
@@ -253,66 +383,66 @@ abbrev pub Stands : List ℕ → Row → Type 0
 Stands rom row = (instr : Instr) × StandsAt rom row.address (Ok instr)
 
 -- the row determines each of its exits
-told : (rom : List ℕ) (cert : CertificateView) (number : ℕ) (row : Row) (exit : AbsState) → slice_get cert.rows number ≡ Some row →
-    (leaves : IsExitAt rom cert number exit) → exit_by (is_main row.proc) row.state leaves.subject.decoded ≡ Some exit
-told rom cert number row exit has leaves =
+told : (rom : List ℕ) (cert : CertificateView) (number : ℕ) (row : Row) (exit : AbsState) → IsInForm cert → slice_get cert.rows number ≡ Some row →
+    (leaves : IsExitAt rom cert number exit) → exit_by (is_main row.proc) row.parts row.state leaves.subject.decoded ≡ Some exit
+told rom cert number row exit form has leaves =
     let s = leaves.subject in
-    subst (λ (r : Row). exit_by (is_main r.proc) r.state s.decoded ≡ Some exit) (stated rom cert number row s has leaves.is).0
-    ((each_answers (ground_for s.rom s.cert) s.row.address (is_inline s.cert s.row.address) (is_main s.row.proc) s.row.state s.decoded exit).0 leaves.leaves)
+    subst (λ (r : Row). exit_by (is_main r.proc) r.parts r.state s.decoded ≡ Some exit) (stated rom cert number row s has leaves.is).0
+    ((numbered_tells s cert number form leaves.is.same.1 leaves.is.at exit).0 leaves.leaves)
 
 -- what the row determines is an exit of it
-leaves_in : (rom : List ℕ) (cert : CertificateView) (number : ℕ) (row : Row) (proc : Proc) (decoded : Result Instr DecodeFault) (exit : AbsState) →
+leaves_in : (rom : List ℕ) (cert : CertificateView) (number : ℕ) (row : Row) (proc : Proc) (decoded : Result Instr DecodeFault) (exit : AbsState) → IsInForm cert →
     slice_get cert.rows number ≡ Some row → slice_get cert.procs row.proc ≡ Some proc → StandsAt rom row.address decoded →
-    exit_by (is_main row.proc) row.state decoded ≡ Some exit → IsExitAt rom cert number exit
-leaves_in rom cert number row proc decoded exit has procedure stands some = record {
+    exit_by (is_main row.proc) row.parts row.state decoded ≡ Some exit → IsExitAt rom cert number exit
+leaves_in rom cert number row proc decoded exit form has procedure stands some = record {
   subject = record { rom = rom; cert = cert; row = row; proc = proc; decoded = decoded };
   is = record { is_subject = subject_at rom cert number row proc decoded has procedure stands; same = (refl, refl); at = has };
-  leaves = (each_answers (ground_for rom cert) row.address (is_inline cert row.address) (is_main row.proc) row.state decoded exit).1 some;
+  leaves = (numbered_tells (record { rom = rom; cert = cert; row = row; proc = proc; decoded = decoded }) cert number form refl has exit).1 some;
 }
 
 -- a state in which a row leaves, by its instruction
 left_by : (rom : List ℕ) (cert : CertificateView) (number : ℕ) (row : Row) (proc : Proc) (only : Option AbsState) (decoded : Result Instr DecodeFault) (exit : AbsState) →
-    slice_get cert.rows number ≡ Some row → slice_get cert.procs row.proc ≡ Some proc → StandsAt rom row.address decoded →
-    ((d : Result Instr DecodeFault) → StandsAt rom row.address d → only ≡ exit_by (is_main row.proc) row.state d) → only ≡ Some exit →
+    IsInForm cert → slice_get cert.rows number ≡ Some row → slice_get cert.procs row.proc ≡ Some proc → StandsAt rom row.address decoded →
+    ((d : Result Instr DecodeFault) → StandsAt rom row.address d → only ≡ exit_by (is_main row.proc) row.parts row.state d) → only ≡ Some exit →
     IsExitAt rom cert number exit
-left_by rom cert number row proc only decoded exit has procedure stands is some =
-    leaves_in rom cert number row proc decoded exit has procedure stands (sym (is decoded stands) ∙ some)
+left_by rom cert number row proc only decoded exit form has procedure stands is some =
+    leaves_in rom cert number row proc decoded exit form has procedure stands (sym (is decoded stands) ∙ some)
 
 -- the same, if an instruction stands there
-left_in : (rom : List ℕ) (cert : CertificateView) (number : ℕ) (row : Row) (proc : Proc) (only : Option AbsState) (exit : AbsState) →
+left_in : (rom : List ℕ) (cert : CertificateView) (number : ℕ) (row : Row) (proc : Proc) (only : Option AbsState) (exit : AbsState) → IsInForm cert →
     slice_get cert.rows number ≡ Some row → slice_get cert.procs row.proc ≡ Some proc →
-    ((decoded : Result Instr DecodeFault) → StandsAt rom row.address decoded → only ≡ exit_by (is_main row.proc) row.state decoded) →
+    ((decoded : Result Instr DecodeFault) → StandsAt rom row.address decoded → only ≡ exit_by (is_main row.proc) row.parts row.state decoded) →
     IfSome only (λ (s : AbsState). Stands rom row) → only ≡ Some exit → IsExitAt rom cert number exit
-left_in rom cert number row proc only exit has procedure is stands some =
+left_in rom cert number row proc only exit form has procedure is stands some =
     let stood : Stands rom row = subst (λ (o : Option AbsState). IfSome o (λ (s : AbsState). Stands rom row)) some stands in
-    left_by rom cert number row proc only (Ok stood.0) exit has procedure stood.1 is some
+    left_by rom cert number row proc only (Ok stood.0) exit form has procedure stood.1 is some
 
-only_exit : (rom : List ℕ) (cert : CertificateView) (number : ℕ) (row : Row) (proc : Proc) (only : Option AbsState) → slice_get cert.rows number ≡ Some row →
+only_exit : (rom : List ℕ) (cert : CertificateView) (number : ℕ) (row : Row) (proc : Proc) (only : Option AbsState) → IsInForm cert → slice_get cert.rows number ≡ Some row →
     slice_get cert.procs row.proc ≡ Some proc →
-    ((decoded : Result Instr DecodeFault) → StandsAt rom row.address decoded → only ≡ exit_by (is_main row.proc) row.state decoded) →
+    ((decoded : Result Instr DecodeFault) → StandsAt rom row.address decoded → only ≡ exit_by (is_main row.proc) row.parts row.state decoded) →
     IfSome only (λ (s : AbsState). Stands rom row) → (exit : AbsState) → IsExitAt rom cert number exit ↔ (only ≡ Some exit)
-only_exit rom cert number row proc only has procedure is stands exit = (
+only_exit rom cert number row proc only form has procedure is stands exit = (
   (λ leaves.
-      is leaves.subject.decoded (stated rom cert number row leaves.subject has leaves.is).1.stands ∙ told rom cert number row exit has leaves),
-  (λ some. left_in rom cert number row proc only exit has procedure is stands some),
+      is leaves.subject.decoded (stated rom cert number row leaves.subject has leaves.is).1.stands ∙ told rom cert number row exit form has leaves),
+  (λ some. left_in rom cert number row proc only exit form has procedure is stands some),
 )
 
 -- the same in a certificate in form, where the procedure of the row exists
 pub only_in_form : (rom : List ℕ) (cert : CertificateView) (number : ℕ) (row : Row) (only : Option AbsState) → IsInForm cert → slice_get cert.rows number ≡ Some row →
-    ((decoded : Result Instr DecodeFault) → StandsAt rom row.address decoded → only ≡ exit_by (is_main row.proc) row.state decoded) →
+    ((decoded : Result Instr DecodeFault) → StandsAt rom row.address decoded → only ≡ exit_by (is_main row.proc) row.parts row.state decoded) →
     IfSome only (λ (s : AbsState). Stands rom row) → (exit : AbsState) → IsExitAt rom cert number exit ↔ (only ≡ Some exit)
 only_in_form rom cert number row only form has is stands exit = by (slice_get cert.procs row.proc) refl
   where
     by : (proc : Option Proc) → slice_get cert.procs row.proc ≡ proc → IsExitAt rom cert number exit ↔ (only ≡ Some exit)
     by None none = absurd (row_has_proc cert form number row has none)
-    by (Some proc) procedure = only_exit rom cert number row proc only has procedure is stands exit
+    by (Some proc) procedure = only_exit rom cert number row proc only form has procedure is stands exit
 
 -- the exit of a row of a certificate in form, by its instruction
 pub left_in_form : (rom : List ℕ) (cert : CertificateView) (number : ℕ) (row : Row) (decoded : Result Instr DecodeFault) (exit : AbsState) → IsInForm cert →
-    slice_get cert.rows number ≡ Some row → StandsAt rom row.address decoded → exit_by (is_main row.proc) row.state decoded ≡ Some exit →
+    slice_get cert.rows number ≡ Some row → StandsAt rom row.address decoded → exit_by (is_main row.proc) row.parts row.state decoded ≡ Some exit →
     IsExitAt rom cert number exit
 left_in_form rom cert number row decoded exit form has stands some = by (slice_get cert.procs row.proc) refl
   where
     by : (proc : Option Proc) → slice_get cert.procs row.proc ≡ proc → IsExitAt rom cert number exit
     by None none = absurd (row_has_proc cert form number row has none)
-    by (Some proc) procedure = leaves_in rom cert number row proc decoded exit has procedure stands some
+    by (Some proc) procedure = leaves_in rom cert number row proc decoded exit form has procedure stands some

@@ -3,6 +3,8 @@ use Rattle.std.proofs.Common.{◌≡◌, ◌≤◌, ℕ, zero, suc, Bool, if◌t
 use Rattle.std.specs.List.{AllByRecursion}
 use Rattle.std.proofs.lemmas.Bool.{cases_Bool}
 use Rattle.std.proofs.lemmas.Option.{get_or_from_slice_get, none-some, same_Some, slice_get-get_or, slice_get_within}
+use Rattle.abs_draft.specs.Ground.{GroundView}
+use Rattle.abs_state.specs.declared.state.AbsState.{AbsState}
 use Rattle.board_fetch.specs.Decoded.{StandsAt}
 use Rattle.check_cover.specs.Program.{callee_among, callee_at, is_called_at}
 use Rattle.check_cover.specs.declared.program.Callee.{Callee}
@@ -13,6 +15,7 @@ use Rattle.cert_lines.specs.declared.row.Row.{Row}
 use Rattle.cert_form.specs.Contents.{CertificateView}
 use Rattle.cert_form.specs.Form.{IsInForm, IsRowOf}
 use Rattle.check_ways.specs.Ways.{IsSubject}
+use Rattle.flag_letters.specs.declared.part.FlagPart.{FlagPart}
 use Rattle.z80_decode.specs.declared.fault.DecodeFault.{DecodeFault}
 use Rattle.z80_decode.specs.declared.instr.Instr.{Instr}
 
@@ -70,3 +73,13 @@ each_callee P number entry (p ∷ ps) callee all called =
 pub callee_time_fits : (c : CertificateView) → IsInForm c → (entry : ℕ) (callee : Callee) → callee_at c entry ≡ Some callee →
     unwrap_or callee.proc.time 0 ≤ 1000000000
 callee_time_fits c form entry callee called = time_fits callee.proc.time (each_callee IsProc 0 entry c.procs callee form.certificate.procs called).time
+
+-- ---- the step of a row
+
+-- what is told of a step depends on the row alone
+pub same_step : {X : Type 0} (f : GroundView → ℕ → Bool → Instr → List FlagPart → AbsState → X) (g h : GroundView) (a b : ℕ) (i j : Bool) (instr : Instr)
+    (p q : List FlagPart) (s t : AbsState) → g ≡ h → a ≡ b → i ≡ j → p ≡ q → s ≡ t → f g a i instr p s ≡ f h b j instr q t
+same_step f g h a b i j instr p q s t same_ground same_address same_inline same_parts same_state =
+    ap (λ (x : GroundView). f x a i instr p s) same_ground ∙ ap (λ (x : ℕ). f h x i instr p s) same_address
+    ∙ ap (λ (x : Bool). f h b x instr p s) same_inline ∙ ap (λ (x : List FlagPart). f h b j instr x s) same_parts
+    ∙ ap (λ (x : AbsState). f h b j instr q x) same_state

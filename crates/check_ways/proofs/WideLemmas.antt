@@ -14,6 +14,7 @@ use Rattle.check_ways.specs.Parts.{OnEachExit, ReturnCovered, WideCovered}
 use Rattle.check_ways.specs.Ways.{SubjectView, return_way}
 use Rattle.check_tables.specs.Lefts.{AreLeft, Widens, WidensEach, left_of}
 use Rattle.cert_form.specs.Contents.{CertificateView}
+use Rattle.cert_form.specs.Form.{IsInForm}
 use Rattle.check_tables.specs.Tables.{AreExits, ProcExitsView}
 use Rattle.check_tables.specs.declared.left.Left.{Left}
 use Rattle.intervals.specs.Pair.{CoversPair}
@@ -75,23 +76,23 @@ after_covers caller w e h =
     }
 
 wide_each : (cert : CertificateView) (s : SubjectView) (next : Next) (callee : Callee) (lefts : List Left) (wide : AbsState) →
-    AreLeft s.rom s.cert callee.number lefts → WidensEach lefts wide → WideCovered cert s next wide → OnEachExit s callee.number (ReturnCovered cert s next callee)
-wide_each cert s next callee lefts wide left widens covered = record {
+    IsInForm s.cert → AreLeft s.rom s.cert callee.number lefts → WidensEach lefts wide → WideCovered cert s next wide → OnEachExit s callee.number (ReturnCovered cert s next callee)
+wide_each cert s next callee lefts wide form left widens covered = record {
   each = λ exit leaves.
-      let listed = left.each (left_of exit) (is_left s.rom s.cert callee.number exit leaves) in
+      let listed = left.each (left_of exit) (is_left s.rom s.cert callee.number exit form leaves) in
       let over : Widens wide (bare exit) = subst (λ (e : AbsState). Widens wide e) (left_bare exit) (widens.each (left_of exit) listed) in
       let way = return_way s next callee exit in
       covered_plain cert way.arrival (after_call next.state wide) (after_call next.state exit) covered (after_covers next.state wide (bare exit) over);
 }
 
 by_wide : (cert : CertificateView) (s : SubjectView) (next : Next) (callee : Callee) (lefts : List Left) (wide : Option AbsState) →
-    AreLeft s.rom s.cert callee.number lefts → IfSome wide (WidensEach lefts) → IsSome wide → IfSome wide (WideCovered cert s next) →
+    IsInForm s.cert → AreLeft s.rom s.cert callee.number lefts → IfSome wide (WidensEach lefts) → IsSome wide → IfSome wide (WideCovered cert s next) →
     OnEachExit s callee.number (ReturnCovered cert s next callee)
-by_wide cert s next callee lefts None left widens some covered = cc
-by_wide cert s next callee lefts (Some wide) left widens some covered = wide_each cert s next callee lefts wide left widens covered
+by_wide cert s next callee lefts None form left widens some covered = cc
+by_wide cert s next callee lefts (Some wide) form left widens some covered = wide_each cert s next callee lefts wide form left widens covered
 
 -- if the callee's tables have such an exit
-pub wide_some : (cert : CertificateView) (s : SubjectView) (next : Next) (callee : Callee) (g : ProcExitsView) → g.proc ≡ callee.number → AreExits s.rom s.cert g →
+pub wide_some : (cert : CertificateView) (s : SubjectView) (next : Next) (callee : Callee) (g : ProcExitsView) → IsInForm s.cert → g.proc ≡ callee.number → AreExits s.rom s.cert g →
     IsSome g.wide → IfSome g.wide (WideCovered cert s next) → OnEachExit s callee.number (ReturnCovered cert s next callee)
-wide_some cert s next callee g of are some covered =
-    by_wide cert s next callee g.lefts g.wide (subst (λ (n : ℕ). AreLeft s.rom s.cert n g.lefts) of are.left) are.wide some covered
+wide_some cert s next callee g form of are some covered =
+    by_wide cert s next callee g.lefts g.wide form (subst (λ (n : ℕ). AreLeft s.rom s.cert n g.lefts) of are.left) are.wide some covered

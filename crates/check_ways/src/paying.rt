@@ -57,6 +57,7 @@ fn row_pays_to(subject: &Subject, way: &Way, target: &RowRef) -> bool
     let from = potential_of(&subject.row);
     let to = potential_of(target);
     let other = target.state();
+    let told = way.told;
     match way.version {
         Version::One | Version::Two => {
             decreases(&from, &to, way.cost, &way.effect, &subject.state, &other)
@@ -67,7 +68,7 @@ fn row_pays_to(subject: &Subject, way: &Way, target: &RowRef) -> bool
             way.cost,
             &way.effect,
             &way.moved,
-            &way.told.linear,
+            &told.linear,
             &subject.state,
             &other,
         ),

@@ -56,7 +56,7 @@ pub struct Subject<'a> {
     /// Tables of the certificate for the ROM, if they were made.
     pub(crate) tables: Option<&'a Tables<'a>>,
     /// What is said of a way without conditions.
-    untold: StepTold,
+    nothing: StepTold,
 }
 
 impl<'a> Model for Subject<'a> {
@@ -73,7 +73,7 @@ impl<'a> Model for Subject<'a> {
         IsSubject (record { rom = s.rom.now; cert = s.certificate.now; row = s.row; proc = s.proc; decoded = s.decoded })
         × (s.map.now ≡ map_of_board s.certificate.now) × (s.map.now.rom_len ≡ length s.rom.now)
         × (s.state ≡ s.row.state) × (s.behind ≡ behind_of s.decoded s.row.address)
-        × IfOk s.decoded (λ instr. s.len ≡ length (spelling instr)) × (s.untold ≡ untold)
+        × IfOk s.decoded (λ instr. s.len ≡ length (spelling instr)) × (s.nothing ≡ untold)
         × IfSome s.tables (λ t. (t.now.rom ≡ s.rom.now) × (t.now.cert ≡ s.certificate.now)) };
 }
 
@@ -109,7 +109,7 @@ impl<'a> Subject<'a> {
             behind,
             state,
             tables: None,
-            untold: StepTold::none(),
+            nothing: StepTold::none(),
         })
     }
 
@@ -191,16 +191,17 @@ impl<'a> Subject<'a> {
     {
         // By the form, there are at most 256 cells.
         self.certificate.is_in_form();
+        let row = &self.row;
         refined_step(
             alloc,
             &Ground::of(self.rom, self.map, self.certificate.cells()),
-            self.row.address,
-            self.row.proc == 0,
-            is_inline(self.certificate, self.row.address),
+            row.address,
+            row.proc == 0,
+            is_inline(self.certificate, row.address),
             instr,
             self.len,
             &self.state,
-            self.row.parts,
+            row.parts,
         )
     }
 
@@ -251,7 +252,7 @@ impl<'a> Subject<'a> {
     pub(crate) fn untold(&self) -> &StepTold
         ensures { result.now ≡ untold }
     {
-        &self.untold
+        &self.nothing
     }
 }
 
@@ -277,6 +278,7 @@ pub(crate) fn refinement<'s>(
 fn plain(step: RowStep) -> SubjectStep
     ensures writes { result.writes ≡ step.writes }
     ensures answer { result.answer ≡ step.answer }
+    ensures told { result.told ≡ untold }
 {
     let RowStep { writes, answer, .. } = step;
     SubjectStep {

@@ -1,8 +1,8 @@
 use Rattle.std.proofs.Common.{ℕ, subst}
 use Rattle.cert_form.specs.Form.{IsInForm}
-use Rattle.check_ways.proofs.KeptLemmas.{kept_each}
+use Rattle.check_ways.proofs.KeptLemmas.{kept_each, respects_way}
 use Rattle.check_ways.proofs.TopLemmas.{pays_each_return}
-use Rattle.check_ways.specs.Parts.{PaysPlace, PaysReturn}
+use Rattle.check_ways.specs.Parts.{PaysPlace, PaysReturn, PaysWay}
 use Rattle.check_ways.specs.Ways.{SubjectView, behind_of}
 use Rattle.check_ways.proofs.paying.returns_are_paid.Goals as goal
 
@@ -21,4 +21,4 @@ returns-else-pays_behind c =
     let kept = c.in-Some.ensures {u = tt} in
     kept_each s c.args.callee.now.number c.in-Some.exits.now c.lefts.result.now (PaysReturn s c.args.next.now c.args.callee.now)
     c.lefts_are_paid.result (subst (λ (x : SubjectView). IsInForm x.cert) c.subject.view_is c.is_in_form.ensures) kept.0 kept.1 c.lefts.ensures
-    (λ e. ((λ h. h), (λ h. h))) c.lefts_are_paid.ensures
+    (respects_way s c.args.next.now c.args.callee.now (PaysWay s)) c.lefts_are_paid.ensures

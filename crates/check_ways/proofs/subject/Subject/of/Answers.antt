@@ -17,5 +17,6 @@ invariant_of-result c =
       c.state-state.ensures,
       subst (λ (r : Row). c.stands_at-decoded.result.2 ≡ behind_of decoded r.address) c.row-2.view_is c.stands_at-decoded.ensures.behind,
       c.stands_at-decoded.ensures.len,
+      c.none.ensures,
       tt,
     )
