@@ -182,20 +182,24 @@ state_after s state = if restarts s then restarted state else state
 
 -- ---- the ways of each kind
 
--- the way of a jump; going on to the next address is one too, and a restart
-abbrev pub jump_way : SubjectView → Next → WayView
-jump_way s next = record {
+-- a jump that arrives in this procedure and this state
+abbrev pub jump_to : SubjectView → Next → ℕ → AbsState → WayView
+jump_to s next proc state = record {
   arrival = record {
-    proc = proc_after s;
+    proc = proc;
     address = next.address;
     facts = s.row.facts;
     before = s.row.state;
     effect = next.effect;
     refined = refined_by s.cert.version (told_of s s.decoded) next.moved;
   };
-  state = state_after s next.state;
+  state = state;
   cost = next.cost;
 }
+
+-- the way of a jump; going on to the next address is one too, and a restart
+abbrev pub jump_way : SubjectView → Next → WayView
+jump_way s next = jump_to s next (proc_after s) (state_after s next.state)
 
 -- the arrival at a callee's entry
 abbrev pub arrival_at_entry : SubjectView → Next → Callee → ArrivalView
