@@ -23,7 +23,10 @@ use Rattle.cert_form.specs.Migrated.{migrated_version}
 use Rattle.check_rules.specs.Acceptance.{Accepts, AreConsistent, Begins, CoversEntries, EntryFails, FitsRom, IsRefused, WholeRefused}
 use Rattle.check_rules.specs.Table.{HasNoStack, IsConsistent, FitsDepth, IsLowest, Passes}
 use Rattle.check_ways.specs.Pays.{LeadsToRow, Pays, PaysCall}
-use Rattle.check_ways.specs.Ways.{CallsCallee, EntersCallee, GoesOn, IsExit, IsSubject, IsWay, StepToldView, SubjectView, WayView, arrival_at_entry, behind_of, call_cost, effect_back, effect_of_call, jump_way, nexts_from, nexts_in, refined_by, restarted, restarts, restarts_by, return_way, step_by, step_from, step_of, told_of, untold}
+use Rattle.check_steps.specs.Restarts.{restarted, restarts_by}
+use Rattle.check_steps.specs.Returned.{effect_back, effect_of_call}
+use Rattle.check_steps.specs.Told.{StepToldView, refined_by, untold}
+use Rattle.check_ways.specs.Ways.{CallsCallee, EntersCallee, GoesOn, IsExit, IsSubject, IsWay, SubjectView, WayView, arrival_at_entry, behind_of, call_cost, jump_way, nexts_from, nexts_in, restarts, return_way, step_by, step_from, step_of, told_of}
 use Rattle.loop_bounds.specs.Effect.{unchanged}
 use Rattle.loop_bounds.specs.declared.effect.Effect.{Effect}
 use Rattle.z80_decode.specs.declared.fault.DecodeFault.{DecodeFault}

@@ -3,7 +3,8 @@ use Rattle.std.proofs.Common.{◌≡◌, ◌&&◌, ℕ, Bool, true, false, not, 
 use Rattle.abs_step.specs.declared.next.Next.{Next}
 use Rattle.cert_lines.specs.declared.version.Version.{Version}
 use Rattle.cert_lines.specs.declared.version.Version.TheVariants.{One, Two, Three}
-use Rattle.check_ways.specs.Ways.{SubjectView, is_sub, jump_to, jump_way, loads_top, restarted, restarts, restarts_by}
+use Rattle.check_steps.specs.Restarts.{is_sub, loads_top, restarted, restarts_by}
+use Rattle.check_ways.specs.Ways.{SubjectView, jump_to, jump_way, restarts}
 use Rattle.z80_decode.specs.declared.fault.DecodeFault.{DecodeFault}
 use Rattle.z80_decode.specs.declared.instr.Instr.{Instr}
 

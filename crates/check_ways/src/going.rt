@@ -9,14 +9,13 @@ ghost use Rattle.check_ways.specs.Parts.{AtEachExit, CallGoesOn, IsCoveredWay, N
 ghost use Rattle.cert_lines.specs.declared.version.Version.TheVariants.{Three};
 ghost use Rattle.check_ways.specs.Ways.{GoesOn, arrival_at_entry, jump_way, step_of, told_of};
 
-use crate::effects::effect_back;
 use crate::subject::Subject;
-use crate::told::StepTold;
 use abs_draft::settled;
 use abs_state::AbsState;
 use abs_step::{Next, NextKind};
 use cert_contents::RowId;
 use check_cover::{Callee, Coverer, callee_at};
+use check_steps::{StepTold, effect_back};
 use check_tables::{Left, ProcExits};
 
 /// Whether a jump arrives in a covered state.
