@@ -53,6 +53,7 @@ refused s r e = by s.decoded refl e
     by_version Three instr e =
         among_four s instr
         (refined_nexts (ground_for s.rom s.cert) s.row.address (is_main s.row.proc) (is_inline s.cert s.row.address) instr s.row.parts s.row.state) r e
+
     by : (d : Result Instr DecodeFault) → s.decoded ≡ d → step_from s d ≡ Err r → Refuses s r
     by (Err fault) is e = undecoded fault is (cc)
     by (Ok instr) is e = by_version s.cert.version instr e

@@ -156,7 +156,7 @@ plain_return s next callee exit early =
     let moved_back = effect_back s.cert.version next.moved exit in
     ap (λ (e : Effect). return_by s next callee exit e (refined_by s.cert.version untold moved_back)) (plain_back s.cert.version next.effect exit early)
     ∙ ap (λ (r : Option RefinementView). return_by s next callee exit (effect_of_call next.effect exit) r)
-        (plain_arrival s.cert.version untold moved_back early)
+    (plain_arrival s.cert.version untold moved_back early)
 
 same_return : (v : Version) (s : SubjectView) (next : Next) (callee : Callee) (exit : AbsState) → IsEarly s.cert.version → IsEarly v →
     return_way s next callee exit ≡ return_way (moved v s) next callee exit
@@ -405,6 +405,7 @@ refused_before rom c d number address reason is h = by c.version refl is
   where
     Told : CertificateView → Type 0
     Told x = IsRefused rom x number address reason
+
     by : (v : Version) → c.version ≡ v → in_version (migrated_version v) c ≡ d → IsRefused rom c number address reason
     by One old same = refused c.version rom (in_version Two c) number address reason tt (subst IsEarly (sym old) tt) (subst Told (sym same) h)
     by Two old same = subst Told (sym (same_later c d Two old same)) h

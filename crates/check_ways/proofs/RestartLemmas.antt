@@ -16,6 +16,7 @@ timed_stays s timed = by s.cert.version s.decoded
     never false time top some = refl
     never true None top some = cc
     never true (Some t) top some = refl
+
     by : (version : Version) (decoded : Result Instr DecodeFault) → restarts_by version s.proc s.cert.region.top decoded ≡ false
     by One decoded = refl
     by Two decoded = refl

@@ -42,13 +42,7 @@ fn entry_is_covered(subject: &Subject, next: &Next, callee: &Callee, coverer: &m
     ensures same { coverer.new ≡ coverer.old }
 {
     let said = subject.untold();
-    let arrival = subject.arrival_at(
-        callee.number,
-        next.address,
-        &next.effect,
-        &next.moved,
-        said,
-    );
+    let arrival = subject.arrival_at(callee.number, next.address, &next.effect, &next.moved, said);
     coverer.covers(&arrival, &next.state.callee())
 }
 

@@ -144,8 +144,7 @@ impl<'a> Subject<'a> {
         self.proc.time.unwrap_or(0)
     }
 
-    /// The data writes of the row, and its successors or the reason for which the step refuses it, by the version's
-    /// step.
+    /// The data writes of the row, and its successors or the reason for which the version's step refuses it.
     pub fn row_step(&self, alloc: Global) -> SubjectStep
         ensures writes { result.writes.items ≡ writes_from self.now }
         ensures ok { IfOk result.answer (λ nexts. step_of self.now ≡ Ok nexts.items) }

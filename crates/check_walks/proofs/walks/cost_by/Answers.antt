@@ -10,9 +10,10 @@ use Rattle.check_walks.proofs.walks.cost_by.Goals as goal
 pub returns-then-jump_lands : goal.returns-then-jump_lands
 returns-then-jump_lands c =
     let s = c.args.subject.now in
-    by_kind s c.args.next.now c.args.target.now Jump (Some c.from.result) c.in-Jump.is
-    ((subst (λ (w : WayView). Lands s.cert w c.args.target.now) (own_jump s c.args.next.now c.requires.stays) (c.jump_lands.ensures.0 c.if-jump_lands.true), c.from.ensures),
-    (λ n lies. let same = lies.1 in omega (arith, same, c.from.ensures)))
+    by_kind s c.args.next.now c.args.target.now Jump (Some c.from.result) c.in-Jump.is (
+      (subst (λ (w : WayView). Lands s.cert w c.args.target.now) (own_jump s c.args.next.now c.requires.stays) (c.jump_lands.ensures.0 c.if-jump_lands.true), c.from.ensures),
+      (λ n lies. let same = lies.1 in omega (arith, same, c.from.ensures)),
+    )
 
 pub returns-else-jump_lands : goal.returns-else-jump_lands
 returns-else-jump_lands c =
