@@ -1,5 +1,5 @@
 -- The exits of a procedure are those of its rows, and those of a row are among its successors.
-use Rattle.std.proofs.Common.{◌≡◌, ◌<◌, ◌≤◌, ◌↔◌, ◌&&◌, ℕ, zero, suc, if◌then◌else◌, not, Bool, true, false, List, [], ◌∷◌, ◌++◌, Option, Some, None, Result, Ok, Err, IfSome, map, length, option_and_then, slice_get, refl, sym, subst, ap, ◌∙◌, inl, inr, arith, drop, is_some, IsTrue, ◌+◌}
+use Rattle.std.proofs.Common.{◌≡◌, ◌<◌, ◌≤◌, ◌↔◌, ◌&&◌, ℕ, zero, suc, if◌then◌else◌, not, Bool, true, false, List, [], ◌∷◌, Option, Some, None, Result, Ok, Err, IfSome, map, length, option_and_then, slice_get, refl, sym, subst, ap, ◌∙◌, inl, inr, arith, drop, is_some, IsTrue, ◌+◌}
 use Rattle.std.specs.List.{Contains}
 use Rattle.std.proofs.lemmas.Bool.{cases_lt, false≢true}
 use Rattle.std.proofs.lemmas.List.Elements.{Contains-append_cases}

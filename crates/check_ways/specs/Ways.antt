@@ -1,5 +1,5 @@
 -- Where a row leads to, through calls and back from them (docs/CHECKER.md, "Successors, calls and exits").
-use Rattle.std.specs.Prelude.{ℕ, ◌+◌, ◌%◌, ◌≡◌, ◌≢◌, ◌⊎◌, Bool, if◌then◌else◌, List, [], length, slice_get, Option, Some, None, Result, Ok, Err, Contains, not, unwrap_or}
+use Rattle.std.specs.Prelude.{ℕ, ◌+◌, ◌%◌, ◌≡◌, ◌≢◌, ◌⊎◌, Bool, if◌then◌else◌, List, [], length, slice_get, Option, Some, None, Result, Ok, Err, Contains, unwrap_or}
 use Rattle.abs_draft.specs.Outcomes.{settled}
 use Rattle.abs_draft.specs.declared.data_write.DataWrite.{DataWrite}
 use Rattle.abs_state.specs.Entries.{callee_entry, after_call}

@@ -1,8 +1,7 @@
 // A row of a certificate for a ROM, together with its procedure and its instruction.
 
-ghost use Rattle.std.specs.Prelude.{◌≡◌, ◌≤◌, IfOk, IfErr, Ok, Err, IfSome, MatchOption, None, Some, length, slice_get, unwrap_or};
+ghost use Rattle.std.specs.Prelude.{◌≡◌, ◌≤◌, IfOk, IfErr, Ok, Err, IfSome, None, Some, length, slice_get, unwrap_or};
 ghost use Rattle.cert_lines.specs.declared.version.Version.TheVariants.{Three, Two};
-ghost use Rattle.check_cover.specs.Program.{is_main};
 ghost use Rattle.cert_form.specs.Contents.{map_of_board};
 ghost use Rattle.board_fetch.specs.Decoded.{StandsAt};
 ghost use Rattle.check_ways.specs.Parts.{IsTopOf};

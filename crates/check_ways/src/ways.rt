@@ -15,7 +15,7 @@ use abs_step::Next;
 use call_graph::ProcId;
 use cert_contents::{Certificate, RowId};
 use cert_lines::{RowRef, Version};
-use check_cover::{Arrival, Callee};
+use check_cover::Callee;
 use check_steps::{StepTold, effect_back};
 use loop_bounds::{Effect, Linear};
 use std::marker::Model;
