@@ -34,7 +34,8 @@ use Rattle.abs_step.specs.declared.next.Next.{Next}
 use Rattle.check_cover.specs.Covering.{Covered}
 use Rattle.check_cover.specs.declared.program.Callee.{Callee}
 use Rattle.cert_form.specs.Form.{IsInForm}
-use Rattle.check_ways.specs.Ways.{SubjectView, behind_of, effect_of_call, jump_way, return_way, returned_change}
+use Rattle.check_steps.specs.Returned.{effect_of_call, returned_change}
+use Rattle.check_ways.specs.Ways.{SubjectView, behind_of, jump_way, return_way}
 use Rattle.check_laws.specs.Comes.{CameBy, Exits, Steps, resumed}
 use Rattle.check_laws.specs.RowHolds.{IsHeld}
 use Rattle.check_laws.proofs.LandingLemmas.{lands}

@@ -1,10 +1,11 @@
 // The reasons of a certificate as a whole: 1, 2 and 3 before its rows, 11 and 18 after them.
 
-ghost use Rattle.std.specs.Prelude.{◌≡◌, ◌↔◌, ◌<◌, ◌≤◌, ℕ, IsTrue, IfSome, MatchOption, None};
+ghost use Rattle.std.specs.Prelude.{◌≡◌, ◌↔◌, ◌<◌, ◌≤◌, ℕ, [], IsTrue, IfSome, MatchOption, None};
 ghost use Rattle.std.specs.List.{All};
-ghost use Rattle.check_cover.specs.Arrival.{first_arrival};
+ghost use Rattle.check_cover.specs.Arrival.{entry_refinement, first_arrival};
 ghost use Rattle.check_cover.specs.Covering.{Covered, CoversMain, CoversNmi};
 ghost use Rattle.address_map.specs.WorkRam.{work_start};
+ghost use Rattle.loop_bounds.specs.Effect.{unchanged};
 ghost use Rattle.cert_form.specs.Contents.{nmi_of};
 ghost use Rattle.check_rules.specs.Acceptance.{CoversEntries, EntryFails, FitsRom, HasDepth, LiesOutside, RegionFits, HasBudget, depth_of, main_depth};
 
@@ -14,6 +15,7 @@ use cert_contents::Certificate;
 use cert_lines::{Proc, Version, WORK_LEN};
 use check_cover::{Arrival, Coverer, Refinement};
 use flag_conditions::StepConditions;
+use linear_effects::LinearEffect;
 use loop_bounds::Effect;
 use t_states::MAX_BUDGET;
 use z80_moves::NMI_ADDRESS;
@@ -59,7 +61,7 @@ pub(crate) fn uncovered_entry(certificate: &Certificate, coverer: &mut Coverer) 
     ensures told { MatchOption result (CoversEntries certificate.now) (EntryFails certificate.now) }
     ensures same { coverer.new ≡ coverer.old }
 {
-    if !main_is_covered(coverer) {
+    if !main_is_covered(certificate, coverer) {
         return Some(0);
     }
     if certificate.budget().is_some() && !nmi_is_covered(certificate, coverer) {
@@ -69,7 +71,8 @@ pub(crate) fn uncovered_entry(certificate: &Certificate, coverer: &mut Coverer) 
 }
 
 /// Whether the state at the entry of main is covered.
-fn main_is_covered(coverer: &mut Coverer) -> bool
+fn main_is_covered(certificate: &Certificate, coverer: &mut Coverer) -> bool
+    requires { coverer.old ≡ certificate.now }
     ensures exact { IsTrue result ↔ CoversMain coverer.old }
     ensures same { coverer.new ≡ coverer.old }
 {
@@ -101,24 +104,58 @@ fn entry_is_covered(
         ↔ Covered coverer.old (first_arrival version proc address state.now) state.now }
     ensures same { coverer.new ≡ coverer.old }
 {
-    let unchanged = Effect::unchanged();
+    let effect = Effect::unchanged();
+    let linear = None;
     let conditions = StepConditions::none();
-    let arrival = Arrival {
+    let arrival = first_arrival(version, proc, address, state, &effect, &linear, &conditions);
+    coverer.covers(&arrival, state)
+}
+
+/// The arrival at an entry, by a step that changes nothing and tells nothing of the flags.
+fn first_arrival<'s>(
+    version: Version,
+    proc: u16,
+    address: u16,
+    state: &'s AbsState,
+    effect: &'s Effect,
+    linear: &'s Option<LinearEffect>,
+    conditions: &'s StepConditions,
+) -> Arrival<'s, 's>
+    requires effect { effect.now ≡ unchanged }
+    requires linear { linear.now ≡ None }
+    requires conditions { conditions.now ≡ record { before = []; after = [] } }
+    ensures { result ≡ first_arrival version proc address state.now }
+{
+    Arrival {
         proc,
         address,
         facts: &[],
         before: state,
-        effect: &unchanged,
-        refined: match version {
-            Version::One | Version::Two => None,
-            Version::Three => Some(Refinement {
-                moved: &unchanged,
-                linear: &None,
-                conditions: &conditions,
-            }),
-        },
-    };
-    coverer.covers(&arrival, state)
+        effect,
+        refined: entry_refinement(version, effect, linear, conditions),
+    }
+}
+
+/// What version 3 adds at an entry.
+fn entry_refinement<'s>(
+    version: Version,
+    effect: &'s Effect,
+    linear: &'s Option<LinearEffect>,
+    conditions: &'s StepConditions,
+) -> Option<Refinement<'s>>
+    requires effect { effect.now ≡ unchanged }
+    requires linear { linear.now ≡ None }
+    requires conditions { conditions.now ≡ record { before = []; after = [] } }
+    ensures { result ≡ entry_refinement version }
+{
+    match version {
+        Version::One | Version::Two => None,
+        Version::Three => Some(Refinement {
+            moved: effect,
+            linear,
+            conditions,
+        }),
+    }
 }
 
 /// Whether the region has room for main and, on top of it, the NMI routine.

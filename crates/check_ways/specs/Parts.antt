@@ -23,7 +23,6 @@ use Rattle.check_tables.specs.declared.left.Left.{Left}
 use Rattle.loop_bounds.specs.Bounds.{Decreases}
 use Rattle.loop_bounds.specs.Effect.{unchanged}
 use Rattle.loop_bounds.specs.Linear.{LinearView}
-use Rattle.loop_bounds.specs.declared.effect.Effect.{Effect}
 use Rattle.z80_decode.specs.declared.fault.DecodeFault.{DecodeFault}
 use Rattle.z80_decode.specs.declared.instr.Instr.{Instr}
 
