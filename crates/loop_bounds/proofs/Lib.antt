@@ -9,3 +9,5 @@ pub mod NeverNegative
 pub mod BoundsLemmas
 pub mod TightenLemmas
 pub mod SoFar
+pub mod ApartLemmas
+pub mod BesideLemmas

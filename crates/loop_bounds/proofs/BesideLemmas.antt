@@ -1,0 +1,94 @@
+-- A form after a multiple of a linear was added, and what that says of the step.
+use Rattle.std.proofs.Common.{◌≡◌, ℕ, ◌+◌, ◌<◌, ◌≤◌, ◌^◌, List, [], ◌∷◌, ◌++◌, length, get_or, take, ℤ, pos, neg_ℤ, ◌+ℤ◌, ◌-ℤ◌, ◌*ℤ◌, ◌≤ℤ◌, Bool, IsTrue, refl, sym, subst, ap, ◌∙◌, arith, unsigned_abs, take_all}
+use Rattle.std.proofs.Math.IntN.{*ℤ-zero, *ℤ_comm}
+use Rattle.std.proofs.lemmas.Int.{ints, unsigned_abs-mul}
+use Rattle.std.proofs.lemmas.Nat.{mul-le}
+use Rattle.std.proofs.lemmas.List.{take_more}
+use Rattle.loop_bounds.specs.declared.effect.Effect.{Effect}
+use Rattle.loop_bounds.specs.declared.linear.Term.{Term}
+use Rattle.loop_bounds.specs.declared.rewritten.Rewritten.{Rewritten}
+use Rattle.loop_bounds.specs.declared.variable.Variable.{Variable}
+use Rattle.loop_bounds.specs.Bounds.{DecreasesBeside}
+use Rattle.loop_bounds.specs.Effect.{Valuation, whole, after}
+use Rattle.loop_bounds.specs.Form.{weight}
+use Rattle.loop_bounds.specs.Linear.{LinearView, total, value}
+use Rattle.loop_bounds.specs.Ranges.{Box, LiesIn}
+use Rattle.loop_bounds.specs.Rewritten.{IsWithinRoom, IsLight, value_of_both}
+use Rattle.loop_bounds.proofs.FormLemmas.{total_push, product_of_sum}
+use Rattle.loop_bounds.proofs.RewrittenLemmas.{neg_product}
+use Rattle.loop_bounds.proofs.SoFar.{HasAddedScaled}
+
+-- the size of a product
+pub product_size : (f c : ℤ) (m n : ℕ) → unsigned_abs f ≤ m → unsigned_abs c ≤ n → unsigned_abs (f *ℤ c) ≤ m * n
+product_size f c m n p q = rw unsigned_abs-mul (mul-le (unsigned_abs f) (unsigned_abs c) m n p q)
+
+-- a factor goes into a sum
+pub product_over_sum : (f a b : ℤ) → f *ℤ (a +ℤ b) ≡ f *ℤ a +ℤ f *ℤ b
+product_over_sum f a b =
+    let turned = *ℤ_comm f (a +ℤ b) in
+    let split = product_of_sum a b f in
+    let first = *ℤ_comm a f in
+    let second = *ℤ_comm b f in
+    omega (arith, ints, turned, split, first, second)
+
+-- a product of three may be taken in either order
+pub product_of_product : (f c y : ℤ) → (f *ℤ c) *ℤ y ≡ f *ℤ (c *ℤ y)
+product_of_product f c y = *ℤ_assoc f c y
+
+pub scaled_none : (s : LinearView) (f : ℤ) → HasAddedScaled s s f [] 0
+scaled_none s f = record {
+  total = λ x. omega (arith, ints, *ℤ-zero f);
+  constant = refl;
+  length = omega arith;
+  weight = omega arith;
+}
+
+-- one more term
+pub scaled_more : (old mid new : LinearView) (f c : ℤ) (ts : List Term) (k : ℕ) (t : Term) → HasAddedScaled old mid f (take k ts) k → k < length ts → t ≡ get_or ts k t → c ≡ f *ℤ t.coefficient → unsigned_abs c ≤ 256000000 → ((x : Variable → ℤ) → total x new.terms ≡ total x mid.terms +ℤ c *ℤ x t.variable) → new.constant ≡ mid.constant → length new.terms ≤ length mid.terms + 1 → weight new.terms ≤ weight mid.terms + unsigned_abs c → HasAddedScaled old new f (take (k + 1) ts) (k + 1)
+scaled_more old mid new f c ts k t so_far inside at is small sum constant longer heavier =
+    let front_more : take (k + 1) ts ≡ take k ts ++ t ∷ [] = take_more ts k t inside ∙ ap (λ (u : Term). take k ts ++ u ∷ []) (sym at) in
+    record {
+      total = λ x.
+          let push = ap (λ (z : ℤ). f *ℤ z) (ap (total x) front_more ∙ total_push x (take k ts) t) in
+          let split = product_over_sum f (total x (take k ts)) (t.coefficient *ℤ x t.variable) in
+          let product = ap (λ (z : ℤ). z *ℤ x t.variable) is ∙ product_of_product f t.coefficient (x t.variable) in
+          omega (arith, ints, sum x, so_far.total x, push, split, product);
+      constant = constant ∙ so_far.constant;
+      length = omega (arith, so_far.length, longer);
+      weight = omega (arith, so_far.weight, heavier, small);
+    }
+
+-- all terms, and the constant
+pub scaled_value : (old mid new given : LinearView) (f m : ℤ) → mid ≡ record { constant = old.constant +ℤ m; terms = old.terms } → m ≡ f *ℤ given.constant → ((x : Variable → ℤ) → total x new.terms ≡ total x mid.terms +ℤ f *ℤ total x given.terms) → new.constant ≡ mid.constant → (x : Variable → ℤ) → value x new ≡ value x old +ℤ f *ℤ value x given
+scaled_value old mid new given f m raised is sum constant x =
+    let terms = ap (λ (s : LinearView). total x s.terms) raised in
+    let constants = ap (λ (s : LinearView). s.constant) raised in
+    let split = product_over_sum f given.constant (total x given.terms) in
+    omega (arith, ints, sum x, terms, constants, constant, is, split)
+
+-- a test that decides the sign of the sum without the multiple decides `DecreasesBeside`
+module _ (left last : Rewritten) (from to beside : LinearView) (cost : ℕ) (effect : Effect) (f g : ℤ) (negated : g ≡ neg_ℤ f) (before_that : (before free : Valuation) → value_of_both before free left ≡ value (whole before) from -ℤ pos cost -ℤ value (after effect before free) to) (known : (x : Variable → ℤ) → value x last.known ≡ value x left.known +ℤ g *ℤ value x beside) (unknown : last.unknown ≡ left.unknown) where
+  beside_value : (before free : Valuation) → value_of_both before free last ≡ value (whole before) from -ℤ pos cost -ℤ value (after effect before free) to -ℤ f *ℤ value (whole before) beside
+  beside_value before free =
+      let rest = ap (value (whole free)) unknown in
+      let product = ap (λ (z : ℤ). z *ℤ value (whole before) beside) negated ∙ neg_product f (value (whole before) beside) in
+      omega (arith, ints, before_that before free, known (whole before), rest, product)
+
+  pub beside_decided : (P : Bool) (source target : Box) → (IsTrue P → (before free : Valuation) → LiesIn source before → LiesIn target free → pos 0 ≤ℤ value_of_both before free last) × (((before free : Valuation) → LiesIn source before → LiesIn target free → pos 0 ≤ℤ value_of_both before free last) → IsTrue P) → (IsTrue P → DecreasesBeside from to cost effect f beside source target) × (DecreasesBeside from to cost effect f beside source target → IsTrue P)
+  beside_decided P source target h = (
+    λ t before free p q. subst (λ z. pos 0 ≤ℤ z) (beside_value before free) (h.0 t before free p q),
+    λ d. h.1 (λ before free p q. subst (λ z. pos 0 ≤ℤ z) (sym (beside_value before free)) (d before free p q)),
+  )
+
+-- the sum with the multiple is light
+pub beside_light : (left last : Rewritten) → IsWithinRoom 6 left → weight last.known.terms < 2 ^ 31 → unsigned_abs last.known.constant < 2 ^ 60 → last.unknown ≡ left.unknown → IsLight last
+beside_light left last room light small same =
+    let zero = ap unsigned_abs room.unknown_constant in
+    let weights = ap (λ (s : LinearView). weight s.terms) same in
+    let constants = ap (λ (s : LinearView). unsigned_abs s.constant) same in
+    record {
+      known = light;
+      unknown = omega (arith, room.unknown_weight, weights);
+      constant = small;
+      unknown_constant = omega (arith, zero, constants);
+    }
