@@ -27,7 +27,7 @@ apart_none s v h = record {
   constant = refl;
   value = λ x. omega (arith, ints, zero-*ℤ (x v));
   absent = λ i d p. absurd (omega arith);
-  length = omega arith;
+  short = omega arith;
   rising = λ i d p q j e r. absurd (omega arith);
   size = omega arith;
   alone = inl refl;
@@ -68,7 +68,7 @@ module _ (s : LinearView) (v : Variable) (k : ℕ) (rest : LinearView) (c : ℤ)
         let here = ap (λ w. t.coefficient *ℤ x w) e in
         omega (arith, ints, total_more x, gone, zero-*ℤ (x v), here);
     absent = so_far.absent;
-    length = omega (arith, so_far.length);
+    short = omega (arith, so_far.short);
     rising = λ i d p q. so_far.rising i d (omega arith) q;
     size = small_term.1;
     alone = inr (λ i d p q. subst (λ w. rank_of w < rank_of (get_or s.terms i d).variable) e (after_term i d p q));
@@ -81,11 +81,11 @@ module _ (s : LinearView) (v : Variable) (k : ℕ) (rest : LinearView) (c : ℤ)
           let same : rank_of (get_or s.terms k t).variable ≡ rank_of v = ap (λ (u : Term). rank_of u.variable) (front t) ∙ ap rank_of e in
           absurd (omega (arith, less, same))
 
-  short : length s.terms ≤ 3 → length rest.terms < 3
-  short h = omega (arith, so_far.length)
+  room_left : length s.terms ≤ 3 → length rest.terms < 3
+  room_left h = omega (arith, so_far.short)
 
   pub longer_linear : IsLinear (extended rest t)
-  longer_linear = extended_from rest t so_far.linear (short linear.count) small_term before_term
+  longer_linear = extended_from rest t so_far.linear (room_left linear.count) small_term before_term
 
   -- a term of another variable
   pub apart_other : t.variable ≢ v → IsApartSoFar s v (k + 1) (extended rest t) c
@@ -96,7 +96,7 @@ module _ (s : LinearView) (v : Variable) (k : ℕ) (rest : LinearView) (c : ℤ)
         let push = total_push x rest.terms t in
         omega (arith, ints, total_more x, push);
     absent = All-push (λ u. u.variable ≢ v) rest.terms t so_far.absent other;
-    length = omega (arith, so_far.length, length-append rest.terms (t ∷ []));
+    short = omega (arith, so_far.short, length-append rest.terms (t ∷ []));
     rising = λ i d p q. All-push (λ u. rank_of u.variable < rank_of (get_or s.terms i d).variable) rest.terms t (so_far.rising i d (omega arith) q) (after_term i d p q);
     size = so_far.size;
     alone = later_alone so_far.alone;

@@ -1,6 +1,6 @@
 -- A form after a multiple of a linear was added, and what that says of the step.
 use Rattle.std.proofs.Common.{◌≡◌, ℕ, ◌+◌, ◌<◌, ◌≤◌, ◌^◌, List, [], ◌∷◌, ◌++◌, length, get_or, take, ℤ, pos, neg_ℤ, ◌+ℤ◌, ◌-ℤ◌, ◌*ℤ◌, ◌≤ℤ◌, Bool, IsTrue, refl, sym, subst, ap, ◌∙◌, arith, unsigned_abs, take_all}
-use Rattle.std.proofs.Math.IntN.{*ℤ-zero, *ℤ_comm}
+use Rattle.std.proofs.Math.IntN.{*ℤ-zero}
 use Rattle.std.proofs.lemmas.Int.{ints, unsigned_abs-mul}
 use Rattle.std.proofs.lemmas.Nat.{mul-le}
 use Rattle.std.proofs.lemmas.List.{take_more}
@@ -14,7 +14,8 @@ use Rattle.loop_bounds.specs.Form.{weight}
 use Rattle.loop_bounds.specs.Linear.{LinearView, total, value}
 use Rattle.loop_bounds.specs.Ranges.{Box, LiesIn}
 use Rattle.loop_bounds.specs.Rewritten.{IsWithinRoom, IsLight, value_of_both}
-use Rattle.loop_bounds.proofs.FormLemmas.{total_push, product_of_sum}
+use Rattle.loop_bounds.proofs.FormLemmas.{total_push}
+use Rattle.loop_bounds.proofs.Products.{sum_of_products, product_of_products}
 use Rattle.loop_bounds.proofs.RewrittenLemmas.{neg_product}
 use Rattle.loop_bounds.proofs.SoFar.{HasAddedScaled}
 
@@ -22,40 +23,27 @@ use Rattle.loop_bounds.proofs.SoFar.{HasAddedScaled}
 pub product_size : (f c : ℤ) (m n : ℕ) → unsigned_abs f ≤ m → unsigned_abs c ≤ n → unsigned_abs (f *ℤ c) ≤ m * n
 product_size f c m n p q = rw unsigned_abs-mul (mul-le (unsigned_abs f) (unsigned_abs c) m n p q)
 
--- a factor goes into a sum
-pub product_over_sum : (f a b : ℤ) → f *ℤ (a +ℤ b) ≡ f *ℤ a +ℤ f *ℤ b
-product_over_sum f a b =
-    let turned = *ℤ_comm f (a +ℤ b) in
-    let split = product_of_sum a b f in
-    let first = *ℤ_comm a f in
-    let second = *ℤ_comm b f in
-    omega (arith, ints, turned, split, first, second)
-
--- a product of three may be taken in either order
-pub product_of_product : (f c y : ℤ) → (f *ℤ c) *ℤ y ≡ f *ℤ (c *ℤ y)
-product_of_product f c y = *ℤ_assoc f c y
-
 pub scaled_none : (s : LinearView) (f : ℤ) → HasAddedScaled s s f [] 0
 scaled_none s f = record {
-  total = λ x. omega (arith, ints, *ℤ-zero f);
+  sum = λ x. omega (arith, ints, *ℤ-zero f);
   constant = refl;
-  length = omega arith;
-  weight = omega arith;
+  short = omega arith;
+  light = omega arith;
 }
 
 -- one more term
 pub scaled_more : (old mid new : LinearView) (f c : ℤ) (ts : List Term) (k : ℕ) (t : Term) → HasAddedScaled old mid f (take k ts) k → k < length ts → t ≡ get_or ts k t → c ≡ f *ℤ t.coefficient → unsigned_abs c ≤ 256000000 → ((x : Variable → ℤ) → total x new.terms ≡ total x mid.terms +ℤ c *ℤ x t.variable) → new.constant ≡ mid.constant → length new.terms ≤ length mid.terms + 1 → weight new.terms ≤ weight mid.terms + unsigned_abs c → HasAddedScaled old new f (take (k + 1) ts) (k + 1)
-scaled_more old mid new f c ts k t so_far inside at is small sum constant longer heavier =
+scaled_more old mid new f c ts k t so_far inside at is small plus constant longer heavier =
     let front_more : take (k + 1) ts ≡ take k ts ++ t ∷ [] = take_more ts k t inside ∙ ap (λ (u : Term). take k ts ++ u ∷ []) (sym at) in
     record {
-      total = λ x.
+      sum = λ x.
           let push = ap (λ (z : ℤ). f *ℤ z) (ap (total x) front_more ∙ total_push x (take k ts) t) in
-          let split = product_over_sum f (total x (take k ts)) (t.coefficient *ℤ x t.variable) in
-          let product = ap (λ (z : ℤ). z *ℤ x t.variable) is ∙ product_of_product f t.coefficient (x t.variable) in
-          omega (arith, ints, sum x, so_far.total x, push, split, product);
+          let split = sum_of_products f (total x (take k ts)) (t.coefficient *ℤ x t.variable) in
+          let product = ap (λ (z : ℤ). z *ℤ x t.variable) is ∙ product_of_products f t.coefficient (x t.variable) in
+          omega (arith, ints, plus x, so_far.sum x, push, split, product);
       constant = constant ∙ so_far.constant;
-      length = omega (arith, so_far.length, longer);
-      weight = omega (arith, so_far.weight, heavier, small);
+      short = omega (arith, so_far.short, longer);
+      light = omega (arith, so_far.light, heavier, small);
     }
 
 -- all terms, and the constant
@@ -63,7 +51,7 @@ pub scaled_value : (old mid new given : LinearView) (f m : ℤ) → mid ≡ reco
 scaled_value old mid new given f m raised is sum constant x =
     let terms = ap (λ (s : LinearView). total x s.terms) raised in
     let constants = ap (λ (s : LinearView). s.constant) raised in
-    let split = product_over_sum f given.constant (total x given.terms) in
+    let split = sum_of_products f given.constant (total x given.terms) in
     omega (arith, ints, sum x, terms, constants, constant, is, split)
 
 -- a test that decides the sign of the sum without the multiple decides `DecreasesBeside`

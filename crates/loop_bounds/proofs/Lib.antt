@@ -1,6 +1,7 @@
 pub mod LinearLemmas
 pub mod VariableLemmas
 pub mod FormLemmas
+pub mod Products
 pub mod Boxes
 pub mod Signed
 pub mod Zeros

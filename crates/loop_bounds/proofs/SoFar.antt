@@ -38,10 +38,10 @@ pub record HasAdded (old new : Rewritten) (source : Box) (effect : Effect) (nega
 
 -- the first `count` terms, each times a factor, were added
 pub record HasAddedScaled (old new : LinearView) (factor : ℤ) (terms : List Term) (count : ℕ) : Type 0 where
-  pub total : (x : Variable → ℤ) → total x new.terms ≡ total x old.terms +ℤ factor *ℤ total x terms
+  pub sum : (x : Variable → ℤ) → total x new.terms ≡ total x old.terms +ℤ factor *ℤ total x terms
   pub constant : new.constant ≡ old.constant
-  pub length : length new.terms ≤ length old.terms + count
-  pub weight : weight new.terms ≤ weight old.terms + 256000000 * count
+  pub short : length new.terms ≤ length old.terms + count
+  pub light : weight new.terms ≤ weight old.terms + 256000000 * count
 
 -- the first `count` terms of a linear are taken apart: the coefficient of a variable, and the rest
 pub record IsApartSoFar (s : LinearView) (v : Variable) (count : ℕ) (rest : LinearView) (coefficient : ℤ) : Type 0 where
@@ -49,7 +49,7 @@ pub record IsApartSoFar (s : LinearView) (v : Variable) (count : ℕ) (rest : Li
   pub constant : rest.constant ≡ s.constant
   pub value : (x : Variable → ℤ) → total x (take count s.terms) ≡ total x rest.terms +ℤ coefficient *ℤ x v
   pub absent : All (λ t. t.variable ≢ v) rest.terms
-  pub length : length rest.terms ≤ count
+  pub short : length rest.terms ≤ count
   pub rising : (i : ℕ) (d : Term) → count ≤ i → i < length s.terms → All (λ u. rank_of u.variable < rank_of (get_or s.terms i d).variable) rest.terms
   pub size : unsigned_abs coefficient ≤ 1000000
   pub alone : (coefficient ≡ pos 0) ⊎ ((i : ℕ) (d : Term) → count ≤ i → i < length s.terms → rank_of v < rank_of (get_or s.terms i d).variable)

@@ -1,29 +1,40 @@
-use Rattle.std.proofs.Common.{rules, ◌≡◌, ◌≢◌, ◌↔◌, IsTrue, ◌≤◌, ◌<◌, [], length, take, ℤ, pos, ◌+ℤ◌, ◌*ℤ◌, unsigned_abs, SomeIff, All, ℕ, ◌+◌, ◌-◌, ◌*◌, ◌/◌, ◌%◌, Bool, true, false, nat_eq, nat_lt, List, ◌∷◌, ◌++◌, slice_index_or, slice_set, bit_and, bit_or, Fits, w8, w32, w64, Bor, MutBor}
-use Rattle.loop_bounds.specs.declared.variable.Variable.{Variable}
-use Rattle.loop_bounds.specs.Variable.{rank_of}
-use Rattle.loop_bounds.specs.Linear.{LinearView, IsLinear, extended, padded, value}
+use Rattle.std.proofs.Common.{◌≡◌, ◌≢◌, ◌<◌, get_or, length, ap, ◌∙◌, sym, subst, rules, FitsSigned}
+use Rattle.std.specs.Int.{w32}
+use Rattle.std.proofs.lemmas.Int.{to_z-of_z}
+use Rattle.loop_bounds.proofs.ApartLemmas.{apart_none, apart_here, apart_other, longer_linear, apart_all}
 use Rattle.loop_bounds.proofs.linear.Linear.apart.Goals as goal
+use Rattle.loop_bounds.proofs.linear.Linear.apart.Goals.{then-eq, else-eq}
 
--- src/linear.rt:152:9
 pub loop-term-init : goal.loop-term-init
-loop-term-init c = ?
+loop-term-init c = rw c.without_terms-rest.ensures (apart_none c.args.self.now c.args.variable c.terms-term-items.ensures.linear)
 
--- src/linear.rt:156:17
 pub longer-rest-requires : goal.longer-rest-requires
-longer-rest-requires c = ?
+longer-rest-requires c =
+    let terms = c.terms-term-items.ensures.value in
+    longer_linear c.args.self.now c.args.variable c.loop-term.term-index c.loop-term.rest _ c.term-item.result c.terms-term-items.ensures.linear
+    c.loop-term.invariant (rw terms at c.loop-term-test.true) (rw terms at c.term-item.is)
 
--- src/linear.rt:152:9
 pub loop-term-preserved : goal.loop-term-preserved
-loop-term-preserved c = ?
+loop-term-preserved c =
+    let terms = c.terms-term-items.ensures.value in
+    let linear = c.terms-term-items.ensures.linear in
+    let inside = rw terms at c.loop-term-test.true in
+    let here = rw terms at c.term-item.is in
+    elim c.if-eq.branch [
+      | then-eq w ↦
+        let same : c.term-item.result.variable ≡ c.args.variable = search rules in
+        {! apart_here c.args.self.now c.args.variable c.loop-term.term-index c.loop-term.rest _ c.term-item.result linear c.loop-term.invariant inside here same !}
+      | else-eq w ↦
+        let other : c.term-item.result.variable ≢ c.args.variable = search rules in
+        {! apart_other c.args.self.now c.args.variable c.loop-term.term-index c.loop-term.rest _ c.term-item.result linear c.loop-term.invariant inside here other !}
+    ]
 
--- src/linear.rt:144:5
 pub returns-clause-value : goal.returns-clause-value
-returns-clause-value c = ?
+returns-clause-value c = λ x.
+    apart_all c.args.self.now c.args.variable c.loop-term.term-index c.loop-term.rest _ c.loop-term.invariant (rw c.terms-term-items.ensures.value at c.loop-term-test.false) x
 
--- src/linear.rt:144:5
 pub returns-clause-absent : goal.returns-clause-absent
-returns-clause-absent c = ?
+returns-clause-absent c = c.loop-term.invariant.absent
 
--- src/linear.rt:144:5
 pub returns-clause-size : goal.returns-clause-size
-returns-clause-size c = ?
+returns-clause-size c = c.loop-term.invariant.size
