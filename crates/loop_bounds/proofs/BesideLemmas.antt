@@ -1,5 +1,5 @@
 -- A form after a multiple of a linear was added, and what that says of the step.
-use Rattle.std.proofs.Common.{◌≡◌, ℕ, ◌+◌, ◌<◌, ◌≤◌, ◌^◌, List, [], ◌∷◌, ◌++◌, length, get_or, take, ℤ, pos, neg_ℤ, ◌+ℤ◌, ◌-ℤ◌, ◌*ℤ◌, ◌≤ℤ◌, Bool, IsTrue, refl, sym, subst, ap, ◌∙◌, arith, unsigned_abs, take_all}
+use Rattle.std.proofs.Common.{◌≡◌, ℕ, ◌+◌, ◌*◌, ◌<◌, ◌≤◌, ◌^◌, List, [], ◌∷◌, ◌++◌, length, get_or, take, ℤ, pos, neg_ℤ, ◌+ℤ◌, ◌-ℤ◌, ◌*ℤ◌, ◌≤ℤ◌, Bool, IsTrue, refl, sym, subst, ap, ◌∙◌, arith, unsigned_abs, take_all}
 use Rattle.std.proofs.Math.IntN.{*ℤ-zero}
 use Rattle.std.proofs.lemmas.Int.{ints, unsigned_abs-mul}
 use Rattle.std.proofs.lemmas.Nat.{mul-le}
@@ -45,6 +45,19 @@ scaled_more old mid new f c ts k t so_far inside at is small plus constant longe
       short = omega (arith, so_far.short, longer);
       light = omega (arith, so_far.light, heavier, small);
     }
+
+-- what the next term needs
+pub next_room : (old mid : LinearView) (f : ℤ) (ts : List Term) (k : ℕ) → HasAddedScaled old mid f (take k ts) k → k < length ts → length ts ≤ 3 → length old.terms ≤ 6 → length mid.terms < 9
+next_room old mid f ts k so_far inside few room = omega (arith, so_far.short)
+
+pub next_fits : (old mid : LinearView) (f c : ℤ) (ts : List Term) (k : ℕ) → HasAddedScaled old mid f (take k ts) k → k < length ts → length ts ≤ 3 → weight old.terms ≤ 6000000 → unsigned_abs c ≤ 256000000 → weight mid.terms + unsigned_abs c < 2 ^ 31
+next_fits old mid f c ts k so_far inside few light small = omega (arith, so_far.light)
+
+pub scaled_total : (old last : LinearView) (f : ℤ) (ts : List Term) (k : ℕ) → HasAddedScaled old last f (take k ts) k → length ts ≤ k → (x : Variable → ℤ) → total x last.terms ≡ total x old.terms +ℤ f *ℤ total x ts
+scaled_total old last f ts k so_far all x = so_far.sum x ∙ ap (λ (us : List Term). total x old.terms +ℤ f *ℤ total x us) (take_all k ts all)
+
+pub scaled_weight : (old last : LinearView) (f : ℤ) (ts : List Term) (k : ℕ) → HasAddedScaled old last f (take k ts) k → k ≤ 3 → weight old.terms ≤ 6000000 → weight last.terms < 2 ^ 31
+scaled_weight old last f ts k so_far few light = omega (arith, so_far.light)
 
 -- all terms, and the constant
 pub scaled_value : (old mid new given : LinearView) (f m : ℤ) → mid ≡ record { constant = old.constant +ℤ m; terms = old.terms } → m ≡ f *ℤ given.constant → ((x : Variable → ℤ) → total x new.terms ≡ total x mid.terms +ℤ f *ℤ total x given.terms) → new.constant ≡ mid.constant → (x : Variable → ℤ) → value x new ≡ value x old +ℤ f *ℤ value x given
