@@ -60,12 +60,12 @@ pub scaled_weight : (old last : LinearView) (f : ℤ) (ts : List Term) (k : ℕ)
 scaled_weight old last f ts k so_far few light = omega (arith, so_far.light)
 
 -- all terms, and the constant
-pub scaled_value : (old mid new given : LinearView) (f m : ℤ) → mid ≡ record { constant = old.constant +ℤ m; terms = old.terms } → m ≡ f *ℤ given.constant → ((x : Variable → ℤ) → total x new.terms ≡ total x mid.terms +ℤ f *ℤ total x given.terms) → new.constant ≡ mid.constant → (x : Variable → ℤ) → value x new ≡ value x old +ℤ f *ℤ value x given
-scaled_value old mid new given f m raised is sum constant x =
+pub scaled_value : (old mid new given : LinearView) (f m : ℤ) (x : Variable → ℤ) → mid ≡ record { constant = old.constant +ℤ m; terms = old.terms } → m ≡ f *ℤ given.constant → total x new.terms ≡ total x mid.terms +ℤ f *ℤ total x given.terms → new.constant ≡ mid.constant → value x new ≡ value x old +ℤ f *ℤ value x given
+scaled_value old mid new given f m x raised is plus constant =
     let terms = ap (λ (s : LinearView). total x s.terms) raised in
     let constants = ap (λ (s : LinearView). s.constant) raised in
     let split = sum_of_products f given.constant (total x given.terms) in
-    omega (arith, ints, sum x, terms, constants, constant, is, split)
+    omega (arith, ints, plus, terms, constants, constant, is, split)
 
 -- a test that decides the sign of the sum without the multiple decides `DecreasesBeside`
 module _ (left last : Rewritten) (from to beside : LinearView) (cost : ℕ) (effect : Effect) (f g : ℤ) (negated : g ≡ neg_ℤ f) (before_that : (before free : Valuation) → value_of_both before free left ≡ value (whole before) from -ℤ pos cost -ℤ value (after effect before free) to) (known : (x : Variable → ℤ) → value x last.known ≡ value x left.known +ℤ g *ℤ value x beside) (unknown : last.unknown ≡ left.unknown) where
