@@ -1,5 +1,5 @@
 -- A rewritten sum after one more rewritten term.
-use Rattle.std.proofs.Common.{Bool, true, false, List, [], ◌∷◌, ◌++◌, take, get_or, subst, All, neg_ℤ, length-append, ◌≢◌, ◌≡◌, if◌then◌else◌, ℕ, ◌+◌, ◌^◌, ◌≤◌, ◌<◌, length, ℤ, pos, ◌+ℤ◌, ◌-ℤ◌, ◌*ℤ◌, sym, ap, ◌∙◌, arith, unsigned_abs}
+use Rattle.std.proofs.Common.{Bool, true, false, List, [], ◌∷◌, ◌++◌, take, get_or, subst, All, neg_ℤ, length-append, ◌≢◌, ◌≡◌, if◌then◌else◌, ℕ, ◌+◌, ◌≤◌, ◌<◌, length, ℤ, pos, ◌+ℤ◌, ◌-ℤ◌, ◌*ℤ◌, sym, ap, ◌∙◌, arith, unsigned_abs}
 use Rattle.std.proofs.lemmas.Int.{ints}
 use Rattle.std.proofs.Math.IntN.{+ℤ_invl, +ℤ_assoc, zero-*ℤ}
 use Rattle.std.proofs.lemmas.List.{take_more, get_or_append_left}

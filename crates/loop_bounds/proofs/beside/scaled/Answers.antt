@@ -1,4 +1,4 @@
-use Rattle.std.proofs.Common.{◌≡◌, ◌≤◌, ◌*ℤ◌, unsigned_abs, rules, arith, refl, FitsSigned}
+use Rattle.std.proofs.Common.{◌≤◌, ◌*ℤ◌, unsigned_abs, rules, arith, FitsSigned}
 use Rattle.std.specs.Int.{w32}
 use Rattle.std.proofs.lemmas.Int.{to_z-of_z, fits_signed_from_abs}
 use Rattle.loop_bounds.proofs.BesideLemmas.{product_size}

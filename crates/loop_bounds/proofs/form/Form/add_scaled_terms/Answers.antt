@@ -1,4 +1,4 @@
-use Rattle.std.proofs.Common.{◌≡◌, ◌*ℤ◌, ap, rules, FitsSigned}
+use Rattle.std.proofs.Common.{ap, rules, FitsSigned}
 use Rattle.std.specs.Int.{w32}
 use Rattle.std.proofs.lemmas.Int.{to_z-of_z}
 use Rattle.loop_bounds.specs.declared.linear.Term.{Term}

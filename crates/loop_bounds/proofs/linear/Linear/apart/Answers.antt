@@ -1,4 +1,4 @@
-use Rattle.std.proofs.Common.{◌≡◌, ◌≢◌, ◌<◌, get_or, length, ap, ◌∙◌, sym, subst, rules, FitsSigned}
+use Rattle.std.proofs.Common.{◌≡◌, ◌≢◌, rules, FitsSigned}
 use Rattle.std.specs.Int.{w32}
 use Rattle.std.proofs.lemmas.Int.{to_z-of_z}
 use Rattle.loop_bounds.proofs.ApartLemmas.{apart_none, apart_here, apart_other, longer_linear, apart_all}
