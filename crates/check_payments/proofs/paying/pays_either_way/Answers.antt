@@ -3,7 +3,7 @@ use Rattle.check_payments.proofs.paying.pays_either_way.Goals as goal
 
 pub returns-then-pays_rewritten : goal.returns-then-pays_rewritten
 returns-then-pays_rewritten g c =
-    rw c.constants_first.ensures.exact at (first_way _ _ c.pays_rewritten.result c.if-pays_rewritten.true c.pays_rewritten.ensures)
+    first_way _ _ c.pays_rewritten.result c.if-pays_rewritten.true (rw c.constants_first.ensures.exact at c.pays_rewritten.ensures)
 
 pub returns-else-pays_rewritten : goal.returns-else-pays_rewritten
 returns-else-pays_rewritten g c =
