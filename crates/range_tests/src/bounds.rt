@@ -279,117 +279,58 @@ fn is_paid_beside(
         ) == pays
 }
 
-// 5 + 2 * B + C
+// 5 + 2 * B + C, C, and 256 * B
 const TWICE: Sum = (5, 2, 1, 0);
+
+const SINGLE: Sum = (0, 0, 1, 0);
+
+const MOST: Sum = (0, 256, 0, 0);
+
+// Potentials before a step, and what is left of those after it.
+const TRIPLE: Sum = (20, 6, 3, 0);
+
+const REST: Sum = (1, 0, 0, 0);
+
+const FALLS: Sum = (120, -4, 0, 0);
+
+const HUNDRED: Sum = (100, 0, 0, 0);
+
+const RISES: Sum = (50, 0, 4, 0);
+
+const DOUBLE_B: Sum = (0, 2, 0, 0);
 
 const SHORT: Bounds = ((0, 10), (0, 5));
 
 const SEVEN: Bounds = ((0, 7), (0, 5));
 
-const ONES: Bounds = ((1, 1), (0, 0));
+const ONE: Bounds = ((1, 1), (0, 0));
 
-// 20 + 6 * B + 3 * C - 1 - 3 * (5 + 2 * B + C) is 4; 120 - 4 * B - 100 + 2 * (5 + 2 * B + C) is 30 + 2 * C, at least 30;
-// 50 + 4 * C - 2 * 7 - 4 * C is 36, with B unknown after the step; 1,000,000 * 256 * B is 256,000,000.
+/// The greatest factor.
+const GREAT: i32 = 1_000_000;
+
+// 20 + 6 * B + 3 * C - 1 - 3 * (5 + 2 * B + C) is 4. 120 - 4 * B - 100 + 2 * (5 + 2 * B + C) is 30 + 2 * C, at least 30.
+// 50 + 4 * C - 2 * B - 4 * C, with B from 0 to 7 and unknown after the step, is at least 36. 1,000,000 * 256 * B is
+// 256,000,000 at B of 1.
 const STEPS_BESIDE: &[StepBeside] = &[
-    (
-        (20, 6, 3, 0),
-        (1, 0, 0, 0),
-        4,
-        KEEPS,
-        3,
-        TWICE,
-        SHORT,
-        SHORT,
-        true,
-    ),
-    (
-        (20, 6, 3, 0),
-        (1, 0, 0, 0),
-        5,
-        KEEPS,
-        3,
-        TWICE,
-        SHORT,
-        SHORT,
-        false,
-    ),
-    (
-        (120, -4, 0, 0),
-        (100, 0, 0, 0),
-        30,
-        KEEPS,
-        -2,
-        TWICE,
-        SHORT,
-        SHORT,
-        true,
-    ),
-    (
-        (120, -4, 0, 0),
-        (100, 0, 0, 0),
-        31,
-        KEEPS,
-        -2,
-        TWICE,
-        SHORT,
-        SHORT,
-        false,
-    ),
-    (
-        (50, 0, 4, 0),
-        (0, 2, 0, 0),
-        36,
-        UNKNOWN,
-        4,
-        (0, 0, 1, 0),
-        SHORT,
-        SEVEN,
-        true,
-    ),
-    (
-        (50, 0, 4, 0),
-        (0, 2, 0, 0),
-        37,
-        UNKNOWN,
-        4,
-        (0, 0, 1, 0),
-        SHORT,
-        SEVEN,
-        false,
-    ),
-    (
-        ZERO,
-        ZERO,
-        256_000_000,
-        KEEPS,
-        -1_000_000,
-        (0, 256, 0, 0),
-        ONES,
-        ONES,
-        true,
-    ),
+    (TRIPLE, REST, 4, KEEPS, 3, TWICE, SHORT, SHORT, true),
+    (TRIPLE, REST, 5, KEEPS, 3, TWICE, SHORT, SHORT, false),
+    (FALLS, HUNDRED, 30, KEEPS, -2, TWICE, SHORT, SHORT, true),
+    (FALLS, HUNDRED, 31, KEEPS, -2, TWICE, SHORT, SHORT, false),
+    (RISES, DOUBLE_B, 36, UNKNOWN, 4, SINGLE, SHORT, SEVEN, true),
+    (RISES, DOUBLE_B, 37, UNKNOWN, 4, SINGLE, SHORT, SEVEN, false),
+    (ZERO, ZERO, 256_000_000, KEEPS, -GREAT, MOST, ONE, ONE, true),
     (
         ZERO,
         ZERO,
         256_000_001,
         KEEPS,
-        -1_000_000,
-        (0, 256, 0, 0),
-        ONES,
-        ONES,
+        -GREAT,
+        MOST,
+        ONE,
+        ONE,
         false,
     ),
-    (
-        ZERO,
-        ZERO,
-        0,
-        KEEPS,
-        1_000_000,
-        (0, 256, 0, 0),
-        ONES,
-        ONES,
-        false,
-    ),
+    (ZERO, ZERO, 0, KEEPS, GREAT, MOST, ONE, ONE, false),
 ];
 
 #[test]
