@@ -41,9 +41,9 @@ fn pays_rewritten<S: Ranges, T: Ranges>(
     }
 }
 
-/// Whether a potential pays a cost in T-states over a step and leaves another one, rewritten with constants first or with
-/// variables first. The variables before the step take all values of the source ranges, and unknown ones after it all of
-/// the target ranges; each variable ranges by itself, also BC and B.
+/// Whether a potential pays a cost in T-states over a step and leaves another one, rewritten with constants first or
+/// with variables first. The variables before the step take all values of the source ranges, and unknown ones after it
+/// all of the target ranges. Each variable ranges by itself, also BC and B.
 pub fn pays_either_way<S: Ranges, T: Ranges>(
     from: &Linear,
     to: &Linear,

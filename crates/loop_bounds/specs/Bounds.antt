@@ -17,7 +17,7 @@ abbrev pub DecreasesBeside : LinearView → LinearView → ℕ → Effect → �
 DecreasesBeside from to cost effect factor beside source target =
     (before free : Valuation) → LiesIn source before → LiesIn target free →
     pos 0 ≤ℤ (value (whole before) from -ℤ pos cost -ℤ value (after effect before free) to
-        -ℤ factor *ℤ value (whole before) beside)
+    -ℤ factor *ℤ value (whole before) beside)
 
 -- the fact, rewritten by the effect of a step from the source box, has no unknown variable and is the constant 0
 abbrev pub Vanishes : LinearView → Effect → Box → Type 0

@@ -1,5 +1,5 @@
 // The exact test for a step over which one variable becomes a linear.
-ghost use Rattle.std.specs.Prelude.{◌≡◌, ◌↔◌, ◌+◌, ◌*◌, ◌<◌, ◌≤◌, ◌^◌, All, IsTrue, length, ℤ, ◌+ℤ◌, ◌*ℤ◌, unsigned_abs};
+ghost use Rattle.std.specs.Prelude.{◌≡◌, ◌↔◌, ◌<◌, ◌≤◌, ◌^◌, All, IsTrue, length, ℤ, ◌+ℤ◌, ◌*ℤ◌, unsigned_abs};
 ghost use Rattle.loop_bounds.specs.declared.variable.Variable.{Variable};
 ghost use Rattle.loop_bounds.specs.Bounds.{DecreasesBeside};
 ghost use Rattle.loop_bounds.specs.Form.{weight};
@@ -68,10 +68,10 @@ impl Form {
     }
 }
 
-/// Whether `from` - `cost` - `to` - `factor` * `beside` is at least 0, with `to` rewritten by the effect and `beside` over
-/// the variables before the step: the test for a linear `to` + `factor` * v, where the step leaves `beside` in v. The
-/// variables range as for `decreases`. The factor is at most 1,000,000 in size, and the coefficients of `beside` at most
-/// 256. No number wraps.
+/// Whether `from` - `cost` - `to` - `factor` * `beside` is at least 0, with `to` rewritten by the effect and `beside`
+/// over the variables before the step. It is the test for a linear `to` + `factor` * v where the step leaves `beside` in
+/// v. The variables range as for `decreases`. The factor is at most 1,000,000 in size, and the coefficients of `beside`
+/// at most 256. No number wraps.
 pub fn decreases_beside<S: Ranges, T: Ranges>(
     from: &Linear,
     to: &Linear,

@@ -306,10 +306,10 @@ const SEVEN: Bounds = ((0, 7), (0, 5));
 const ONE: Bounds = ((1, 1), (0, 0));
 
 /// The greatest factor.
-const GREAT: i32 = 1_000_000;
+const TOP: i32 = 1_000_000;
 
-// 20 + 6 * B + 3 * C - 1 - 3 * (5 + 2 * B + C) is 4. 120 - 4 * B - 100 + 2 * (5 + 2 * B + C) is 30 + 2 * C, at least 30.
-// 50 + 4 * C - 2 * B - 4 * C, with B from 0 to 7 and unknown after the step, is at least 36. 1,000,000 * 256 * B is
+// 20 + 6 * B + 3 * C - 1 - 3 * (5 + 2 * B + C) is 4. 120 - 4 * B - 100 + 2 * (5 + 2 * B + C) is 30 + 2 * C, so at least
+// 30. 50 + 4 * C - 2 * B - 4 * C, with B from 0 to 7 and unknown after the step, is at least 36. 1,000,000 * 256 * B is
 // 256,000,000 at B of 1.
 const STEPS_BESIDE: &[StepBeside] = &[
     (TRIPLE, REST, 4, KEEPS, 3, TWICE, SHORT, SHORT, true),
@@ -318,19 +318,9 @@ const STEPS_BESIDE: &[StepBeside] = &[
     (FALLS, HUNDRED, 31, KEEPS, -2, TWICE, SHORT, SHORT, false),
     (RISES, DOUBLE_B, 36, UNKNOWN, 4, SINGLE, SHORT, SEVEN, true),
     (RISES, DOUBLE_B, 37, UNKNOWN, 4, SINGLE, SHORT, SEVEN, false),
-    (ZERO, ZERO, 256_000_000, KEEPS, -GREAT, MOST, ONE, ONE, true),
-    (
-        ZERO,
-        ZERO,
-        256_000_001,
-        KEEPS,
-        -GREAT,
-        MOST,
-        ONE,
-        ONE,
-        false,
-    ),
-    (ZERO, ZERO, 0, KEEPS, GREAT, MOST, ONE, ONE, false),
+    (ZERO, ZERO, 256_000_000, KEEPS, -TOP, MOST, ONE, ONE, true),
+    (ZERO, ZERO, 256_000_001, KEEPS, -TOP, MOST, ONE, ONE, false),
+    (ZERO, ZERO, 0, KEEPS, TOP, MOST, ONE, ONE, false),
 ];
 
 #[test]

@@ -22,13 +22,13 @@ loop-term-preserved c =
     let here = rw terms at c.term-item.is in
     elim c.if-eq.branch [
       | then-eq w ↦
-        let same : c.term-item.result.variable ≡ c.args.variable = search rules in
-        let fits : FitsSigned w32 c.term-item.result.coefficient = search rules in
-        let is = simp to_z-of_z at w.coefficient-is in
-        rw (is, w.rest-is) (apart_here c.args.self.now c.args.variable c.loop-term.term-index c.loop-term.rest _ c.term-item.result linear c.loop-term.invariant inside here same)
+          let same : c.term-item.result.variable ≡ c.args.variable = search rules in
+          let fits : FitsSigned w32 c.term-item.result.coefficient = search rules in
+          let is = simp to_z-of_z at w.coefficient-is in
+          rw (is, w.rest-is) (apart_here c.args.self.now c.args.variable c.loop-term.term-index c.loop-term.rest _ c.term-item.result linear c.loop-term.invariant inside here same)
       | else-eq w ↦
-        let other : c.term-item.result.variable ≢ c.args.variable = search rules in
-        rw (w.coefficient-is, w.rest-is, w.longer-rest.ensures) (apart_other c.args.self.now c.args.variable c.loop-term.term-index c.loop-term.rest _ c.term-item.result linear c.loop-term.invariant inside here other)
+          let other : c.term-item.result.variable ≢ c.args.variable = search rules in
+          rw (w.coefficient-is, w.rest-is, w.longer-rest.ensures) (apart_other c.args.self.now c.args.variable c.loop-term.term-index c.loop-term.rest _ c.term-item.result linear c.loop-term.invariant inside here other)
     ]
 
 pub returns-clause-value : goal.returns-clause-value
