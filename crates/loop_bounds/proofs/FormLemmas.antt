@@ -97,7 +97,7 @@ module _ (ts : List Term) (count k : ℕ) (d t raised : Term) (form : IsForm ts 
       subst (λ us. weight us ≤ weight (take count ts) + unsigned_abs t.coefficient) (sym same_front)
       (weight_set (take count ts) k d raised t.coefficient inside (ap (λ (u : Term). u.coefficient) is ∙ ap (λ (u : Term). u.coefficient +ℤ t.coefficient) (sym front)))
 
-module _ (ts : List Term) (count : ℕ) (t : Term) (form : IsForm ts count) (room : length (take count ts) < 6) (new : All (λ u. u.variable ≢ t.variable) (take count ts)) where
+module _ (ts : List Term) (count : ℕ) (t : Term) (form : IsForm ts count) (room : length (take count ts) < 9) (new : All (λ u. u.variable ≢ t.variable) (take count ts)) where
   room_here : count < length ts
   room_here = omega (arith, length-take count ts, form.places, form.within)
 

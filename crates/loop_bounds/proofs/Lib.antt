@@ -1,6 +1,7 @@
 pub mod LinearLemmas
 pub mod VariableLemmas
 pub mod FormLemmas
+pub mod Products
 pub mod Boxes
 pub mod Signed
 pub mod Zeros
@@ -9,3 +10,5 @@ pub mod NeverNegative
 pub mod BoundsLemmas
 pub mod TightenLemmas
 pub mod SoFar
+pub mod ApartLemmas
+pub mod BesideLemmas

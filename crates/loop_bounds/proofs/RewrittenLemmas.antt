@@ -1,5 +1,5 @@
 -- A rewritten sum after one more rewritten term.
-use Rattle.std.proofs.Common.{Bool, true, false, List, [], ◌∷◌, ◌++◌, take, get_or, subst, All, neg_ℤ, length-append, ◌≢◌, ◌≡◌, if◌then◌else◌, ℕ, ◌+◌, ◌^◌, ◌≤◌, ◌<◌, length, ℤ, pos, ◌+ℤ◌, ◌-ℤ◌, ◌*ℤ◌, sym, ap, ◌∙◌, arith, unsigned_abs}
+use Rattle.std.proofs.Common.{Bool, true, false, List, [], ◌∷◌, ◌++◌, take, get_or, subst, All, neg_ℤ, length-append, ◌≢◌, ◌≡◌, if◌then◌else◌, ℕ, ◌+◌, ◌≤◌, ◌<◌, length, ℤ, pos, ◌+ℤ◌, ◌-ℤ◌, ◌*ℤ◌, sym, ap, ◌∙◌, arith, unsigned_abs}
 use Rattle.std.proofs.lemmas.Int.{ints}
 use Rattle.std.proofs.Math.IntN.{+ℤ_invl, +ℤ_assoc, zero-*ℤ}
 use Rattle.std.proofs.lemmas.List.{take_more, get_or_append_left}
@@ -17,7 +17,7 @@ use Rattle.loop_bounds.specs.Linear.{LinearView, total, value}
 use Rattle.loop_bounds.specs.Effect.{Valuation, whole, after_from, changed, old_range, constant_before, change_of}
 use Rattle.loop_bounds.specs.Ranges.{Box}
 use Rattle.loop_bounds.specs.Form.{weight}
-use Rattle.loop_bounds.specs.Rewritten.{IsWithinRoom, value_of_both}
+use Rattle.loop_bounds.specs.Rewritten.{IsWithinRoom, IsLight, value_of_both}
 use Rattle.loop_bounds.proofs.FormLemmas.{raised_product, lowered_product, abs_sum, total_push, product_of_sum}
 use Rattle.loop_bounds.proofs.Boxes.{multiple_size}
 
@@ -85,7 +85,7 @@ room_wider r used more h room = record {
   unknown_constant = room.unknown_constant;
 }
 
-neg_product : (c y : ℤ) → neg_ℤ c *ℤ y ≡ neg_ℤ (c *ℤ y)
+pub neg_product : (c y : ℤ) → neg_ℤ c *ℤ y ≡ neg_ℤ (c *ℤ y)
 neg_product c y =
     let split = product_of_sum (neg_ℤ c) c y in
     let gone = ap (λ z. z *ℤ y) (+ℤ_invl c) in
@@ -133,7 +133,12 @@ module _ (old mid new : Rewritten) (source : Box) (effect : Effect) (n : Bool) (
   }
 
 -- with room for six terms the least value can be computed
-pub room_small : (r : Rewritten) → IsWithinRoom 6 r → (unsigned_abs r.known.constant < 2 ^ 60) × (weight r.known.terms < 2 ^ 31) × (unsigned_abs r.unknown.constant < 2 ^ 60) × (weight r.unknown.terms < 2 ^ 31)
-room_small r room =
+pub room_light : (r : Rewritten) → IsWithinRoom 6 r → IsLight r
+room_light r room =
     let zero = ap unsigned_abs room.unknown_constant in
-    (omega (arith, room.constant), omega (arith, room.known_weight), omega (arith, zero), omega (arith, room.unknown_weight))
+    record {
+      known = omega (arith, room.known_weight);
+      unknown = omega (arith, room.unknown_weight);
+      constant = omega (arith, room.constant);
+      unknown_constant = omega (arith, zero);
+    }

@@ -1,5 +1,5 @@
 -- The meaning of the exact tests on linears (docs/CHECKER.md, "Linear bounds, effects and tightening").
-use Rattle.std.specs.Prelude.{◌≡◌, ℕ, pos, neg_ℤ, ◌-ℤ◌, ◌≤ℤ◌}
+use Rattle.std.specs.Prelude.{◌≡◌, ℕ, ℤ, pos, neg_ℤ, ◌-ℤ◌, ◌*ℤ◌, ◌≤ℤ◌}
 use Rattle.loop_bounds.specs.declared.effect.Effect.{Effect}
 use Rattle.loop_bounds.specs.Linear.{LinearView, value}
 use Rattle.loop_bounds.specs.Effect.{Valuation, whole, after, after_from, HasNoUnknown}
@@ -11,6 +11,13 @@ abbrev pub Decreases : LinearView → LinearView → ℕ → Effect → Box → 
 Decreases from to cost effect source target =
     (before free : Valuation) → LiesIn source before → LiesIn target free →
     pos 0 ≤ℤ (value (whole before) from -ℤ pos cost -ℤ value (after effect before free) to)
+
+-- it does so where some multiple of one more linear, over the variables before the step, is left too
+abbrev pub DecreasesBeside : LinearView → LinearView → ℕ → Effect → ℤ → LinearView → Box → Box → Type 0
+DecreasesBeside from to cost effect factor beside source target =
+    (before free : Valuation) → LiesIn source before → LiesIn target free →
+    pos 0 ≤ℤ (value (whole before) from -ℤ pos cost -ℤ value (after effect before free) to
+    -ℤ factor *ℤ value (whole before) beside)
 
 -- the fact, rewritten by the effect of a step from the source box, has no unknown variable and is the constant 0
 abbrev pub Vanishes : LinearView → Effect → Box → Type 0

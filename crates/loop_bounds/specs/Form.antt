@@ -22,8 +22,8 @@ abbrev pub least_total : Box → List Term → ℤ
 least_total box [] = pos 0
 least_total box (t ∷ ts) = t.coefficient *ℤ pos (end_of (box t.variable) t.coefficient) +ℤ least_total box ts
 
--- the first `count` of six places hold the terms
+-- the first `count` of nine places hold the terms
 pub record IsForm (terms : List Term) (count : ℕ) : Type 0 where
-  pub places : length terms ≡ 6
-  pub within : count ≤ 6
+  pub places : length terms ≡ 9
+  pub within : count ≤ 9
   pub distinct : AreDistinct (take count terms)

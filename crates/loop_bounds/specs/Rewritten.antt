@@ -1,5 +1,5 @@
 -- A linear rewritten by an effect: variables before the step, and variables unknown after it.
-use Rattle.std.specs.Prelude.{◌≡◌, ℕ, ◌+◌, ◌*◌, ◌^◌, ◌≤◌, Bool, length, ℤ, pos, ◌+ℤ◌, unsigned_abs}
+use Rattle.std.specs.Prelude.{◌≡◌, ℕ, ◌+◌, ◌*◌, ◌^◌, ◌≤◌, ◌<◌, Bool, length, ℤ, pos, ◌+ℤ◌, unsigned_abs}
 use Rattle.loop_bounds.specs.declared.rewritten.Rewritten.{Rewritten}
 use Rattle.loop_bounds.specs.declared.effect.Effect.{Effect}
 use Rattle.loop_bounds.specs.Linear.{LinearView, total, value}
@@ -21,6 +21,13 @@ pub record IsWithinRoom (used : ℕ) (r : Rewritten) : Type 0 where
   pub unknown_weight : weight r.unknown.terms ≤ 1000000 * used
   pub constant : unsigned_abs r.known.constant ≤ 2 ^ 40 * (used + 1)
   pub unknown_constant : r.unknown.constant ≡ pos 0
+
+-- the constants and the coefficients are not too great together, so the least values can be computed
+pub record IsLight (r : Rewritten) : Type 0 where
+  pub known : weight r.known.terms < 2 ^ 31
+  pub unknown : weight r.unknown.terms < 2 ^ 31
+  pub constant : unsigned_abs r.known.constant < 2 ^ 60
+  pub unknown_constant : unsigned_abs r.unknown.constant < 2 ^ 60
 
 -- the terms of a linear, or their negations, were added, each rewritten by the effect of a step from the source box
 abbrev pub WasAdded : Rewritten → Rewritten → Box → Effect → Bool → LinearView → Type 0

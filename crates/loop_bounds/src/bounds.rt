@@ -2,8 +2,9 @@
 ghost use Rattle.std.specs.Prelude.{◌≡◌, ◌↔◌, ◌⊎◌, ◌≢◌, ◌<◌, ◌≤◌, ◌^◌, All, IsTrue, not, pos, ◌+ℤ◌, ◌-ℤ◌, unsigned_abs};
 ghost use Rattle.loop_bounds.specs.declared.effect.Change.TheVariants.{Unknown};
 ghost use Rattle.loop_bounds.specs.Linear.{value};
-ghost use Rattle.loop_bounds.specs.Effect.{Valuation, whole, after_from, HasNoUnknown, change_of};
+ghost use Rattle.loop_bounds.specs.Effect.{Valuation, whole, after, after_from, HasNoUnknown, change_of};
 ghost use Rattle.loop_bounds.specs.Signed.{signed};
+ghost use Rattle.loop_bounds.specs.Rewritten.{value_of_both, IsWithinRoom};
 ghost use Rattle.loop_bounds.specs.Bounds.{Decreases, Vanishes, Becomes, BecomesNegation};
 
 use crate::effect::{Change, Effect};
@@ -25,10 +26,19 @@ pub fn decreases<S: Ranges, T: Ranges>(
     ensures { IsTrue result
         ↔ Decreases from.now to.now cost effect.now (S.range_of source.now) (T.range_of target.now) }
 {
+    left_after(from, to, cost, effect).is_never_negative(source, target)
+}
+
+/// `from` - `cost` - `to`, with `to` rewritten by the effect.
+pub(crate) fn left_after(from: &Linear, to: &Linear, cost: u32, effect: &Effect) -> Rewritten
+    ensures value { (before free : Valuation) → value_of_both before free result
+        ≡ value (whole before) from.now -ℤ pos cost -ℤ value (after effect.now before free) to.now }
+    ensures room { IsWithinRoom 6 result }
+{
     let mut left = Rewritten::new(constant_left(from, cost, to));
     left.add_linear(from, &Unbounded, &Effect::unchanged(), false);
     left.add_linear(to, &Unbounded, effect, true);
-    left.is_never_negative(source, target)
+    left
 }
 
 /// The constant of `from` minus the cost minus the constant of `to`.

@@ -1,4 +1,4 @@
-// Sums of at most six terms, and their least values over ranges.
+// Sums of at most nine terms, and their least values over ranges.
 ghost use Rattle.std.specs.Prelude.{◌≡◌, ◌≢◌, ◌+◌, ◌*◌, ◌<◌, ◌≤◌, ◌^◌, ◌↔◌, IsTrue, [], length, MatchOption, All, HoldsAt, ℤ, pos, ◌+ℤ◌, ◌*ℤ◌, ◌≤ℤ◌, unsigned_abs, FitsSigned};
 ghost use Rattle.std.specs.Int.{w32};
 ghost use Rattle.loop_bounds.specs.declared.variable.Variable.{Variable};
@@ -13,11 +13,11 @@ use crate::variable::Variable;
 use intervals::WordRange;
 use std::marker::Model;
 
-/// A sum of a constant and at most six terms. Their variables are distinct and in any order; coefficients may be 0.
+/// A sum of a constant and at most nine terms. Their variables are distinct and in any order; coefficients may be 0.
 #[derive(Drop)]
 pub struct Form {
     constant: i128,
-    terms: [Term; 6],
+    terms: [Term; 9],
     count: usize,
 }
 
@@ -88,7 +88,7 @@ impl Form {
         };
         Form {
             constant,
-            terms: [unused; 6],
+            terms: [unused; 9],
             count: 0,
         }
     }
@@ -103,7 +103,7 @@ impl Form {
 
     /// Adds a term; one with the same variable absorbs it.
     pub fn add(&mut self, term: Term)
-        requires room { length self.old.terms < 6 }
+        requires room { length self.old.terms < 9 }
         requires fits { weight self.old.terms + unsigned_abs term.coefficient < 2 ^ 31 }
         ensures total { (x : Variable → ℤ) → total x self.new.terms
             ≡ total x self.old.terms +ℤ term.coefficient *ℤ x term.variable }

@@ -2,6 +2,7 @@
 // tightening").
 #![tactic(auto)]
 
+mod beside;
 mod bounds;
 mod effect;
 mod form;
@@ -11,6 +12,7 @@ mod rewritten;
 mod tightening;
 mod variable;
 
+pub use beside::decreases_beside;
 pub use bounds::{becomes, decreases, vanishes};
 pub use effect::{Change, Effect, SlotChange};
 pub use linear::{GREATEST_COEFFICIENT, GREATEST_CONSTANT, Linear, Term};

@@ -1,5 +1,6 @@
 // Linears: a constant and at most three terms.
-ghost use Rattle.std.specs.Prelude.{◌≡◌, ◌↔◌, IsTrue, ◌≤◌, ◌<◌, [], length, take, pos, unsigned_abs, SomeIff, All};
+ghost use Rattle.std.specs.Prelude.{◌≡◌, ◌≢◌, ◌↔◌, IsTrue, ◌≤◌, ◌<◌, [], length, take, ℤ, pos, ◌+ℤ◌, ◌*ℤ◌, unsigned_abs, SomeIff, All};
+ghost use Rattle.loop_bounds.specs.declared.variable.Variable.{Variable};
 ghost use Rattle.loop_bounds.specs.Variable.{rank_of};
 
 use crate::variable::Variable;
@@ -66,7 +67,7 @@ fn all_before(terms: &[Term], variable: Variable) -> bool
 }
 
 impl Linear {
-    ghost use Rattle.loop_bounds.specs.Linear.{LinearView, IsLinear, extended, padded};
+    ghost use Rattle.loop_bounds.specs.Linear.{LinearView, IsLinear, extended, padded, value};
 
     /// The linear 0.
     pub fn zero() -> Linear
@@ -122,6 +123,40 @@ impl Linear {
             terms,
             count: self.count + 1,
         })
+    }
+
+    /// The linear with one more term at its end, which it takes.
+    fn longer(self, term: Term) -> Linear
+        requires { IsLinear (extended self term) }
+        ensures { result ≡ extended self term }
+    {
+        self.with_term(term).unwrap_or(self)
+    }
+
+    /// The constant as a linear.
+    fn without_terms(&self) -> Linear
+        ensures { result ≡ record { constant = self.now.constant; terms = [] } }
+    {
+        Linear::of_constant(self.constant()).unwrap_or(Linear::zero())
+    }
+
+    /// The linear without the term of a variable, and the coefficient of that variable, 0 if it has no term.
+    pub fn apart(&self, variable: Variable) -> (Linear, i32)
+        ensures value { (x : Variable → ℤ) → value x self.now
+            ≡ value x result.0 +ℤ result.1 *ℤ x variable }
+        ensures absent { All (λ t. t.variable ≢ variable) result.0.terms }
+        ensures size { unsigned_abs result.1 ≤ 1000000 }
+    {
+        let mut rest = self.without_terms();
+        let mut coefficient = 0;
+        for term in self.terms() {
+            if term.variable == variable {
+                coefficient = term.coefficient;
+            } else {
+                rest = rest.longer(*term);
+            }
+        }
+        (rest, coefficient)
     }
 
     /// The constant, at most 1,000,000,000 in size.

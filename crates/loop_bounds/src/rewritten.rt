@@ -48,7 +48,7 @@ fn constant_before<S: Ranges>(source: &S, change: Change) -> Change
 }
 
 impl Rewritten {
-    ghost use Rattle.loop_bounds.specs.Rewritten.{value_of_both, IsWithinRoom, WasAdded};
+    ghost use Rattle.loop_bounds.specs.Rewritten.{value_of_both, IsWithinRoom, IsLight, WasAdded};
 
     /// The sum with this constant and no terms.
     pub fn new(constant: i128) -> Rewritten
@@ -139,7 +139,7 @@ impl Rewritten {
     /// Whether the value is at least 0 for all variables before the step in the source ranges, and all unknown
     /// variables in the target ranges.
     pub fn is_never_negative<S: Ranges, T: Ranges>(&self, source: &S, target: &T) -> bool
-        requires { IsWithinRoom 6 self.now }
+        requires { IsLight self.now }
         ensures { IsTrue result ↔ ((before free : Valuation) → LiesIn (S.range_of source.now) before
             → LiesIn (T.range_of target.now) free → pos 0 ≤ℤ value_of_both before free self.now) }
     {

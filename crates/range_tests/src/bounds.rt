@@ -1,6 +1,6 @@
 // Tests of linear bounds, worked by hand.
 
-ghost use Rattle.std.specs.Prelude.{◌≡◌, Option, Some, None, option_map};
+ghost use Rattle.std.specs.Prelude.{◌≡◌, ◌↔◌, ◌≤◌, All, IsTrue, unsigned_abs, Option, Some, None, option_map};
 ghost use Rattle.std.proofs.Common.{rules, subst, sym};
 ghost use Rattle.intervals.specs.Range.{RangeView, Within, full, intersection};
 ghost use Rattle.loop_bounds.specs.declared.variable.Variable.TheVariants.{A, B, C, Hl};
@@ -9,7 +9,7 @@ ghost use Rattle.loop_bounds.specs.declared.variable.Variable.{Variable};
 use intervals::WordRange;
 use loop_bounds::{
     Change, Effect, Linear, Part, Ranges, SlotNumber, Term, Tightenable, Variable, becomes,
-    decreases, tighten, vanishes,
+    decreases, decreases_beside, tighten, vanishes,
 };
 use std::process::Abort;
 
@@ -244,6 +244,103 @@ fn a_loop_of_eight_turns_pays(rt: HostRuntime) {
     for (place, step) in LOOP_STEPS.iter().enumerate() {
         assert!(rt; is_as_told(&rt, step), "step {place}");
     }
+}
+
+/// The potential before a step, the one after it without a term, the T-states, what the step leaves, the coefficient of
+/// that term, the linear that the step leaves in its variable, the bounds before and after the step, and whether it is
+/// paid.
+type StepBeside = (Sum, Sum, u32, Lefts, i32, Sum, Bounds, Bounds, bool);
+
+fn are_slight(terms: &[Term]) -> bool
+    ensures { IsTrue result ↔ All (λ t. unsigned_abs t.coefficient ≤ 256) terms.now }
+{
+    terms
+        .iter()
+        .all(|term| term.coefficient.unsigned_abs() <= 256)
+}
+
+fn is_paid_beside(
+    rt: &impl Abort,
+    &(before, after, time, left, factor, beside, from, to, pays): &StepBeside,
+) -> bool {
+    let (before, after, beside) = (linear(rt, before), linear(rt, after), linear(rt, beside));
+    let (from, to) = (known(from), known(to));
+    factor.unsigned_abs() <= 1_000_000
+        && are_slight(beside.terms())
+        && decreases_beside(
+            &before,
+            &after,
+            time,
+            &effect(left),
+            factor,
+            &beside,
+            &from,
+            &to,
+        ) == pays
+}
+
+// 5 + 2 * B + C, C, and 256 * B
+const TWICE: Sum = (5, 2, 1, 0);
+
+const SINGLE: Sum = (0, 0, 1, 0);
+
+const MOST: Sum = (0, 256, 0, 0);
+
+// Potentials before a step, and what is left of those after it.
+const TRIPLE: Sum = (20, 6, 3, 0);
+
+const REST: Sum = (1, 0, 0, 0);
+
+const FALLS: Sum = (120, -4, 0, 0);
+
+const HUNDRED: Sum = (100, 0, 0, 0);
+
+const RISES: Sum = (50, 0, 4, 0);
+
+const DOUBLE_B: Sum = (0, 2, 0, 0);
+
+const SHORT: Bounds = ((0, 10), (0, 5));
+
+const SEVEN: Bounds = ((0, 7), (0, 5));
+
+const ONE: Bounds = ((1, 1), (0, 0));
+
+/// The greatest factor.
+const TOP: i32 = 1_000_000;
+
+// 20 + 6 * B + 3 * C - 1 - 3 * (5 + 2 * B + C) is 4. 120 - 4 * B - 100 + 2 * (5 + 2 * B + C) is 30 + 2 * C, so at least
+// 30. 50 + 4 * C - 2 * B - 4 * C, with B from 0 to 7 and unknown after the step, is at least 36. 1,000,000 * 256 * B is
+// 256,000,000 at B of 1.
+const STEPS_BESIDE: &[StepBeside] = &[
+    (TRIPLE, REST, 4, KEEPS, 3, TWICE, SHORT, SHORT, true),
+    (TRIPLE, REST, 5, KEEPS, 3, TWICE, SHORT, SHORT, false),
+    (FALLS, HUNDRED, 30, KEEPS, -2, TWICE, SHORT, SHORT, true),
+    (FALLS, HUNDRED, 31, KEEPS, -2, TWICE, SHORT, SHORT, false),
+    (RISES, DOUBLE_B, 36, UNKNOWN, 4, SINGLE, SHORT, SEVEN, true),
+    (RISES, DOUBLE_B, 37, UNKNOWN, 4, SINGLE, SHORT, SEVEN, false),
+    (ZERO, ZERO, 256_000_000, KEEPS, -TOP, MOST, ONE, ONE, true),
+    (ZERO, ZERO, 256_000_001, KEEPS, -TOP, MOST, ONE, ONE, false),
+    (ZERO, ZERO, 0, KEEPS, TOP, MOST, ONE, ONE, false),
+];
+
+#[test]
+fn a_step_beside_a_linear_pays(rt: HostRuntime) {
+    for (place, step) in STEPS_BESIDE.iter().enumerate() {
+        assert!(rt; is_paid_beside(&rt, step), "step {place}");
+    }
+}
+
+/// Whether 7 + 2 * B - C is taken apart: at B to 7 - C and 2, at C to 7 + 2 * B and -1, and at HL to itself and 0.
+fn is_taken_apart(rt: &impl Abort) -> bool {
+    let whole = linear(rt, (7, 2, -1, 0));
+    whole.apart(Variable::B) == (linear(rt, (7, 0, -1, 0)), 2)
+        && whole.apart(Variable::C) == (linear(rt, (7, 2, 0, 0)), -1)
+        && whole.apart(Variable::Hl) == (whole, 0)
+}
+
+#[test]
+fn a_linear_is_taken_apart(rt: HostRuntime) {
+    assert!(rt; is_taken_apart(&rt));
 }
 
 const BYTES: Bounds = ((0, 255), (0, 255));

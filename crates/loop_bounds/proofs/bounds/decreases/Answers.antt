@@ -1,18 +1,11 @@
-use Rattle.std.proofs.Common.{rules, FitsSigned}
-use Rattle.std.specs.Int.{w128}
-use Rattle.std.proofs.lemmas.Int.{to_z-of_z}
-use Rattle.loop_bounds.proofs.BoundsLemmas.{decrease_value, decided_by_value}
+use Rattle.loop_bounds.proofs.BoundsLemmas.{decided_by_value}
+use Rattle.loop_bounds.proofs.RewrittenLemmas.{room_light}
 use Rattle.loop_bounds.proofs.bounds.decreases.Goals as goal
 
 pub is_never_negative-requires : goal.is_never_negative-requires
-is_never_negative-requires g c = c.add_linear-2.ensures.room 3 (c.add_linear.ensures.room 0 c.new-left.ensures.room)
+is_never_negative-requires g c = room_light c.left_after.result c.left_after.ensures.room
 
 pub returns : goal.returns
 returns g c =
-    let wide : FitsSigned w128 c.constant_left.result = search rules in
-    let known = simp to_z-of_z at c.new-left.ensures.known in
-    decided_by_value c.is_never_negative.result _ _ c.args.from.now c.args.to.now c.args.cost c.args.effect.now c.add_linear-2.new.self
-    (decrease_value c.unchanged.result c.args.effect.now c.unchanged.ensures.old c.new-left.result c.add_linear.new.self c.add_linear-2.new.self
-    c.constant_left.result known c.new-left.ensures.unknown c.args.from.now c.args.to.now c.args.cost c.constant_left.ensures.value
-    c.add_linear.ensures.value c.add_linear-2.ensures.value)
-    c.is_never_negative.ensures
+    decided_by_value c.is_never_negative.result _ _ c.args.from.now c.args.to.now c.args.cost c.args.effect.now c.left_after.result
+    c.left_after.ensures.value c.is_never_negative.ensures

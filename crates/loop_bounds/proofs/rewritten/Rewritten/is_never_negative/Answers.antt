@@ -3,15 +3,14 @@ use Rattle.std.specs.Int.{w128}
 use Rattle.std.proofs.lemmas.Int.{to_z-of_z}
 use Rattle.loop_bounds.proofs.FormLemmas.{abs_sum}
 use Rattle.loop_bounds.proofs.Signed.{fits_128, sum_kept}
-use Rattle.loop_bounds.proofs.RewrittenLemmas.{room_small}
 use Rattle.loop_bounds.proofs.NeverNegative.{never_negative}
 use Rattle.loop_bounds.proofs.rewritten.Rewritten.is_never_negative.Goals as goal
 
 pub least-requires : goal.least-requires
-least-requires g c = let s = room_small c.args.self.now c.requires in record { small = s.0; light = s.1 }
+least-requires g c = record { small = c.requires.constant; light = c.requires.known }
 
 pub least-requires-2 : goal.least-requires-2
-least-requires-2 g c = let s = room_small c.args.self.now c.requires in record { small = s.2; light = s.3 }
+least-requires-2 g c = record { small = c.requires.unknown_constant; light = c.requires.unknown }
 
 pub returns : goal.returns
 returns g c =
