@@ -1,8 +1,9 @@
 // The reasons of a certificate as a whole: 1, 2 and 3 before its rows, 11 and 18 after them.
 
-ghost use Rattle.std.specs.Prelude.{◌≡◌, ◌↔◌, ◌<◌, ◌≤◌, ℕ, IsTrue, IfSome, MatchOption, None};
+ghost use Rattle.std.specs.Prelude.{◌≡◌, ◌↔◌, ◌<◌, ◌≤◌, ℕ, IsTrue, IfSome, MatchOption, None, []};
 ghost use Rattle.std.specs.List.{All};
-ghost use Rattle.check_cover.specs.Arrival.{first_arrival};
+ghost use Rattle.check_cover.specs.Arrival.{entry_refinement, first_arrival};
+ghost use Rattle.loop_bounds.specs.Effect.{unchanged};
 ghost use Rattle.check_cover.specs.Covering.{Covered, CoversMain, CoversNmi};
 ghost use Rattle.address_map.specs.WorkRam.{work_start};
 ghost use Rattle.cert_form.specs.Contents.{nmi_of};
@@ -14,6 +15,7 @@ use cert_contents::Certificate;
 use cert_lines::{Proc, Version, WORK_LEN};
 use check_cover::{Arrival, Coverer, Refinement};
 use flag_conditions::StepConditions;
+use linear_effects::LinearEffect;
 use loop_bounds::Effect;
 use t_states::MAX_BUDGET;
 use z80_moves::NMI_ADDRESS;
@@ -59,7 +61,7 @@ pub(crate) fn uncovered_entry(certificate: &Certificate, coverer: &mut Coverer) 
     ensures told { MatchOption result (CoversEntries certificate.now) (EntryFails certificate.now) }
     ensures same { coverer.new ≡ coverer.old }
 {
-    if !main_is_covered(coverer) {
+    if !main_is_covered(certificate, coverer) {
         return Some(0);
     }
     if certificate.budget().is_some() && !nmi_is_covered(certificate, coverer) {
@@ -69,7 +71,8 @@ pub(crate) fn uncovered_entry(certificate: &Certificate, coverer: &mut Coverer) 
 }
 
 /// Whether the state at the entry of main is covered.
-fn main_is_covered(coverer: &mut Coverer) -> bool
+fn main_is_covered(certificate: &Certificate, coverer: &mut Coverer) -> bool
+    requires { coverer.old ≡ certificate.now }
     ensures exact { IsTrue result ↔ CoversMain coverer.old }
     ensures same { coverer.new ≡ coverer.old }
 {
@@ -89,6 +92,28 @@ fn nmi_is_covered(certificate: &Certificate, coverer: &mut Coverer) -> bool
     entry_is_covered(coverer, certificate.version(), 1, NMI_ADDRESS, &state)
 }
 
+/// What version 3 adds to an entry: a step that changes nothing and tells nothing.
+fn entry_refinement<'a>(
+    version: Version,
+    moved: &'a Effect,
+    linear: &'a Option<LinearEffect>,
+    conditions: &'a StepConditions,
+) -> Option<Refinement<'a>>
+    requires moved { moved.now ≡ unchanged }
+    requires linear { linear.now ≡ None }
+    requires conditions { conditions.now ≡ record { before = []; after = [] } }
+    ensures { result ≡ entry_refinement version }
+{
+    match version {
+        Version::One | Version::Two => None,
+        Version::Three => Some(Refinement {
+            moved,
+            linear,
+            conditions,
+        }),
+    }
+}
+
 /// Whether a state is covered at an entry; no row is before it.
 fn entry_is_covered(
     coverer: &mut Coverer,
@@ -102,6 +127,7 @@ fn entry_is_covered(
     ensures same { coverer.new ≡ coverer.old }
 {
     let unchanged = Effect::unchanged();
+    let linear: Option<LinearEffect> = None;
     let conditions = StepConditions::none();
     let arrival = Arrival {
         proc,
@@ -109,14 +135,7 @@ fn entry_is_covered(
         facts: &[],
         before: state,
         effect: &unchanged,
-        refined: match version {
-            Version::One | Version::Two => None,
-            Version::Three => Some(Refinement {
-                moved: &unchanged,
-                linear: &None,
-                conditions: &conditions,
-            }),
-        },
+        refined: entry_refinement(version, &unchanged, &linear, &conditions),
     };
     coverer.covers(&arrival, state)
 }
