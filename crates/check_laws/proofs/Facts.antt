@@ -154,7 +154,7 @@ pub are_linear : (slots : ℕ) (facts : List LinearView) → AllByRecursion (IsS
 are_linear slots [] h k = tt
 are_linear slots (fact ∷ facts) h k = (is_linear slots fact h.0 k.0, are_linear slots facts h.1 k.1)
 
-goes_through : {X Y : Type 0} (o : Option X) (f : X → Option Y) (P : X → Type 0) (Q : Y → Type 0) → IsSomeAnd o P → ((x : X) → P x → IsSomeAnd (f x) Q) → IsSomeAnd (option_and_then f o) Q
+pub goes_through : {X Y : Type 0} (o : Option X) (f : X → Option Y) (P : X → Type 0) (Q : Y → Type 0) → IsSomeAnd o P → ((x : X) → P x → IsSomeAnd (f x) Q) → IsSomeAnd (option_and_then f o) Q
 goes_through None f P Q h g = h
 goes_through (Some x) f P Q h g = g x h
 

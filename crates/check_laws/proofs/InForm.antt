@@ -6,7 +6,8 @@ use Rattle.cert_flags.specs.Flags.{AreFlags, flags_with}
 use Rattle.cert_flags.specs.Parts.{IsFlagPart}
 use Rattle.cert_flags.specs.declared.form.FlagForm.{FlagForm}
 use Rattle.cert_flags.specs.declared.form.FlagForm.TheVariants.{Fact, Parts}
-use Rattle.cert_lines.specs.Row.{IsRow, IsShortRow, flag_form}
+use Rattle.cert_lines.specs.Row.{IsRow, IsShortRow}
+use Rattle.cert_lines.specs.Version.{flag_form}
 use Rattle.cert_lines.specs.declared.version.Version.{Version}
 use Rattle.flag_letters.specs.declared.part.FlagPart.{FlagPart}
 use Rattle.cert_lines.specs.declared.row.Row.{Row}

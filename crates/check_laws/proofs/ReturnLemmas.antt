@@ -31,12 +31,16 @@ use Rattle.abs_state.specs.declared.cell.KeptCell.{KeptCell}
 use Rattle.abs_state.specs.declared.state.AbsState.{AbsState}
 use Rattle.abs_state.proofs.ChangeLemmas.{call_returned}
 use Rattle.abs_step.specs.declared.next.Next.{Next}
+use Rattle.cert_lines.specs.declared.version.Version.{Version}
+use Rattle.cert_lines.specs.declared.version.Version.TheVariants.{One, Two, Three}
+use Rattle.check_cover.specs.Arrival.{ArrivalView}
 use Rattle.check_cover.specs.Covering.{Covered}
 use Rattle.check_cover.specs.declared.program.Callee.{Callee}
 use Rattle.cert_form.specs.Form.{IsInForm}
-use Rattle.check_ways.specs.Ways.{SubjectView, behind_of, effect_of_call, jump_way, return_way, returned_change}
-use Rattle.check_laws.specs.Comes.{CameBy, Exits, Steps, resumed}
+use Rattle.check_ways.specs.Ways.{SubjectView, behind_of, effect_back, effect_by_origins, effect_of_call, high_from, jump_way, low_from, restarted, restarts, return_way, returned_change, word_from}
+use Rattle.check_laws.specs.Comes.{CameBy, CameRefinedIfSome, Exits, Steps, resumed}
 use Rattle.check_laws.specs.RowHolds.{IsHeld}
+use Rattle.check_laws.proofs.EntryLemmas.{untold_came}
 use Rattle.check_laws.proofs.LandingLemmas.{lands}
 
 -- ---- constants with priority
@@ -69,7 +73,7 @@ settled_came s cells entry effect before now i h came (variables.Slot number par
 settled_came s cells entry effect before now i h came v there =
     constant_follows (range_of s v) (change_of effect v) (value_in before) (value_in now v) (variable_lies s cells entry now i h v) (came v there)
 
--- ---- a call with the callee's run
+-- ---- a call with the callee's run, before version 3
 
 -- the value of a pair at the call, if it is its own origin
 returned_follows : (r : RegPair) (origin : Option RegPair) (change : Change) (before : Valuation) (at now : ℕ) → (origin ≡ Some r → at ≡ now) → FollowsChange change before at → FollowsChange (returned_change r origin change) before now
@@ -106,27 +110,91 @@ module _ (e : Effect) (exit : AbsState) (before at now : Seen) (came : CameBy e 
   call_came variables.Iy there = returned_follows Iy exit.pairs.iy.origin e.iy _ _ _ (λ o. sym (own_origin exit.pairs.iy (entry_of at.regs) _ Iy h.iy o)) (came variables.Iy tt)
   call_came (variables.Slot number part) there = came (variables.Slot number part) there
 
+-- ---- in version 3
+
+-- a pair's value at the exit is that of its origin at the call
+module _ (e : Effect) (before at : Seen) (came : CameBy e before at) (i : IsRegs at.regs) where
+  word_came : (o : Option RegPair) (n : ℕ) → IfSome o (λ r. n ≡ entry_of at.regs r) → FollowsChange (word_from e o) (value_in before) n
+  word_came (Some Bc) n h = subst (FollowsChange e.bc (value_in before)) (sym h) (came variables.Bc tt)
+  word_came (Some De) n h = subst (FollowsChange e.de (value_in before)) (sym h) (came variables.De tt)
+  word_came (Some Hl) n h = subst (FollowsChange e.hl (value_in before)) (sym h) (came variables.Hl tt)
+  word_came (Some Ix) n h = subst (FollowsChange e.ix (value_in before)) (sym h) (came variables.Ix tt)
+  word_came (Some Iy) n h = subst (FollowsChange e.iy (value_in before)) (sym h) (came variables.Iy tt)
+  word_came _ n h = refl
+
+  high_came : (o : Option RegPair) (high low : ℕ) → low < 256 → IfSome o (λ r. word_of high low ≡ entry_of at.regs r) → FollowsChange (high_from e o) (value_in before) high
+  high_came (Some Af) high low small h = subst (FollowsChange e.a (value_in before)) (same_high _ _ _ _ small i.main.f h) (came variables.A tt)
+  high_came (Some Bc) high low small h = subst (FollowsChange e.b (value_in before)) (same_high _ _ _ _ small i.main.c h) (came variables.B tt)
+  high_came (Some De) high low small h = subst (FollowsChange e.d (value_in before)) (same_high _ _ _ _ small i.main.e h) (came variables.D tt)
+  high_came (Some Hl) high low small h = subst (FollowsChange e.h (value_in before)) (same_high _ _ _ _ small i.main.l h) (came variables.H tt)
+  high_came _ high low small h = refl
+
+  low_came : (o : Option RegPair) (high low : ℕ) → low < 256 → IfSome o (λ r. word_of high low ≡ entry_of at.regs r) → FollowsChange (low_from e o) (value_in before) low
+  low_came (Some Bc) high low small h = subst (FollowsChange e.c (value_in before)) (same_low _ _ _ _ small i.main.c h) (came variables.C tt)
+  low_came (Some De) high low small h = subst (FollowsChange e.e (value_in before)) (same_low _ _ _ _ small i.main.e h) (came variables.E tt)
+  low_came (Some Hl) high low small h = subst (FollowsChange e.l (value_in before)) (same_low _ _ _ _ small i.main.l h) (came variables.L tt)
+  low_came _ high low small h = refl
+
+module _ (e : Effect) (exit : AbsState) (before at now : Seen) (came : CameBy e before at) (i : IsRegs at.regs) (j : IsRegs now.regs) (h : HoldsPairs exit.pairs (entry_of at.regs) now.regs) where
+  origins_came : CameBy (effect_by_origins e exit) before (resumed at now)
+  origins_came variables.A there = high_came e before at came i exit.pairs.af.origin _ _ j.main.f h.af.origin
+  origins_came variables.B there = high_came e before at came i exit.pairs.bc.origin _ _ j.main.c h.bc.origin
+  origins_came variables.C there = low_came e before at came i exit.pairs.bc.origin _ _ j.main.c h.bc.origin
+  origins_came variables.D there = high_came e before at came i exit.pairs.de.origin _ _ j.main.e h.de.origin
+  origins_came variables.E there = low_came e before at came i exit.pairs.de.origin _ _ j.main.e h.de.origin
+  origins_came variables.H there = high_came e before at came i exit.pairs.hl.origin _ _ j.main.l h.hl.origin
+  origins_came variables.L there = low_came e before at came i exit.pairs.hl.origin _ _ j.main.l h.hl.origin
+  origins_came variables.Bc there = word_came e before at came i exit.pairs.bc.origin _ h.bc.origin
+  origins_came variables.De there = word_came e before at came i exit.pairs.de.origin _ h.de.origin
+  origins_came variables.Hl there = word_came e before at came i exit.pairs.hl.origin _ h.hl.origin
+  origins_came variables.Ix there = word_came e before at came i exit.pairs.ix.origin _ h.ix.origin
+  origins_came variables.Iy there = word_came e before at came i exit.pairs.iy.origin _ h.iy.origin
+  origins_came (variables.Slot number part) there = came (variables.Slot number part) there
+
 -- ---- ways
 
-pub way_leads : (s : SubjectView) (next : Next) (entry : Entry) (before now : Seen) → IsInForm s.cert → Steps s next entry before now → Covered s.cert (jump_way s next).arrival next.state → IsHeld s.cert s.row.proc next.address next.state entry now
-way_leads s next entry before now form x covers =
-    lands s.cert form (jump_way s next).arrival entry now x.numbers_now
-    (record { entry = entry; before = before; numbers = x.numbers; held = x.held.state; facts = x.held.facts; came = x.came })
-    next.state x.holds covers
+pub way_leads : (s : SubjectView) (next : Next) (entry : Entry) (before now : Seen) → IsInForm s.cert → restarts s ≡ false → Steps s next entry before now → Covered s.cert (jump_way s next).arrival (jump_way s next).state
+    → IsHeld s.cert s.row.proc next.address next.state entry now
+way_leads s next entry before now form on x covers =
+    let arrival : ArrivalView = record (jump_way s next).arrival { proc = s.row.proc } in
+    let same : Covered s.cert arrival next.state = subst (λ (b : Bool). Covered s.cert (record arrival { proc = cond b 0 s.row.proc }) (cond b (restarted next.state) next.state)) on covers in
+    lands s.cert form arrival entry now x.numbers_now
+    (record { entry = entry; before = before; numbers = x.numbers; held = x.held.state; facts = x.held.facts; came = x.came; refined = x.refined })
+    next.state x.holds same
 
 resumed_holds : (s : SubjectView) (next : Next) (exit : AbsState) (entry : Entry) (before at now : Seen) → Steps s next entry before at → Exits s exit at now → Holds (after_call next.state exit) s.cert.cells entry (resumed at now)
 resumed_holds s next exit entry before at now x y = call_returned next.state exit s.cert.cells entry at now x.holds y.holds
 
+-- the effect of a call with the callee's run, of either of its effects
+back_came : (version : Version) (e : Effect) (s : SubjectView) (next : Next) (exit : AbsState) (entry : Entry) (before at now : Seen) → Steps s next entry before at → Exits s exit at now → CameBy e before at → CameBy (effect_back version e exit) before (resumed at now)
+back_came One e s next exit entry before at now x y came = call_came e exit before at now came x.numbers_now y.numbers y.holds.pairs
+back_came Two e s next exit entry before at now x y came = call_came e exit before at now came x.numbers_now y.numbers y.holds.pairs
+back_came Three e s next exit entry before at now x y came = origins_came e exit before at now came x.numbers_now y.numbers y.holds.pairs
+
 pub return_came : (s : SubjectView) (next : Next) (callee : Callee) (exit : AbsState) (entry : Entry) (before at now : Seen) → Steps s next entry before at → Exits s exit at now
     → CameBy (return_way s next callee exit).arrival.effect before (resumed at now)
 return_came s next callee exit entry before at now x y =
-    settled_came (after_call next.state exit) s.cert.cells entry (effect_of_call next.effect exit) before (resumed at now) y.numbers (resumed_holds s next exit entry before at now x y)
-    (call_came next.effect exit before at now x.came x.numbers_now y.numbers y.holds.pairs)
+    settled_came (after_call next.state exit) s.cert.cells entry (effect_back s.cert.version next.effect exit) before (resumed at now) y.numbers (resumed_holds s next exit entry before at now x y)
+    (back_came s.cert.version next.effect s next exit entry before at now x y x.came)
+
+-- what version 3 adds to it
+pub return_refined : (s : SubjectView) (next : Next) (callee : Callee) (exit : AbsState) (entry : Entry) (before at now : Seen) → Steps s next entry before at → Exits s exit at now
+    → CameRefinedIfSome (return_way s next callee exit).arrival.refined before (resumed at now)
+return_refined s next callee exit entry before at now x y =
+    untold_came s.cert.version (effect_back s.cert.version next.moved exit) before (resumed at now) (back_came s.cert.version next.moved s next exit entry before at now x y x.moved)
 
 pub call_comes_back : (s : SubjectView) (next : Next) (callee : Callee) (exit : AbsState) (entry : Entry) (before at now : Seen) → IsInForm s.cert → Steps s next entry before at → Exits s exit at now
     → Covered s.cert (return_way s next callee exit).arrival (after_call next.state exit)
     → IsHeld s.cert s.row.proc (behind_of s.decoded s.row.address) (after_call next.state exit) entry (resumed at now)
 call_comes_back s next callee exit entry before at now form x y covers =
     lands s.cert form (return_way s next callee exit).arrival entry (resumed at now) y.numbers
-    (record { entry = entry; before = before; numbers = x.numbers; held = x.held.state; facts = x.held.facts; came = return_came s next callee exit entry before at now x y })
+    (record {
+      entry = entry;
+      before = before;
+      numbers = x.numbers;
+      held = x.held.state;
+      facts = x.held.facts;
+      came = return_came s next callee exit entry before at now x y;
+      refined = return_refined s next callee exit entry before at now x y;
+    })
     (after_call next.state exit) (resumed_holds s next exit entry before at now x y) covers
