@@ -128,7 +128,7 @@ callee_holds : (s : AbsState) (cells : List KeptCell) (entry : Entry) (m : Seen)
 callee_holds s cells entry m h = record { mode = h.mode; cells_hold = h.cells_hold; pairs = all_own s.pairs entry m.regs h.pairs; flag = tt; shape = tt }
 
 -- a callee sees the registers that its caller saw
-entered_values : (effect : Effect) (before now : Seen) → CameBy effect before now → CameBy effect before (entered now)
+pub entered_values : (effect : Effect) (before now : Seen) → CameBy effect before now → CameBy effect before (entered now)
 entered_values effect before now came (Slot number part) there = absurd (omega (arith, there))
 entered_values effect before now came v there = came v tt
 

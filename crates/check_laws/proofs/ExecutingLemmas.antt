@@ -52,7 +52,7 @@ use Rattle.check_laws.proofs.InForm.{each_or}
 use Rattle.check_laws.proofs.PayLemmas.{entry_in_time, exit_paid, way_paid, worth_low}
 use Rattle.check_laws.proofs.ReturnLemmas.{call_comes_back, return_came, return_refined, way_leads}
 use Rattle.check_laws.specs.Chain.{Awaits, Chain, Has, AcceptsInForm, Waiting, later_all, slack, waiting_words}
-use Rattle.check_laws.specs.Placed.{Activations, ArePlaced, Under, seen_by}
+use Rattle.check_laws.specs.Placed.{Activations, ArePlaced, IsMainOrTimed, Under, seen_by}
 use Rattle.check_laws.specs.Steps.{Executed, Leaves, Stays, TakesInstruction, at_board, leaves, stays}
 use Rattle.check_laws.proofs.Depth.{chain_timed}
 use Rattle.check_laws.proofs.Going.{Entering, IsTold, after, deep, entering, goes, numbers_after, running, stands, told_came}
@@ -382,15 +382,15 @@ module _ (rom : List ℕ) (cert : CertificateView) (acc : AcceptsInForm rom cert
         keeps_i = λ timed. a.keeps_i (λ e. j.consistent (reasons.SavedRegister saved.I) timed (ap (λ i. Ok i) e));
       }
 
-  executes : Executed rom cert lowest under c s env
-  executes = by (restarts here) refl
+  executes : IsMainOrTimed lowest → Executed rom cert lowest under c s env
+  executes root = by (restarts here) refl
     where
       by : (b : Bool) → restarts here ≡ b → Executed rom cert lowest under c s env
-      by true restart = restart_executes rom cert acc lowest under u c s env numbers is_env p j restart
+      by true restart = restart_executes rom cert acc lowest under u c s env numbers is_env p j root restart
       by false plain = executes_on plain
 
 -- a chain on a board executes its instruction
-pub executing : (rom : List ℕ) (cert : CertificateView) (lowest : Callee) (under : List ℕ) (c : Activations) (s : BoardView) (env : Env) → AcceptsInForm rom cert → Under cert lowest under → IsState s → IsEnv env → ArePlaced rom cert lowest under c s
+pub executing : (rom : List ℕ) (cert : CertificateView) (lowest : Callee) (under : List ℕ) (c : Activations) (s : BoardView) (env : Env) → AcceptsInForm rom cert → Under cert lowest under → IsMainOrTimed lowest → IsState s → IsEnv env → ArePlaced rom cert lowest under c s
     → Executed rom cert lowest under c s env
-executing rom cert lowest under c s env acc u numbers is_env p =
-    executes rom cert acc lowest under u c s env numbers is_env p (judge rom cert c.row c.of.proc acc p.listed (ap (slice_get cert.procs) p.is_of ∙ p.has))
+executing rom cert lowest under c s env acc u root numbers is_env p =
+    executes rom cert acc lowest under u c s env numbers is_env p (judge rom cert c.row c.of.proc acc p.listed (ap (slice_get cert.procs) p.is_of ∙ p.has)) root

@@ -135,7 +135,7 @@ module _ (rom : List ℕ) (cert : CertificateView) (acc : AcceptsInForm rom cert
     calls = λ k d within kind regs i h. room_call (get_or (nexts_from subject) k d) (listed_at (nexts_from subject) k d within) kind regs i h;
   }
 
-  is_before : Before cert.cells cert.region running c.row.state (at_board rom cert s env)
+  pub is_before : Before cert.cells cert.region running c.row.state (at_board rom cert s env)
   is_before = record {
     numbers = numbers;
     env = is_env;

@@ -17,8 +17,7 @@ struct Left {
 impl Left {
     fn add(&mut self, coefficient: i64, variable: Variable) {
         for place in 0..16usize {
-            let found = self.terms[place];
-            match found {
+            match self.terms[place] {
                 Some((there, so_far)) => {
                     if there.rank() == variable.rank() {
                         self.terms[place] = Some((there, so_far.saturating_add(coefficient)));
