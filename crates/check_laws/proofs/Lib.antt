@@ -5,6 +5,7 @@ pub mod Facts
 pub mod LandingLemmas
 pub mod Narrowing
 pub mod EntryLemmas
+pub mod Restarts
 pub mod ReturnLemmas
 pub mod PayLemmas
 pub mod Procs

@@ -81,53 +81,17 @@ use Rattle.cert_form.specs.Contents.{CertificateView, map_of_board}
 use Rattle.check_rules.specs.Table.{IsTimed}
 use Rattle.check_ways.specs.Ways.{IsWay, SubjectView, WayView, is_sub, jump_way, loads_top, nexts_from, restarted, restarts, restarts_by, step_by, told_of, writes_from}
 use Rattle.check_laws.proofs.Depth.{chain_timed}
-use Rattle.check_laws.proofs.EntryLemmas.{entered_values}
 use Rattle.check_laws.proofs.Going.{IsTold, goes, is_before, numbers_after, running, stands, told_came}
 use Rattle.check_laws.proofs.Judging.{Judged, subject_of}
-use Rattle.check_laws.proofs.LandingLemmas.{lands}
 use Rattle.check_laws.proofs.Narrowing.{tells_carry}
 use Rattle.check_laws.proofs.Procs.{nmi_covered, sub_not_main}
+use Rattle.check_laws.proofs.Restarts.{IsRestart, restart_is}
+use Rattle.check_laws.proofs.ReturnLemmas.{restart_leads}
 use Rattle.check_laws.specs.Chain.{AcceptsInForm, Chain, Has, Waiting, waiting_words}
-use Rattle.check_laws.specs.Comes.{CameBy, Comes, entered}
+use Rattle.check_laws.specs.Comes.{Steps}
 use Rattle.check_laws.specs.Placed.{Activations, ArePlaced, IsMainOrTimed, Under, owed, seen_by}
 use Rattle.check_laws.specs.RowHolds.{IsHeld}
 use Rattle.check_laws.specs.Steps.{Executed, Stays, at_board, stays}
-
--- ---- what a restart is
-
-record IsRestart (version : Version) (proc : Proc) (top : ℕ) (instr : Instr) : Type 0 where
-  version_is : version ≡ Three
-  sub : proc.kind ≡ Sub
-  untimed : IsTimed proc → ⊥
-  loads : instr ≡ instrs.LoadPair registers.Sp top
-
-missing : (P : Type 0) → (let b : Bool = false in b) ≡ true → P
-missing P e = absurd (cc)
-
-both_true : (a b : Bool) → (a && b) ≡ true → (a ≡ true) × (b ≡ true)
-both_true true b e = (refl, e)
-both_true false b e = missing _ e
-
-sub_kind : (k : ProcKind) → is_sub k ≡ true → k ≡ Sub
-sub_kind Main e = missing _ e
-sub_kind NmiKind e = missing _ e
-sub_kind Sub e = refl
-
-no_time : (t : Option ℕ) → not (is_some t) ≡ true → IsSome t → ⊥
-no_time None e h = cc
-no_time (Some t) e h = missing _ e
-
-sp_loaded : (top : ℕ) (instr : Instr) → loads_top top instr ≡ true → instr ≡ instrs.LoadPair registers.Sp top
-sp_loaded top (instrs.LoadPair registers.Sp nn) e = ap (λ (n : ℕ). instrs.LoadPair registers.Sp n) (eqb-true nn top e)
-sp_loaded top _ e = missing _ e
-
-restart_is : (version : Version) (proc : Proc) (top : ℕ) (instr : Instr) → restarts_by version proc top (Ok instr) ≡ true → IsRestart version proc top instr
-restart_is One proc top instr e = missing _ e
-restart_is Two proc top instr e = missing _ e
-restart_is Three proc top instr e =
-    let first = both_true (is_sub proc.kind) (not (is_some proc.time) && loads_top top instr) e in
-    let second = both_true (not (is_some proc.time)) (loads_top top instr) first.1 in
-    record { version_is = refl; sub = sub_kind proc.kind first.0; untimed = no_time proc.time second.0; loads = sp_loaded top instr second.1 }
 
 -- ---- LD SP with the region's top, outside main
 
@@ -201,31 +165,6 @@ step_told : (conditions : StepConditionsView) (instr : Instr) (byte : RangeView)
     → AreTrueOf conditions m (draft_of o m.regs instr)
 unfolding AreTrue
 step_told conditions instr byte parts carry o m h k = h o m k
-
--- ---- without origins
-
-freed : (p : Pair) (entry later : Entry) (n : ℕ) → HoldsPair p entry n → HoldsPair (record p { origin = None }) later n
-freed p entry later n h = record { word = h.word; high = h.high; low = h.low; origin = tt }
-
-freed_holds : (state : AbsState) (cells : List KeptCell) (entry later : Entry) (m : Seen) → Holds state cells entry m → Holds (restarted state) cells later (entered m)
-freed_holds state cells entry later m h = record {
-  mode = h.mode;
-  cells_hold = h.cells_hold;
-  pairs = record {
-    af = freed state.pairs.af entry later _ h.pairs.af;
-    bc = freed state.pairs.bc entry later _ h.pairs.bc;
-    de = freed state.pairs.de entry later _ h.pairs.de;
-    hl = freed state.pairs.hl entry later _ h.pairs.hl;
-    ix = freed state.pairs.ix entry later _ h.pairs.ix;
-    iy = freed state.pairs.iy entry later _ h.pairs.iy;
-    alternate_af = freed state.pairs.alternate_af entry later _ h.pairs.alternate_af;
-    alternate_bc = freed state.pairs.alternate_bc entry later _ h.pairs.alternate_bc;
-    alternate_de = freed state.pairs.alternate_de entry later _ h.pairs.alternate_de;
-    alternate_hl = freed state.pairs.alternate_hl entry later _ h.pairs.alternate_hl;
-  };
-  flag = tt;
-  shape = tt;
-}
 
 -- ---- the lowest activation
 
@@ -324,31 +263,27 @@ module _ (rom : List ℕ) (cert : CertificateView) (acc : AcceptsInForm rom cert
     is_told : IsTold rom cert acc lowest under u c s env numbers is_env p j cert.version
     is_told = subst (λ (v : Version). IsTold rom cert acc lowest under u c s env numbers is_env p j v) (sym r.version_is) truths
 
-    abbrev now : Seen
-    now = seen_of cert.cells [] new
+    abbrev after : Seen
+    after = seen_of cert.cells c.words new
 
-    comes : Comes (jump_way here_subject load.next).arrival cert.cells now
-    comes = record {
-      entry = c.entry;
-      before = old_seen;
-      numbers = numbers.regs;
-      held = p.holds.state;
-      facts = p.holds.facts;
-      came = entered_values load.next.effect old_seen (seen_of cert.cells c.words new) load.through;
-      refined = told_came rom cert acc lowest under u c s env numbers is_env p j cert.version is_told load.next.moved [] (entered_values load.next.moved old_seen (seen_of cert.cells c.words new) load.moved);
-    }
+    steps : Steps here_subject load.next c.entry old_seen after
+    steps =
+        let then = numbers_after rom cert acc lowest under u c s env numbers is_env p j in
+        record {
+          numbers = numbers.regs;
+          held = p.holds;
+          numbers_now = then.regs;
+          holds = load.holds;
+          came = load.through;
+          moved = load.moved;
+          refined = told_came rom cert acc lowest under u c s env numbers is_env p j cert.version is_told load.next.moved c.words load.moved;
+        }
 
-    held : IsHeld cert 0 load.next.address (restarted load.next.state) c.first now
+    held : IsHeld cert 0 load.next.address (restarted load.next.state) c.first (seen_of cert.cells [] new)
     held =
         let way = jump_way here_subject load.next in
         let is_way : IsWay here_subject way = inl (record { next = load.next; leads = listed; kind = load.kind; is = refl }) in
-        let covered : Covered cert way.arrival way.state = (goes rom cert acc lowest under u c s env numbers is_env p j).ways way is_way in
-        let arrival : ArrivalView = record way.arrival { proc = 0 } in
-        let there : Covered cert arrival (restarted load.next.state) =
-        subst (λ (b : Bool). Covered cert (record arrival { proc = cond b 0 c.row.proc }) (cond b (restarted load.next.state) load.next.state)) on covered in
-        let after = numbers_after rom cert acc lowest under u c s env numbers is_env p j in
-        let at : Comes arrival cert.cells now = record { entry = comes.entry; before = comes.before; numbers = comes.numbers; held = comes.held; facts = comes.facts; came = comes.came; refined = comes.refined } in
-        lands cert acc.form arrival c.first now after.regs at (restarted load.next.state) (freed_holds load.next.state cert.cells c.entry c.first (seen_of cert.cells c.words new) load.holds) there
+        restart_leads here_subject load.next c.entry c.first old_seen after acc.form on steps ((goes rom cert acc lowest under u c s env numbers is_env p j).ways way is_way)
 
     stays_main : Stays rom cert lowest under c s new (t_of ctx j.instr)
     unfolding Chain waiting_words on_top

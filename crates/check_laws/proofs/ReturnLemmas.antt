@@ -1,5 +1,5 @@
 -- A jump leads to a row, and a call comes back to one.
-use Rattle.std.proofs.Common.{◌≡◌, ◌<◌, ℕ, Bool, true, false, cond, eqb, List, get_or, Option, Some, None, pos, refl, sym, ap, subst, arith}
+use Rattle.std.proofs.Common.{◌≡◌, ◌<◌, ℕ, Bool, true, false, cond, eqb, List, get_or, Option, Some, None, Result, Ok, Err, pos, refl, sym, ap, subst, arith}
 use Rattle.std.specs.Prelude.{IfSome, option_map}
 use Rattle.std.proofs.lemmas.Bool.{eqb-true}
 use Rattle.intervals.specs.Domain.{Entry}
@@ -33,15 +33,22 @@ use Rattle.abs_state.proofs.ChangeLemmas.{call_returned}
 use Rattle.abs_step.specs.declared.next.Next.{Next}
 use Rattle.cert_lines.specs.declared.version.Version.{Version}
 use Rattle.cert_lines.specs.declared.version.Version.TheVariants.{One, Two, Three}
-use Rattle.check_cover.specs.Arrival.{ArrivalView}
+use Rattle.check_cover.specs.Arrival.{ArrivalView, RefinementView}
+use Rattle.flag_conditions.specs.NewConditions.{new_after}
+use Rattle.linear_effects.specs.Effects.{effect_of}
+use Rattle.z80_decode.specs.declared.fault.DecodeFault.{DecodeFault}
+use Rattle.z80_decode.specs.declared.instr.Instr.{Instr}
+use Rattle.z80_decode.specs.declared.instr.Instr.TheVariants as instrs
+use Rattle.z80_decode.specs.declared.operands.Register16.TheVariants as registers
 use Rattle.check_cover.specs.Covering.{Covered}
 use Rattle.check_cover.specs.declared.program.Callee.{Callee}
 use Rattle.cert_form.specs.Form.{IsInForm}
-use Rattle.check_ways.specs.Ways.{SubjectView, behind_of, effect_back, effect_by_origins, effect_of_call, high_from, jump_way, low_from, restarted, restarts, return_way, returned_change, word_from}
-use Rattle.check_laws.specs.Comes.{CameBy, CameRefinedIfSome, Exits, Steps, resumed}
+use Rattle.check_ways.specs.Ways.{SubjectView, behind_of, effect_back, effect_by_origins, effect_of_call, high_from, jump_way, low_from, refined_by, restarted, restarts, restarts_by, return_way, returned_change, told_of, word_from}
+use Rattle.check_laws.specs.Comes.{CameBy, CameRefined, CameRefinedIfSome, Exits, Steps, entered, resumed}
 use Rattle.check_laws.specs.RowHolds.{IsHeld}
-use Rattle.check_laws.proofs.EntryLemmas.{untold_came}
+use Rattle.check_laws.proofs.EntryLemmas.{entered_values, untold_came}
 use Rattle.check_laws.proofs.LandingLemmas.{lands}
+use Rattle.check_laws.proofs.Restarts.{missing, restart_is}
 
 -- ---- constants with priority
 
@@ -151,6 +158,31 @@ module _ (e : Effect) (exit : AbsState) (before at now : Seen) (came : CameBy e 
   origins_came variables.Iy there = word_came e before at came i exit.pairs.iy.origin _ h.iy.origin
   origins_came (variables.Slot number part) there = came (variables.Slot number part) there
 
+-- ---- without origins
+
+freed : (p : Pair) (entry later : Entry) (n : ℕ) → HoldsPair p entry n → HoldsPair (record p { origin = None }) later n
+freed p entry later n h = record { word = h.word; high = h.high; low = h.low; origin = tt }
+
+freed_holds : (state : AbsState) (cells : List KeptCell) (entry later : Entry) (m : Seen) → Holds state cells entry m → Holds (restarted state) cells later (entered m)
+freed_holds state cells entry later m h = record {
+  mode = h.mode;
+  cells_hold = h.cells_hold;
+  pairs = record {
+    af = freed state.pairs.af entry later _ h.pairs.af;
+    bc = freed state.pairs.bc entry later _ h.pairs.bc;
+    de = freed state.pairs.de entry later _ h.pairs.de;
+    hl = freed state.pairs.hl entry later _ h.pairs.hl;
+    ix = freed state.pairs.ix entry later _ h.pairs.ix;
+    iy = freed state.pairs.iy entry later _ h.pairs.iy;
+    alternate_af = freed state.pairs.alternate_af entry later _ h.pairs.alternate_af;
+    alternate_bc = freed state.pairs.alternate_bc entry later _ h.pairs.alternate_bc;
+    alternate_de = freed state.pairs.alternate_de entry later _ h.pairs.alternate_de;
+    alternate_hl = freed state.pairs.alternate_hl entry later _ h.pairs.alternate_hl;
+  };
+  flag = tt;
+  shape = tt;
+}
+
 -- ---- ways
 
 pub way_leads : (s : SubjectView) (next : Next) (entry : Entry) (before now : Seen) → IsInForm s.cert → restarts s ≡ false → Steps s next entry before now → Covered s.cert (jump_way s next).arrival (jump_way s next).state
@@ -161,6 +193,49 @@ way_leads s next entry before now form on x covers =
     lands s.cert form arrival entry now x.numbers_now
     (record { entry = entry; before = before; numbers = x.numbers; held = x.held.state; facts = x.held.facts; came = x.came; refined = x.refined })
     next.state x.holds same
+
+-- what version 3 adds to an instruction's step
+abbrev adds : SubjectView → Effect → Instr → RefinementView
+adds s moved instr = record { moved = moved; linear = (told_of s (Ok instr)).linear; conditions = (told_of s (Ok instr)).conditions }
+
+-- LD SP,nn has no linear effect and no conditions after, so its words don't matter
+load_refined : (s : SubjectView) (moved : Effect) (nn : ℕ) (before now : Seen) → CameRefined (adds s moved (instrs.LoadPair registers.Sp nn)) before now → CameRefined (adds s moved (instrs.LoadPair registers.Sp nn)) before (entered now)
+unfolding effect_of new_after
+load_refined s moved nn before now h = record {
+  moved = entered_values moved before now h.moved;
+  becomes = tt;
+  told_before = h.told_before;
+  told_after = λ k d p. absurd (omega arith);
+  registers = h.registers;
+}
+
+restart_refined : (s : SubjectView) (moved : Effect) (before now : Seen) (version : Version) (decoded : Result Instr DecodeFault) → restarts_by version s.proc s.cert.region.top decoded ≡ true → CameRefinedIfSome (refined_by version (told_of s decoded) moved) before now
+    → CameRefinedIfSome (refined_by version (told_of s decoded) moved) before (entered now)
+restart_refined s moved before now One decoded e h = tt
+restart_refined s moved before now Two decoded e h = tt
+restart_refined s moved before now Three (Err fault) e h = missing _ e
+restart_refined s moved before now Three (Ok instr) e h =
+    let r = restart_is Three s.proc s.cert.region.top instr e in
+    let at : CameRefined (adds s moved instr) before now → CameRefined (adds s moved instr) before (entered now) =
+    subst (λ (i : Instr). CameRefined (adds s moved i) before now → CameRefined (adds s moved i) before (entered now)) (sym r.loads) (λ k. load_refined s moved s.cert.region.top before now k) in
+    at h
+
+pub restart_leads : (s : SubjectView) (next : Next) (entry later : Entry) (before now : Seen) → IsInForm s.cert → restarts s ≡ true → Steps s next entry before now → Covered s.cert (jump_way s next).arrival (jump_way s next).state
+    → IsHeld s.cert 0 next.address (restarted next.state) later (entered now)
+restart_leads s next entry later before now form on x covers =
+    let arrival : ArrivalView = record (jump_way s next).arrival { proc = 0 } in
+    let same : Covered s.cert arrival (restarted next.state) = subst (λ (b : Bool). Covered s.cert (record arrival { proc = cond b 0 s.row.proc }) (cond b (restarted next.state) next.state)) on covers in
+    lands s.cert form arrival later (entered now) x.numbers_now
+    (record {
+      entry = entry;
+      before = before;
+      numbers = x.numbers;
+      held = x.held.state;
+      facts = x.held.facts;
+      came = entered_values next.effect before now x.came;
+      refined = restart_refined s next.moved before now s.cert.version s.decoded on x.refined;
+    })
+    (restarted next.state) (freed_holds next.state s.cert.cells entry later now x.holds) same
 
 resumed_holds : (s : SubjectView) (next : Next) (exit : AbsState) (entry : Entry) (before at now : Seen) → Steps s next entry before at → Exits s exit at now → Holds (after_call next.state exit) s.cert.cells entry (resumed at now)
 resumed_holds s next exit entry before at now x y = call_returned next.state exit s.cert.cells entry at now x.holds y.holds

@@ -129,13 +129,14 @@ fn entry_is_covered(
     let unchanged = Effect::unchanged();
     let linear: Option<LinearEffect> = None;
     let conditions = StepConditions::none();
+    let refined = entry_refinement(version, &unchanged, &linear, &conditions);
     let arrival = Arrival {
         proc,
         address,
         facts: &[],
         before: state,
         effect: &unchanged,
-        refined: entry_refinement(version, &unchanged, &linear, &conditions),
+        refined,
     };
     coverer.covers(&arrival, state)
 }
