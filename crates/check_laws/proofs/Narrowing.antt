@@ -1,10 +1,9 @@
 -- The state that flag parts leave at a condition holds of each machine of which the row and its parts hold.
-use Rattle.std.proofs.Common.{◌≡◌, ◌∙◌, ℕ, Bool, true, false, cond, List, [], ◌∷◌, Option, Some, None, IsTrue, ℤ, pos, refl, sym, ap, subst, arith}
+use Rattle.std.proofs.Common.{◌≡◌, ℕ, Bool, true, cond, List, [], ◌∷◌, Option, Some, None, IsTrue, ℤ, pos, refl, sym, ap, subst, arith}
 use Rattle.std.specs.Prelude.{◌+ℤ◌, ◌↔◌, IsSomeAnd}
 use Rattle.std.specs.List.{AllByRecursion}
 use Rattle.std.proofs.lemmas.Int.{ints}
 use Rattle.std.proofs.lemmas.List.Elements.{All-head, All-tail}
-use Rattle.cert_fields.specs.Linear.{IsShort, IsSum}
 use Rattle.cert_flags.specs.Parts.{IsFlagPart, IsShortPart}
 use Rattle.intervals.specs.Domain.{Entry}
 use Rattle.linear_limits.specs.declared.limiting.SideOfZero.TheVariants.{Below, NotBelow}

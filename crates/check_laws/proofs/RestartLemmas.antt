@@ -1,29 +1,23 @@
 -- A restart: a called procedure without a time sets SP to the region's top, and the machine goes on in main alone.
-use Rattle.std.proofs.Common.{◌≡◌, ◌≢◌, ◌∙◌, ◌++◌, ◌⊎◌, inl, inr, ℕ, Bool, true, false, cond, not, List, [], ◌∷◌, slice_get, Contains, Option, Some, None, Ok, refl, sym, ap, subst, arith}
-use Rattle.std.specs.Prelude.{◌&&◌, IfSome, IsSome, is_some}
-use Rattle.std.specs.List.{All, AllZip}
+use Rattle.std.proofs.Common.{◌≡◌, ◌∙◌, ◌++◌, inl, inr, ℕ, Bool, true, false, List, [], ◌∷◌, Contains, Option, None, Ok, refl, sym, ap, subst}
+use Rattle.std.specs.List.{All}
 use Rattle.std.proofs.lemmas.Bool.{eqb-true}
 use Rattle.std.proofs.lemmas.List.Elements.{Contains-append_left, Contains-append_right}
 use Rattle.address_map.specs.declared.region.Region.{Region}
 use Rattle.intervals.specs.Domain.{Entry}
-use Rattle.intervals.specs.Pair.{HoldsPair}
 use Rattle.intervals.specs.Range.{RangeView}
-use Rattle.intervals.specs.declared.pair.Pair.{Pair}
-use Rattle.loop_bounds.specs.declared.effect.Effect.{Effect}
 use Rattle.z80_alu.specs.declared.regs.Regs.{Regs}
 use Rattle.z80_decode.specs.declared.instr.Instr.{Instr}
 use Rattle.z80_decode.specs.declared.instr.Instr.TheVariants as instrs
 use Rattle.z80_decode.specs.declared.operands.Register16.TheVariants as registers
 use Rattle.z80_draft.specs.Draft.{draft_of}
 use Rattle.z80_draft.specs.Outside.{Outside}
-use Rattle.z80_draft.specs.Registers.{IsRegs}
-use Rattle.board_fetch.specs.Decoded.{StandsAt}
 use Rattle.board_step.specs.Context.{ContextView}
 use Rattle.board_step.specs.Env.{IsEnv}
 use Rattle.board_step.specs.State.{IsState, BoardView}
 use Rattle.board_step.specs.Step.{done, instr_draft, t_of}
 use Rattle.board_step.specs.Reads.{outside_of}
-use Rattle.board_step.specs.Trap.{some_outside, trap_of_instr}
+use Rattle.board_step.specs.Trap.{trap_of_instr}
 use Rattle.board_step.specs.declared.env.Env.{Env}
 use Rattle.board_laws.specs.Board.{HasWords}
 use Rattle.board_laws.specs.Words.{on_top}
@@ -32,17 +26,13 @@ use Rattle.board_laws.proofs.EachInstruction.{load_sp_done}
 use Rattle.board_laws.proofs.Traps.{no_trap}
 use Rattle.abs_state.specs.Cell.{HoldsCells}
 use Rattle.abs_state.specs.Holds.{Holds, HoldsMode}
-use Rattle.abs_state.specs.Pairs.{HoldsPairs}
 use Rattle.abs_state.specs.Seen.{Seen}
 use Rattle.abs_state.specs.Variables.{range_of, value_in}
-use Rattle.abs_state.specs.declared.cell.KeptCell.{KeptCell}
 use Rattle.abs_state.specs.declared.mode.Mode.TheVariants.{Nmi, Unset}
-use Rattle.abs_state.specs.declared.pairs.Pairs.{Pairs}
 use Rattle.abs_state.specs.declared.state.AbsState.{AbsState}
 use Rattle.abs_draft.specs.Ground.{GroundView}
-use Rattle.abs_draft.specs.declared.data_write.DataWrite.{DataWrite}
 use Rattle.abs_laws.specs.Cells.{bytes_of_cells}
-use Rattle.abs_laws.specs.Fits.{WriteLiesIn, state_after_writes}
+use Rattle.abs_laws.specs.Fits.{state_after_writes}
 use Rattle.abs_laws.specs.Writes.{AllKeep, NeverEnables, TakesData}
 use Rattle.abs_laws.proofs.CellsAfter.{cells_hold}
 use Rattle.abs_laws.proofs.Enables.{enable_stays_clear, mode_holds, nmi_stays}
@@ -68,18 +58,13 @@ use Rattle.linear_effects.specs.declared.variable_effect.LinearEffect.{LinearEff
 use Rattle.refined_step.proofs.Answered.{told}
 use Rattle.refined_step.specs.Kept.{AreTrueOfStep}
 use Rattle.refined_step.specs.Refined.{refined_nexts, step_effect}
-use Rattle.check_cover.specs.Arrival.{ArrivalView}
-use Rattle.check_cover.specs.Covering.{Covered}
 use Rattle.check_cover.specs.Program.{ground_for, is_inline, is_main}
 use Rattle.check_cover.specs.declared.program.Callee.{Callee}
-use Rattle.cert_lines.specs.declared.proc.Proc.{Proc}
-use Rattle.cert_lines.specs.declared.proc.ProcKind.{ProcKind}
-use Rattle.cert_lines.specs.declared.proc.ProcKind.TheVariants.{Main, Nmi as NmiKind, Sub}
 use Rattle.cert_lines.specs.declared.version.Version.{Version}
-use Rattle.cert_lines.specs.declared.version.Version.TheVariants.{One, Two, Three}
+use Rattle.cert_lines.specs.declared.version.Version.TheVariants.{Three}
 use Rattle.cert_form.specs.Contents.{CertificateView, map_of_board}
 use Rattle.check_rules.specs.Table.{IsTimed}
-use Rattle.check_ways.specs.Ways.{IsWay, SubjectView, WayView, is_sub, jump_way, loads_top, nexts_from, restarted, restarts, restarts_by, step_by, told_of, writes_from}
+use Rattle.check_ways.specs.Ways.{IsWay, SubjectView, jump_way, nexts_from, restarted, restarts, step_by, told_of, writes_from}
 use Rattle.check_laws.proofs.Depth.{chain_timed}
 use Rattle.check_laws.proofs.Going.{IsTold, goes, is_before, numbers_after, running, stands, told_came}
 use Rattle.check_laws.proofs.Judging.{Judged, subject_of}
@@ -89,7 +74,7 @@ use Rattle.check_laws.proofs.Restarts.{IsRestart, restart_is}
 use Rattle.check_laws.proofs.ReturnLemmas.{restart_leads}
 use Rattle.check_laws.specs.Chain.{AcceptsInForm, Chain, Has, Waiting, waiting_words}
 use Rattle.check_laws.specs.Comes.{Steps}
-use Rattle.check_laws.specs.Placed.{Activations, ArePlaced, IsMainOrTimed, Under, owed, seen_by}
+use Rattle.check_laws.specs.Placed.{Activations, ArePlaced, IsMainOrTimed, Under, seen_by}
 use Rattle.check_laws.specs.RowHolds.{IsHeld}
 use Rattle.check_laws.specs.Steps.{Executed, Stays, at_board, stays}
 
@@ -212,7 +197,7 @@ module _ (rom : List ℕ) (cert : CertificateView) (acc : AcceptsInForm rom cert
     not_timed timed = r.untimed (chain_timed rom cert lowest c.first c.of c.entry c.waiting p.chain timed)
 
     lowest_main : is_main lowest.number ≡ true
-    lowest_main = elim root [ | inl main ↦ main | inr timed ↦ absurd (not_timed timed) ]
+    lowest_main = elim root [ inl main ↦ main | inr timed ↦ absurd (not_timed timed) ]
 
     lowest_zero : lowest.number ≡ 0
     lowest_zero = eqb-true lowest.number 0 lowest_main

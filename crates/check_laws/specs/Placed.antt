@@ -48,7 +48,8 @@ pub record Under (cert : CertificateView) (lowest : Callee) (under : List ℕ) :
   pub lowest_is : IsUnder (is_main lowest.number) under
   pub room : 2 * length under + lowest.proc.depth ≤ (cert.region.top - cert.region.low) + entry_bytes lowest.proc.kind
 
--- a restart goes on in main, so an activation without a time is of a chain whose lowest is main's
+-- The lowest activation of a chain is main's, or has a time. A restart goes on in main; where the lowest has a time, so
+-- have all that it called, and no activation of the chain restarts.
 abbrev pub IsMainOrTimed : Callee → Type 0
 IsMainOrTimed lowest = (is_main lowest.number ≡ true) ⊎ IsTimed lowest.proc
 
