@@ -44,7 +44,8 @@ use Rattle.cert_lines.specs.declared.row.Row.{Row}
 use Rattle.cert_form.specs.Contents.{CertificateView, map_of_board}
 use Rattle.check_rules.specs.Table.{FitsDepth, IsTimed, entry_bytes}
 use Rattle.check_ways.specs.Pays.{IsWithinTime, Lands, Pays, cost_before}
-use Rattle.check_ways.specs.Ways.{GoesOn, IsExit, IsWay, SubjectView, behind_of, call_cost, jump_way, nexts_from, restarted, restarts, return_way, writes_from}
+use Rattle.check_steps.specs.Restarts.{restarted}
+use Rattle.check_ways.specs.Ways.{GoesOn, IsExit, IsWay, SubjectView, behind_of, call_cost, jump_way, nexts_from, restarts, return_way, writes_from}
 use Rattle.check_laws.specs.Comes.{CameBy, Exits, Steps, resumed}
 use Rattle.check_laws.specs.RowHolds.{IsHeld, worth}
 use Rattle.check_laws.proofs.EntryLemmas.{callee_begins}

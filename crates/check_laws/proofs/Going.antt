@@ -45,7 +45,8 @@ use Rattle.cert_lines.specs.declared.version.Version.{Version}
 use Rattle.cert_lines.specs.declared.version.Version.TheVariants.{One, Two, Three}
 use Rattle.cert_form.specs.Contents.{CertificateView, map_of_board}
 use Rattle.check_rules.specs.Table.{HasNoStack, FitsDepth, entry_bytes}
-use Rattle.check_ways.specs.Ways.{CallsCallee, EntersCallee, GoesOn, SubjectView, arrival_at_entry as entry_arrival, nexts_from, refined_by, restarts, step_by, told_of, writes_from}
+use Rattle.check_steps.specs.Told.{refined_by}
+use Rattle.check_ways.specs.Ways.{CallsCallee, EntersCallee, GoesOn, SubjectView, arrival_at_entry as entry_arrival, nexts_from, restarts, step_by, told_of, writes_from}
 use Rattle.check_laws.proofs.EntryLemmas.{all_own}
 use Rattle.check_laws.proofs.InForm.{RowInForm, parts_in_form, row_in_form}
 use Rattle.check_laws.proofs.LandingLemmas.{has_row}

@@ -64,7 +64,8 @@ use Rattle.cert_lines.specs.declared.version.Version.{Version}
 use Rattle.cert_lines.specs.declared.version.Version.TheVariants.{Three}
 use Rattle.cert_form.specs.Contents.{CertificateView, map_of_board}
 use Rattle.check_rules.specs.Table.{IsTimed}
-use Rattle.check_ways.specs.Ways.{IsWay, SubjectView, jump_way, nexts_from, restarted, restarts, step_by, told_of, writes_from}
+use Rattle.check_steps.specs.Restarts.{restarted}
+use Rattle.check_ways.specs.Ways.{IsWay, SubjectView, jump_way, nexts_from, restarts, step_by, told_of, writes_from}
 use Rattle.check_laws.proofs.Depth.{chain_timed}
 use Rattle.check_laws.proofs.Going.{IsTold, goes, is_before, numbers_after, running, stands, told_came}
 use Rattle.check_laws.proofs.Judging.{Judged, subject_of}

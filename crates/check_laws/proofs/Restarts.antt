@@ -11,7 +11,7 @@ use Rattle.cert_lines.specs.declared.proc.ProcKind.TheVariants.{Main, Nmi as Nmi
 use Rattle.cert_lines.specs.declared.version.Version.{Version}
 use Rattle.cert_lines.specs.declared.version.Version.TheVariants.{One, Two, Three}
 use Rattle.check_rules.specs.Table.{IsTimed}
-use Rattle.check_ways.specs.Ways.{is_sub, loads_top, restarts_by}
+use Rattle.check_steps.specs.Restarts.{is_sub, loads_top, restarts_by}
 
 -- a called procedure without a time loads SP with the region's top, in version 3
 pub record IsRestart (version : Version) (proc : Proc) (top : ℕ) (instr : Instr) : Type 0 where

@@ -43,7 +43,10 @@ use Rattle.z80_decode.specs.declared.operands.Register16.TheVariants as register
 use Rattle.check_cover.specs.Covering.{Covered}
 use Rattle.check_cover.specs.declared.program.Callee.{Callee}
 use Rattle.cert_form.specs.Form.{IsInForm}
-use Rattle.check_ways.specs.Ways.{SubjectView, behind_of, effect_back, effect_by_origins, effect_of_call, high_from, jump_way, low_from, refined_by, restarted, restarts, restarts_by, return_way, returned_change, told_of, word_from}
+use Rattle.check_steps.specs.Restarts.{restarted, restarts_by}
+use Rattle.check_steps.specs.Returned.{effect_back, effect_by_origins, effect_of_call, high_from, low_from, returned_change, word_from}
+use Rattle.check_steps.specs.Told.{refined_by}
+use Rattle.check_ways.specs.Ways.{SubjectView, behind_of, jump_way, restarts, return_way, told_of}
 use Rattle.check_laws.specs.Comes.{CameBy, CameRefined, CameRefinedIfSome, Exits, Steps, entered, resumed}
 use Rattle.check_laws.specs.RowHolds.{IsHeld}
 use Rattle.check_laws.proofs.EntryLemmas.{entered_values, untold_came}

@@ -7,7 +7,8 @@ use Rattle.check_cover.specs.Covering.{Covered}
 use Rattle.check_laws.specs.Comes.{Steps, CameBy, Exits, entered, resumed}
 use Rattle.check_laws.specs.RowHolds.{IsHeld}
 use Rattle.cert_form.specs.Form.{IsInForm}
-use Rattle.check_ways.specs.Ways.{SubjectView, jump_way, restarted, restarts, return_way, behind_of}
+use Rattle.check_steps.specs.Restarts.{restarted}
+use Rattle.check_ways.specs.Ways.{SubjectView, jump_way, restarts, return_way, behind_of}
 use Rattle.abs_state.specs.declared.state.AbsState.{AbsState}
 use Rattle.check_cover.specs.declared.program.Callee.{Callee}
 use Rattle.abs_state.specs.Entries.{after_call}

@@ -1,7 +1,7 @@
--- What the abstract step's answer says about a row.
+-- What the step's answer says about a row.
 use Rattle.std.proofs.Common.{◌≡◌, ◌<◌, ◌≤◌, if◌then◌else◌, Bool, true, false, ◌&&◌, Some, None, Result, Ok, Err, List, [], Contains, refl, sym, ap, subst, arith}
 use Rattle.abs_step.specs.Reason.{number_of}
-use Rattle.abs_step.specs.Successors.{answer_by, answer_of, has_no_shape, jumps_anywhere, nexts_of, uses_stack}
+use Rattle.abs_step.specs.Successors.{answer_by, has_no_shape, jumps_anywhere, nexts_of, refusal, uses_stack}
 use Rattle.abs_state.specs.Mode.{is_unset}
 use Rattle.abs_step.specs.declared.next.Next.{Next}
 use Rattle.abs_step.specs.declared.reason.Reason.{Reason}
@@ -9,7 +9,10 @@ use Rattle.abs_step.specs.declared.reason.Reason.TheVariants as reasons
 use Rattle.check_cover.specs.Program.{ground_for, is_inline, is_main}
 use Rattle.check_rules.specs.Table.{FitsDepth, IsLowest, PassesBelow, bytes_in}
 use Rattle.check_rules.proofs.Order.{begins, decode_passes, passes}
-use Rattle.check_ways.specs.Ways.{SubjectView, nexts_from, nexts_in, step_of}
+use Rattle.check_ways.specs.Ways.{SubjectView, nexts_from, nexts_in, step_by, step_from, step_of}
+use Rattle.cert_lines.specs.declared.version.Version.{Version}
+use Rattle.cert_lines.specs.declared.version.Version.TheVariants.{One, Two, Three}
+use Rattle.refined_step.specs.Refined.{refined_nexts}
 use Rattle.t_states.specs.Io.{is_io}
 use Rattle.z80_decode.specs.declared.fault.DecodeFault.{DecodeFault}
 use Rattle.z80_decode.specs.declared.instr.Instr.{Instr}
@@ -32,19 +35,32 @@ first_of_four s false false true d found r e = by_shape (cc)
 first_of_four s false false false true found r e = by_jump (cc)
 first_of_four s false false false false found r e = absurd (cc)
 
+-- whatever the successors are
+among_four : (s : SubjectView) (instr : Instr) (found : List Next) (r : Reason) →
+    answer_by (refusal (is_main s.row.proc) (is_inline s.cert s.row.address) instr s.row.state) found ≡ Err r → Refuses s r
+among_four s instr found r e =
+    first_of_four s (is_io instr) (uses_stack instr && is_unset s.row.state.mode) (has_no_shape (is_main s.row.proc) (is_inline s.cert s.row.address) instr s.row.state.shape)
+    (jumps_anywhere instr s.row.state) found r e
+
 pub refused : (s : SubjectView) (r : Reason) → step_of s ≡ Err r → Refuses s r
 refused s r e = by s.decoded refl e
   where
-    by : (d : Result Instr DecodeFault) → s.decoded ≡ d → answer_of (ground_for s.rom s.cert) s.row.address (is_main s.row.proc) (is_inline s.cert s.row.address) s.row.state d ≡ Err r → Refuses s r
+    by_version : (version : Version) (instr : Instr) → step_by version s instr ≡ Err r → Refuses s r
+    by_version One instr e =
+        among_four s instr (nexts_of (ground_for s.rom s.cert) s.row.address (is_main s.row.proc) (is_inline s.cert s.row.address) instr s.row.state) r e
+    by_version Two instr e =
+        among_four s instr (nexts_of (ground_for s.rom s.cert) s.row.address (is_main s.row.proc) (is_inline s.cert s.row.address) instr s.row.state) r e
+    by_version Three instr e =
+        among_four s instr
+        (refined_nexts (ground_for s.rom s.cert) s.row.address (is_main s.row.proc) (is_inline s.cert s.row.address) instr s.row.parts s.row.state) r e
+
+    by : (d : Result Instr DecodeFault) → s.decoded ≡ d → step_from s d ≡ Err r → Refuses s r
     by (Err fault) is e = undecoded fault is (cc)
-    by (Ok instr) is e =
-        first_of_four s (is_io instr) (uses_stack instr && is_unset s.row.state.mode) (has_no_shape (is_main s.row.proc) (is_inline s.cert s.row.address) instr s.row.state.shape)
-        (jumps_anywhere instr s.row.state) (nexts_of (ground_for s.rom s.cert) s.row.address (is_main s.row.proc) (is_inline s.cert s.row.address) instr s.row.state) r e
+    by (Ok instr) is e = by_version s.cert.version instr e
 
 -- where no instruction stands, the step answers so
 undecoded_step : (s : SubjectView) (fault : DecodeFault) → s.decoded ≡ Err fault → step_of s ≡ Err (reasons.Decode fault)
-undecoded_step s fault is =
-    ap (answer_of (ground_for s.rom s.cert) s.row.address (is_main s.row.proc) (is_inline s.cert s.row.address) s.row.state) is
+undecoded_step s fault is = ap (step_from s) is
 
 -- where the step gives successors, no reason up to 5 applies to the row
 pub leads_on : (s : SubjectView) (nexts : List Next) → step_of s ≡ Ok nexts → PassesBelow s 6

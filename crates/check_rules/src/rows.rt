@@ -12,7 +12,8 @@ use crate::writes::{check_cells, check_enabling, check_places};
 use abs_draft::DataWrite;
 use abs_step::{Next, Reason};
 use check_cover::Coverer;
-use check_ways::{StepTold, Subject, SubjectStep, goes_on, pays};
+use check_steps::StepTold;
+use check_ways::{Subject, SubjectStep, goes_on, pays};
 use std::alloc::Global;
 
 /// Judges a row by the table of reasons (docs/CHECKER.md, "The table of reasons"). The coverer searches the rows of the

@@ -1,11 +1,11 @@
 // The reasons of a certificate as a whole: 1, 2 and 3 before its rows, 11 and 18 after them.
 
-ghost use Rattle.std.specs.Prelude.{◌≡◌, ◌↔◌, ◌<◌, ◌≤◌, ℕ, IsTrue, IfSome, MatchOption, None, []};
+ghost use Rattle.std.specs.Prelude.{◌≡◌, ◌↔◌, ◌<◌, ◌≤◌, ℕ, [], IsTrue, IfSome, MatchOption, None};
 ghost use Rattle.std.specs.List.{All};
 ghost use Rattle.check_cover.specs.Arrival.{entry_refinement, first_arrival};
-ghost use Rattle.loop_bounds.specs.Effect.{unchanged};
 ghost use Rattle.check_cover.specs.Covering.{Covered, CoversMain, CoversNmi};
 ghost use Rattle.address_map.specs.WorkRam.{work_start};
+ghost use Rattle.loop_bounds.specs.Effect.{unchanged};
 ghost use Rattle.cert_form.specs.Contents.{nmi_of};
 ghost use Rattle.check_rules.specs.Acceptance.{CoversEntries, EntryFails, FitsRom, HasDepth, LiesOutside, RegionFits, HasBudget, depth_of, main_depth};
 
@@ -92,28 +92,6 @@ fn nmi_is_covered(certificate: &Certificate, coverer: &mut Coverer) -> bool
     entry_is_covered(coverer, certificate.version(), 1, NMI_ADDRESS, &state)
 }
 
-/// What version 3 adds to an entry: a step that changes nothing and tells nothing.
-fn entry_refinement<'a>(
-    version: Version,
-    moved: &'a Effect,
-    linear: &'a Option<LinearEffect>,
-    conditions: &'a StepConditions,
-) -> Option<Refinement<'a>>
-    requires moved { moved.now ≡ unchanged }
-    requires linear { linear.now ≡ None }
-    requires conditions { conditions.now ≡ record { before = []; after = [] } }
-    ensures { result ≡ entry_refinement version }
-{
-    match version {
-        Version::One | Version::Two => None,
-        Version::Three => Some(Refinement {
-            moved,
-            linear,
-            conditions,
-        }),
-    }
-}
-
 /// Whether a state is covered at an entry; no row is before it.
 fn entry_is_covered(
     coverer: &mut Coverer,
@@ -126,19 +104,58 @@ fn entry_is_covered(
         ↔ Covered coverer.old (first_arrival version proc address state.now) state.now }
     ensures same { coverer.new ≡ coverer.old }
 {
-    let unchanged = Effect::unchanged();
-    let linear: Option<LinearEffect> = None;
+    let effect = Effect::unchanged();
+    let linear = None;
     let conditions = StepConditions::none();
-    let refined = entry_refinement(version, &unchanged, &linear, &conditions);
-    let arrival = Arrival {
+    let arrival = first_arrival(version, proc, address, state, &effect, &linear, &conditions);
+    coverer.covers(&arrival, state)
+}
+
+/// The arrival at an entry, by a step that changes nothing and tells nothing of the flags.
+fn first_arrival<'s>(
+    version: Version,
+    proc: u16,
+    address: u16,
+    state: &'s AbsState,
+    effect: &'s Effect,
+    linear: &'s Option<LinearEffect>,
+    conditions: &'s StepConditions,
+) -> Arrival<'s, 's>
+    requires effect { effect.now ≡ unchanged }
+    requires linear { linear.now ≡ None }
+    requires conditions { conditions.now ≡ record { before = []; after = [] } }
+    ensures { result ≡ first_arrival version proc address state.now }
+{
+    Arrival {
         proc,
         address,
         facts: &[],
         before: state,
-        effect: &unchanged,
-        refined,
-    };
-    coverer.covers(&arrival, state)
+        effect,
+        refined: entry_refinement(version, effect, linear, conditions),
+    }
+}
+
+/// What version 3 adds at an entry.
+fn entry_refinement<'s>(
+    version: Version,
+    effect: &'s Effect,
+    linear: &'s Option<LinearEffect>,
+    conditions: &'s StepConditions,
+) -> Option<Refinement<'s>>
+    requires effect { effect.now ≡ unchanged }
+    requires linear { linear.now ≡ None }
+    requires conditions { conditions.now ≡ record { before = []; after = [] } }
+    ensures { result ≡ entry_refinement version }
+{
+    match version {
+        Version::One | Version::Two => None,
+        Version::Three => Some(Refinement {
+            moved: effect,
+            linear,
+            conditions,
+        }),
+    }
 }
 
 /// Whether the region has room for main and, on top of it, the NMI routine.

@@ -1,12 +1,12 @@
 // The T-states between the rows of a walk, and at its end.
 
 ghost use Rattle.std.specs.List.{All};
-ghost use Rattle.std.specs.Prelude.{◌≡◌, ◌↔◌, Contains, IsSome, IsTrue, Ok, Some, length};
+ghost use Rattle.std.specs.Prelude.{◌≡◌, ◌↔◌, Contains, IsSome, IsTrue, Ok, Some, false, length};
 ghost use Rattle.check_cover.specs.Program.{callee_at};
 ghost use Rattle.cert_form.specs.Contents.{map_of_board};
 ghost use Rattle.check_ways.specs.Parts.{AtSomeExit, CostsExit, IsAmong, LiesBy, LiesByCall, OnCall, OnSomeExit, ReturnLands, greater};
 ghost use Rattle.check_ways.specs.Pays.{IsExitCost, IsGreatest, IsWalked, Lands, LeavesAt, LieBetween, LiesBetween};
-ghost use Rattle.check_ways.specs.Ways.{jump_way, step_of};
+ghost use Rattle.check_ways.specs.Ways.{jump_to, restarts, step_of};
 
 use abs_step::{Next, NextKind};
 use address_map::{Map, Rom};
@@ -73,10 +73,13 @@ fn cost_by_call(subject: &Subject, next: &Next, target: &RowRef) -> Option<u32>
     }
 }
 
-/// Whether a jump leads to a row that is asked. No `Way` is made for it, since its state is large.
+/// Whether a jump within the row's procedure leads to a row that is asked. No `Way` is made for it, since its state is
+/// large.
 fn jump_lands(subject: &Subject, next: &Next, target: &RowRef) -> bool
     requires { Contains subject.now.cert.rows target.now }
-    ensures { IsTrue result ↔ Lands subject.now.cert (jump_way subject.now next.now) target.now }
+    ensures { IsTrue result
+        ↔ Lands subject.now.cert (jump_to subject.now next.now subject.now.row.proc next.now.state)
+        target.now }
 {
     if next.address != target.address || subject.row.proc != target.proc {
         return false;
@@ -85,9 +88,10 @@ fn jump_lands(subject: &Subject, next: &Next, target: &RowRef) -> bool
         || is_lone(subject.certificate, subject.row.proc, next.address)
 }
 
-/// The T-states between two rows by one successor; None if it does not lead there.
+/// The T-states between two rows by one successor; None if it does not lead there. The first is no restart.
 fn cost_by(subject: &Subject, next: &Next, target: &RowRef) -> Option<u32>
-    requires { Contains subject.now.cert.rows target.now }
+    requires listed { Contains subject.now.cert.rows target.now }
+    requires stays { restarts subject.now ≡ false }
     ensures { IsGreatest (LiesBy subject.now target.now next.now) result }
 {
     match next.kind {
@@ -103,9 +107,10 @@ fn cost_by(subject: &Subject, next: &Next, target: &RowRef) -> Option<u32>
     }
 }
 
-/// The most T-states between two rows by one of these successors; None if none leads there.
+/// The most T-states between two rows by one of these successors; None if none leads there. The first is no restart.
 fn greatest_cost(subject: &Subject, nexts: &[Next], target: &RowRef) -> Option<u32>
-    requires { Contains subject.now.cert.rows target.now }
+    requires listed { Contains subject.now.cert.rows target.now }
+    requires stays { restarts subject.now ≡ false }
     ensures { IsGreatest (IsAmong nexts.now (LiesBy subject.now target.now)) result }
 {
     let mut greatest = None;

@@ -264,6 +264,7 @@ leaves_of s exit leaves = by s.decoded leaves
     by_version Two instr h = leaves_by (ground_for s.rom s.cert) s.row.address (is_main s.row.proc) (is_inline s.cert s.row.address) s.row.state (Ok instr) exit h
     by_version Three instr h =
         refined_leaves (ground_for s.rom s.cert) s.row.address (is_main s.row.proc) (is_inline s.cert s.row.address) instr s.row.parts s.row.state exit h
+
     by : (decoded : Result Instr DecodeFault) → IsExitIn (nexts_in (step_from s decoded)) exit → may_leave s.row.state decoded ≡ true
     by (Err fault) h = absurd (no_exit_in exit h)
     by (Ok instr) h = by_version s.cert.version instr h

@@ -1,6 +1,7 @@
 pub mod ExitLemmas
 pub mod GoingLemmas
 pub mod PayingLemmas
+pub mod RestartLemmas
 pub mod ReturnLemmas
 pub mod RowLemmas
 pub mod SubjectLemmas

@@ -367,6 +367,7 @@ subject_tells s suits = by s.decoded
         (answers (ground_for s.rom s.cert) s.row.address (is_inline s.cert s.row.address) (is_main s.row.proc) s.row.state instr)
     by_version Three instr any =
         refines (ground_for s.rom s.cert) s.row.address (is_inline s.cert s.row.address) (is_main s.row.proc) s.row.parts s.row.state instr
+
     by : (decoded : Result Instr DecodeFault) → Tells (nexts_in (step_from s decoded)) (exit_by (is_main s.row.proc) s.row.parts s.row.state decoded)
     by (Err fault) = none_tells
     by (Ok instr) = by_version s.cert.version instr suits

@@ -1,9 +1,8 @@
 -- Where a row leads to, through calls and back from them (docs/CHECKER.md, "Successors, calls and exits").
-use Rattle.std.specs.Prelude.{ℕ, ◌+◌, ◌%◌, ◌==◌, ◌&&◌, ◌≡◌, ◌≢◌, ◌⊎◌, Bool, true, false, if◌then◌else◌, List, [], length, slice_get, Option, Some, None, Result, Ok, Err, Contains, is_some, not, unwrap_or}
+use Rattle.std.specs.Prelude.{ℕ, ◌+◌, ◌%◌, ◌≡◌, ◌≢◌, ◌⊎◌, Bool, if◌then◌else◌, List, [], length, slice_get, Option, Some, None, Result, Ok, Err, Contains, not, unwrap_or}
 use Rattle.abs_draft.specs.Outcomes.{settled}
 use Rattle.abs_draft.specs.declared.data_write.DataWrite.{DataWrite}
 use Rattle.abs_state.specs.Entries.{callee_entry, after_call}
-use Rattle.abs_state.specs.declared.pairs.Pairs.{Pairs}
 use Rattle.abs_state.specs.declared.state.AbsState.{AbsState}
 use Rattle.abs_step.specs.Successors.{answer_of, writes_of}
 use Rattle.abs_step.specs.declared.next.Next.{Next}
@@ -11,31 +10,22 @@ use Rattle.abs_step.specs.declared.next.NextKind.TheVariants.{Jump, Call, Exit}
 use Rattle.abs_step.specs.declared.reason.Reason.{Reason}
 use Rattle.abs_step.specs.declared.reason.Reason.TheVariants.{NotCovered}
 use Rattle.board_fetch.specs.Decoded.{StandsAt}
-use Rattle.check_cover.specs.Arrival.{ArrivalView, RefinementView}
+use Rattle.check_cover.specs.Arrival.{ArrivalView}
 use Rattle.check_cover.specs.Covering.{Covered}
 use Rattle.check_cover.specs.Program.{callee_at, ground_for, is_inline, is_main}
 use Rattle.check_cover.specs.declared.program.Callee.{Callee}
 use Rattle.cert_lines.specs.declared.proc.Proc.{Proc}
-use Rattle.cert_lines.specs.declared.proc.ProcKind.{ProcKind}
-use Rattle.cert_lines.specs.declared.proc.ProcKind.TheVariants.{Main, Nmi, Sub}
 use Rattle.cert_lines.specs.declared.row.Row.{Row}
 use Rattle.cert_lines.specs.declared.version.Version.{Version}
 use Rattle.cert_lines.specs.declared.version.Version.TheVariants.{One, Two, Three}
 use Rattle.cert_form.specs.Contents.{CertificateView}
-use Rattle.flag_conditions.specs.Conditions.{StepConditionsView}
-use Rattle.intervals.specs.declared.pair.Pair.{Pair}
-use Rattle.intervals.specs.declared.reg_pair.RegPair.{RegPair}
-use Rattle.linear_effects.specs.declared.variable_effect.LinearEffect.{LinearEffect}
-use Rattle.intervals.specs.declared.reg_pair.RegPair.TheVariants.{Af, Bc, De, Hl, Ix, Iy}
-use Rattle.loop_bounds.specs.declared.effect.Change.{Change}
-use Rattle.loop_bounds.specs.declared.effect.Change.TheVariants.{Unknown}
-use Rattle.loop_bounds.specs.declared.effect.Effect.{Effect}
 use Rattle.z80_decode.specs.Spelling.{spelling}
 use Rattle.z80_decode.specs.declared.fault.DecodeFault.{DecodeFault}
 use Rattle.z80_decode.specs.declared.instr.Instr.{Instr}
-use Rattle.z80_decode.specs.declared.instr.Instr.TheVariants.{LoadPair}
-use Rattle.z80_decode.specs.declared.operands.Register16.TheVariants as words
 use Rattle.refined_step.specs.Refined.{refined_answer, step_conditions, step_effect}
+use Rattle.check_steps.specs.Restarts.{restarted, restarts_by}
+use Rattle.check_steps.specs.Returned.{effect_back}
+use Rattle.check_steps.specs.Told.{StepToldView, refined_by, untold}
 
 -- ---- rows
 
@@ -76,15 +66,6 @@ step_from s (Err fault) =
 abbrev pub step_of : SubjectView → Result (List Next) Reason
 step_of s = step_from s s.decoded
 
--- what the refined step says beside its answer: the linear effect and the conditions
-pub record StepToldView : Type 0 where
-  pub linear : Option LinearEffect
-  pub conditions : StepConditionsView
-
--- no linear effect and no conditions
-abbrev pub untold : StepToldView
-untold = record { linear = None; conditions = record { before = []; after = [] } }
-
 -- what the refined step says of what is decoded at a row
 abbrev pub told_of : SubjectView → Result Instr DecodeFault → StepToldView
 told_of s (Ok instr) = record {
@@ -92,12 +73,6 @@ told_of s (Ok instr) = record {
   conditions = step_conditions (ground_for s.rom s.cert) s.row.address (is_inline s.cert s.row.address) instr s.row.parts s.row.state;
 }
 told_of s (Err fault) = untold
-
--- what an arrival has beside its effect: in version 3 what the step says and the effect without priority for constants
-abbrev pub refined_by : Version → StepToldView → Effect → Option RefinementView
-refined_by One told moved = None
-refined_by Two told moved = None
-refined_by Three told moved = Some (record { moved = moved; linear = told.linear; conditions = told.conditions })
 
 -- the data writes of a row
 abbrev pub writes_from : SubjectView → List DataWrite
@@ -134,44 +109,8 @@ pub record WayView : Type 0 where
 
 -- ---- restarts
 
-abbrev pub is_sub : ProcKind → Bool
-is_sub Main = false
-is_sub Nmi = false
-is_sub Sub = true
-
--- LD SP,nn with this top
-abbrev pub loads_top : ℕ → Instr → Bool
-loads_top top (LoadPair words.Sp nn) = nn == top
-loads_top top _ = false
-
--- a called procedure without a time sets SP to the top of the region, in version 3: the machine goes on in main
-abbrev pub restarts_by : Version → Proc → ℕ → Result Instr DecodeFault → Bool
-restarts_by Three proc top (Ok instr) = is_sub proc.kind && (not (is_some proc.time) && loads_top top instr)
-restarts_by _ proc top decoded = false
-
 abbrev pub restarts : SubjectView → Bool
 restarts s = restarts_by s.cert.version s.proc s.cert.region.top s.decoded
-
-abbrev pub without_origin : Pair → Pair
-without_origin pair = record pair { origin = None }
-
-abbrev pub without_origins : Pairs → Pairs
-without_origins p = record {
-  af = without_origin p.af;
-  bc = without_origin p.bc;
-  de = without_origin p.de;
-  hl = without_origin p.hl;
-  ix = without_origin p.ix;
-  iy = without_origin p.iy;
-  alternate_af = without_origin p.alternate_af;
-  alternate_bc = without_origin p.alternate_bc;
-  alternate_de = without_origin p.alternate_de;
-  alternate_hl = without_origin p.alternate_hl;
-}
-
--- no origins, no words on the stack, and no flag fact
-abbrev pub restarted : AbsState → AbsState
-restarted s = record s { pairs = without_origins s.pairs; flag = None; shape = [] }
 
 -- the procedure and the state in which a jump arrives
 abbrev pub proc_after : SubjectView → ℕ
@@ -182,20 +121,24 @@ state_after s state = if restarts s then restarted state else state
 
 -- ---- the ways of each kind
 
--- the way of a jump; going on to the next address is one too, and a restart
-abbrev pub jump_way : SubjectView → Next → WayView
-jump_way s next = record {
+-- a jump that arrives in this procedure and this state
+abbrev pub jump_to : SubjectView → Next → ℕ → AbsState → WayView
+jump_to s next proc state = record {
   arrival = record {
-    proc = proc_after s;
+    proc = proc;
     address = next.address;
     facts = s.row.facts;
     before = s.row.state;
     effect = next.effect;
     refined = refined_by s.cert.version (told_of s s.decoded) next.moved;
   };
-  state = state_after s next.state;
+  state = state;
   cost = next.cost;
 }
+
+-- the way of a jump; going on to the next address is one too, and a restart
+abbrev pub jump_way : SubjectView → Next → WayView
+jump_way s next = jump_to s next (proc_after s) (state_after s next.state)
 
 -- the arrival at a callee's entry
 abbrev pub arrival_at_entry : SubjectView → Next → Callee → ArrivalView
@@ -212,79 +155,6 @@ arrival_at_entry s next callee = record {
 abbrev pub behind_of : Result Instr DecodeFault → ℕ → ℕ
 behind_of (Ok instr) address = (address + length (spelling instr)) % 65536
 behind_of (Err fault) address = address
-
--- the change of a pair over the callee's run: that of the call if the pair is its own origin at the exit, else unknown
-abbrev pub returned_change : RegPair → Option RegPair → Change → Change
-returned_change Af (Some Af) change = change
-returned_change Bc (Some Bc) change = change
-returned_change De (Some De) change = change
-returned_change Hl (Some Hl) change = change
-returned_change Ix (Some Ix) change = change
-returned_change Iy (Some Iy) change = change
-returned_change _ _ change = Unknown
-
--- the effect of a call with the callee's run, from the effect of the call alone; slots stay as they are
-abbrev pub effect_of_call : Effect → AbsState → Effect
-effect_of_call e exit = record {
-  a = returned_change Af exit.pairs.af.origin e.a;
-  b = returned_change Bc exit.pairs.bc.origin e.b;
-  c = returned_change Bc exit.pairs.bc.origin e.c;
-  d = returned_change De exit.pairs.de.origin e.d;
-  e = returned_change De exit.pairs.de.origin e.e;
-  h = returned_change Hl exit.pairs.hl.origin e.h;
-  l = returned_change Hl exit.pairs.hl.origin e.l;
-  bc = returned_change Bc exit.pairs.bc.origin e.bc;
-  de = returned_change De exit.pairs.de.origin e.de;
-  hl = returned_change Hl exit.pairs.hl.origin e.hl;
-  ix = returned_change Ix exit.pairs.ix.origin e.ix;
-  iy = returned_change Iy exit.pairs.iy.origin e.iy;
-  slot = e.slot;
-}
-
--- in version 3 the change of a pair over the callee's run is that of its origin in the call, whichever pair that is
-abbrev pub word_from : Effect → Option RegPair → Change
-word_from e (Some Bc) = e.bc
-word_from e (Some De) = e.de
-word_from e (Some Hl) = e.hl
-word_from e (Some Ix) = e.ix
-word_from e (Some Iy) = e.iy
-word_from e _ = Unknown
-
-abbrev pub high_from : Effect → Option RegPair → Change
-high_from e (Some Af) = e.a
-high_from e (Some Bc) = e.b
-high_from e (Some De) = e.d
-high_from e (Some Hl) = e.h
-high_from e _ = Unknown
-
-abbrev pub low_from : Effect → Option RegPair → Change
-low_from e (Some Bc) = e.c
-low_from e (Some De) = e.e
-low_from e (Some Hl) = e.l
-low_from e _ = Unknown
-
-abbrev pub effect_by_origins : Effect → AbsState → Effect
-effect_by_origins e exit = record {
-  a = high_from e exit.pairs.af.origin;
-  b = high_from e exit.pairs.bc.origin;
-  c = low_from e exit.pairs.bc.origin;
-  d = high_from e exit.pairs.de.origin;
-  e = low_from e exit.pairs.de.origin;
-  h = high_from e exit.pairs.hl.origin;
-  l = low_from e exit.pairs.hl.origin;
-  bc = word_from e exit.pairs.bc.origin;
-  de = word_from e exit.pairs.de.origin;
-  hl = word_from e exit.pairs.hl.origin;
-  ix = word_from e exit.pairs.ix.origin;
-  iy = word_from e exit.pairs.iy.origin;
-  slot = e.slot;
-}
-
--- the effect of a call with the callee's run, by version
-abbrev pub effect_back : Version → Effect → AbsState → Effect
-effect_back One e exit = effect_of_call e exit
-effect_back Two e exit = effect_of_call e exit
-effect_back Three e exit = effect_by_origins e exit
 
 -- the T-states of a call and its callee's time; a callee without a time adds none
 abbrev pub call_cost : Next → Callee → ℕ

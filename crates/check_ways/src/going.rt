@@ -9,14 +9,13 @@ ghost use Rattle.check_ways.specs.Parts.{AtEachExit, CallGoesOn, IsCoveredWay, N
 ghost use Rattle.cert_lines.specs.declared.version.Version.TheVariants.{Three};
 ghost use Rattle.check_ways.specs.Ways.{GoesOn, arrival_at_entry, jump_way, step_of, told_of};
 
-use crate::effects::effect_back;
 use crate::subject::Subject;
-use crate::told::StepTold;
 use abs_draft::settled;
 use abs_state::AbsState;
 use abs_step::{Next, NextKind};
 use cert_contents::RowId;
 use check_cover::{Callee, Coverer, callee_at};
+use check_steps::{StepTold, effect_back};
 use check_tables::{Left, ProcExits};
 
 /// Whether a jump arrives in a covered state.
@@ -42,13 +41,8 @@ fn entry_is_covered(subject: &Subject, next: &Next, callee: &Callee, coverer: &m
         (callee_entry next.now.state) }
     ensures same { coverer.new ≡ coverer.old }
 {
-    let arrival = subject.arrival_at(
-        callee.number,
-        next.address,
-        &next.effect,
-        &next.moved,
-        subject.untold(),
-    );
+    let said = subject.untold();
+    let arrival = subject.arrival_at(callee.number, next.address, &next.effect, &next.moved, said);
     coverer.covers(&arrival, &next.state.callee())
 }
 
@@ -213,10 +207,9 @@ fn nexts_go_on(subject: &Subject, nexts: &[Next], told: &StepTold, coverer: &mut
 }
 
 /// Whether a row goes on, given its successors and what its step says beside (docs/CHECKER.md, "Successors, calls and
-/// exits"). Each of its ways, by a
-/// jump and back from each exit of a callee, has to arrive in a covered state; each of its calls has to enter a called
-/// procedure in a covered state. The coverer is one of the row's certificate. No memory is taken. A call takes a step
-/// for each row of the callee, or for each different exit where the subject has tables.
+/// exits"). Each of its ways, by a jump and back from each exit of a callee, has to arrive in a covered state; each of
+/// its calls has to enter a called procedure in a covered state. The coverer is one of the row's certificate. No memory
+/// is taken. A call takes a step for each row of the callee, or for each different exit where the subject has tables.
 pub fn goes_on(subject: &Subject, nexts: &[Next], told: &StepTold, coverer: &mut Coverer) -> bool
     requires told { subject.now.cert.version ≡ Three → told.now ≡ told_of subject.now subject.now.decoded }
     requires certificate { coverer.old ≡ subject.now.cert }

@@ -11,7 +11,6 @@ ghost use Rattle.check_ways.specs.Ways.{behind_of, step_of, told_of};
 
 use crate::overlapping::is_lone;
 use crate::subject::Subject;
-use crate::told::StepTold;
 use crate::ways::Way;
 use abs_step::{Next, NextKind};
 use call_graph::ProcId;
@@ -19,6 +18,7 @@ use cert_contents::RowId;
 use cert_lines::{ProcKind, RowRef, Version};
 use check_cover::{Callee, callee_at};
 use check_payments::pays_either_way;
+use check_steps::StepTold;
 use check_tables::Left;
 use loop_bounds::{Effect, Linear, decreases};
 use t_states::NMI_COST;

@@ -7,9 +7,9 @@ ghost use Rattle.cert_form.specs.Contents.{map_of_board};
 ghost use Rattle.board_fetch.specs.Decoded.{StandsAt};
 ghost use Rattle.check_ways.specs.Parts.{IsTopOf};
 ghost use Rattle.z80_decode.specs.Spelling.{spelling};
-ghost use Rattle.check_ways.specs.Ways.{IsSubject, behind_of, refined_by, step_by, step_of, told_of, untold, writes_from};
+ghost use Rattle.check_steps.specs.Told.{refined_by, untold};
+ghost use Rattle.check_ways.specs.Ways.{IsSubject, behind_of, step_by, step_of, told_of, writes_from};
 
-use crate::told::StepTold;
 use abs_draft::{DataWrite, Ground};
 use abs_state::AbsState;
 use abs_step::{Nexts, Reason, RowStep, row_step};
@@ -18,7 +18,8 @@ use board_fetch::fetch;
 use call_graph::ProcId;
 use cert_contents::{Certificate, RowId};
 use cert_lines::{Proc, RowRef, Version};
-use check_cover::{Arrival, Refinement, is_inline};
+use check_cover::{Arrival, is_inline};
+use check_steps::{StepTold, refinement};
 use check_tables::Tables;
 use loop_bounds::{Effect, Linear};
 use refined_step::{RefinedStep, refined_step};
@@ -63,7 +64,8 @@ impl<'a> Model for Subject<'a> {
     ghost use Rattle.std.specs.Prelude.{◌≡◌, IfOk, IfSome, length};
     ghost use Rattle.z80_decode.specs.Spelling.{spelling};
     ghost use Rattle.cert_form.specs.Contents.{map_of_board};
-    ghost use Rattle.check_ways.specs.Ways.{SubjectView, IsSubject, behind_of, untold};
+    ghost use Rattle.check_steps.specs.Told.{untold};
+    ghost use Rattle.check_ways.specs.Ways.{SubjectView, IsSubject, behind_of};
 
     ghost Value = { SubjectView };
 
@@ -142,8 +144,7 @@ impl<'a> Subject<'a> {
         self.proc.time.unwrap_or(0)
     }
 
-    /// The data writes of the row, and its successors or the reason for which the step refuses it, by the version's
-    /// step.
+    /// The data writes of the row, and its successors or the reason for which the version's step refuses it.
     pub fn row_step(&self, alloc: Global) -> SubjectStep
         ensures writes { result.writes.items ≡ writes_from self.now }
         ensures ok { IfOk result.answer (λ nexts. step_of self.now ≡ Ok nexts.items) }
@@ -253,24 +254,6 @@ impl<'a> Subject<'a> {
         ensures { result.now ≡ untold }
     {
         &self.nothing
-    }
-}
-
-/// What an arrival has beside its effect: nothing before version 3.
-pub(crate) fn refinement<'s>(
-    version: Version,
-    told: &'s StepTold,
-    moved: &'s Effect,
-) -> Option<Refinement<'s>>
-    ensures { result ≡ refined_by version told.now moved.now }
-{
-    match version {
-        Version::One | Version::Two => None,
-        Version::Three => Some(Refinement {
-            moved,
-            linear: &told.linear,
-            conditions: &told.conditions,
-        }),
     }
 }
 

@@ -8,10 +8,8 @@ ghost use Rattle.check_ways.specs.Pays.{Lands};
 ghost use Rattle.cert_lines.specs.declared.version.Version.TheVariants.{Three};
 ghost use Rattle.check_ways.specs.Ways.{call_cost, jump_way, return_way, told_of};
 
-use crate::effects::effect_back;
 use crate::overlapping::{is_lone, overlaps_state};
 use crate::subject::Subject;
-use crate::told::StepTold;
 use abs_draft::settled;
 use abs_state::AbsState;
 use abs_step::Next;
@@ -19,6 +17,7 @@ use call_graph::ProcId;
 use cert_contents::{Certificate, RowId};
 use cert_lines::{RowRef, Version};
 use check_cover::{Arrival, Callee};
+use check_steps::{StepTold, effect_back};
 use loop_bounds::{Effect, Linear};
 use std::marker::Model;
 use std::ops::Range;
@@ -42,7 +41,8 @@ pub struct Way<'a> {
 }
 
 impl<'a> Model for Way<'a> {
-    ghost use Rattle.check_ways.specs.Ways.{WayView, refined_by};
+    ghost use Rattle.check_steps.specs.Told.{refined_by};
+    ghost use Rattle.check_ways.specs.Ways.{WayView};
 
     ghost Value = { WayView };
 

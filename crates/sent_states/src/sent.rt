@@ -5,7 +5,7 @@ use abs_state::AbsState;
 use abs_step::{Next, NextKind};
 use analysis::{FlowFault, Task, sub_of};
 use annotations::SplitNote;
-use check_ways::effect_of_call;
+use check_steps::effect_of_call;
 use inferred_rows::{ContextPoint, Guide};
 use intervals::ByteRange;
 use loop_bounds::Effect;

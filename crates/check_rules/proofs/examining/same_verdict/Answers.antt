@@ -9,7 +9,7 @@ pub returns-clause-exact : goal.returns-clause-exact
 returns-clause-exact c =
     let version = migrated_version c.args.first.now.version in
     let is : in_version version c.args.first.now ≡ c.args.second.now = same_migrated c.args.first.now c.is_in_form.ensures ∙ sym c.requires in (
-      (λ ok. let a = c.examine.ensures.exact.0 ok in (accepted_before version c.args.rom.now c.args.first.now c.args.second.now is a, a)),
+      (λ ok. let a = c.examine.ensures.exact.0 ok in (accepted_before c.args.rom.now c.args.first.now c.args.second.now is a, a)),
       λ both. c.examine.ensures.exact.1 both.1,
     )
 
@@ -22,4 +22,4 @@ pub returns-clause-refused : goal.returns-clause-refused
 returns-clause-refused c =
     let version = migrated_version c.args.first.now.version in
     let is : in_version version c.args.first.now ≡ c.args.second.now = same_migrated c.args.first.now c.is_in_form.ensures ∙ sym c.requires in
-    more _ _ (λ (r : Refused) h. (refused_before version c.args.rom.now c.args.first.now c.args.second.now r.row r.address r.reason is h, h)) c.examine.result c.examine.ensures.refused
+    more _ _ (λ (r : Refused) h. (refused_before c.args.rom.now c.args.first.now c.args.second.now r.row r.address r.reason is h, h)) c.examine.result c.examine.ensures.refused

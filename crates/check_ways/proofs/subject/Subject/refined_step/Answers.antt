@@ -17,7 +17,7 @@ returns-clause-linear c =
     let row : c.self.inside.row ≡ s.row = ap (λ (x : SubjectView). x.row) c.self.view_is in
     let made : c.of.result ≡ ground_of c.self.inside.rom.now c.self.inside.map.now c.cells.result.now = c.of.ensures in
     let with_map : ground_of c.self.inside.rom.now c.self.inside.map.now c.cells.result.now
-        ≡ ground_of c.self.inside.rom.now (map_of_board cert) c.cells.result.now =
+    ≡ ground_of c.self.inside.rom.now (map_of_board cert) c.cells.result.now =
     ap (λ (m : MapView). ground_of c.self.inside.rom.now m c.cells.result.now) c.self.invariant.1 in
     let with_cells : ground_of c.self.inside.rom.now (map_of_board cert) c.cells.result.now ≡ ground_for c.self.inside.rom.now cert =
     ap (λ (cells : List KeptCell). ground_of c.self.inside.rom.now (map_of_board cert) cells) c.cells.ensures in
@@ -39,7 +39,7 @@ returns-clause-conditions c =
     let row : c.self.inside.row ≡ s.row = ap (λ (x : SubjectView). x.row) c.self.view_is in
     let made : c.of.result ≡ ground_of c.self.inside.rom.now c.self.inside.map.now c.cells.result.now = c.of.ensures in
     let with_map : ground_of c.self.inside.rom.now c.self.inside.map.now c.cells.result.now
-        ≡ ground_of c.self.inside.rom.now (map_of_board cert) c.cells.result.now =
+    ≡ ground_of c.self.inside.rom.now (map_of_board cert) c.cells.result.now =
     ap (λ (m : MapView). ground_of c.self.inside.rom.now m c.cells.result.now) c.self.invariant.1 in
     let with_cells : ground_of c.self.inside.rom.now (map_of_board cert) c.cells.result.now ≡ ground_for c.self.inside.rom.now cert =
     ap (λ (cells : List KeptCell). ground_of c.self.inside.rom.now (map_of_board cert) cells) c.cells.ensures in

@@ -1,7 +1,7 @@
 // The effect of a call together with the run of its callee.
 
 ghost use Rattle.std.specs.Prelude.{◌≡◌};
-ghost use Rattle.check_ways.specs.Ways.{effect_back, effect_by_origins, effect_of_call, high_from, low_from, returned_change, word_from};
+ghost use Rattle.check_steps.specs.Returned.{effect_back, effect_by_origins, effect_of_call, high_from, low_from, returned_change, word_from};
 
 use abs_state::AbsState;
 use cert_lines::Version;

@@ -1,10 +1,13 @@
 // What the refined step says beside its answer.
 
 ghost use Rattle.std.specs.Prelude.{◌≡◌};
-ghost use Rattle.check_ways.specs.Ways.{untold};
+ghost use Rattle.check_steps.specs.Told.{refined_by, untold};
 
+use cert_lines::Version;
+use check_cover::Refinement;
 use flag_conditions::StepConditions;
 use linear_effects::LinearEffect;
+use loop_bounds::Effect;
 use std::marker::Model;
 
 /// What the refined step says beside its answer (docs/CHECKER.md, "The refined step").
@@ -17,7 +20,7 @@ pub struct StepTold {
 }
 
 impl Model for StepTold {
-    ghost use Rattle.check_ways.specs.Ways.{StepToldView};
+    ghost use Rattle.check_steps.specs.Told.{StepToldView};
 
     ghost Value = { StepToldView };
 
@@ -28,12 +31,30 @@ impl Model for StepTold {
 
 impl StepTold {
     /// No linear effect and no conditions.
-    pub(crate) fn none() -> StepTold
+    pub fn none() -> StepTold
         ensures { result ≡ untold }
     {
         StepTold {
             linear: None,
             conditions: StepConditions::none(),
         }
+    }
+}
+
+/// What an arrival has beside its effect: nothing before version 3.
+pub fn refinement<'s>(
+    version: Version,
+    told: &'s StepTold,
+    moved: &'s Effect,
+) -> Option<Refinement<'s>>
+    ensures { result ≡ refined_by version told.now moved.now }
+{
+    match version {
+        Version::One | Version::Two => None,
+        Version::Three => Some(Refinement {
+            moved,
+            linear: &told.linear,
+            conditions: &told.conditions,
+        }),
     }
 }
