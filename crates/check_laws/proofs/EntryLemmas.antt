@@ -27,7 +27,7 @@ use Rattle.cert_form.specs.Contents.{CertificateView}
 use Rattle.cert_lines.specs.declared.version.Version.{Version}
 use Rattle.cert_lines.specs.declared.version.Version.TheVariants.{One, Two, Three}
 use Rattle.cert_form.specs.Form.{IsInForm}
-use Rattle.check_steps.specs.Told.{refined_by, untold}
+use Rattle.check_steps.specs.Told.{refinement_by, untold}
 use Rattle.check_ways.specs.Ways.{SubjectView, arrival_at_entry as entry_arrival}
 use Rattle.check_laws.specs.Comes.{CameBy, CameRefinedIfSome, Comes, Steps, entered}
 use Rattle.check_laws.specs.RowHolds.{IsHeld}
@@ -134,7 +134,7 @@ entered_values effect before now came (Slot number part) there = absurd (omega (
 entered_values effect before now came v there = came v tt
 
 -- an arrival of which nothing is told but where its values come from
-pub untold_came : (version : Version) (moved : Effect) (before now : Seen) → CameBy moved before now → CameRefinedIfSome (refined_by version untold moved) before now
+pub untold_came : (version : Version) (moved : Effect) (before now : Seen) → CameBy moved before now → CameRefinedIfSome (refinement_by version untold moved) before now
 untold_came One moved before now came = tt
 untold_came Two moved before now came = tt
 untold_came Three moved before now came = record {

@@ -56,7 +56,7 @@ use Rattle.check_laws.specs.Chain.{Awaits, Chain, Has, AcceptsInForm, Waiting, l
 use Rattle.check_laws.specs.Placed.{Activations, ArePlaced, IsMainOrTimed, Under, seen_by}
 use Rattle.check_laws.specs.Steps.{Executed, Leaves, Stays, TakesInstruction, at_board, leaves, stays}
 use Rattle.check_laws.proofs.Depth.{chain_timed}
-use Rattle.check_laws.proofs.Going.{Entering, IsTold, after, deep, entering, goes, numbers_after, running, stands, told_came}
+use Rattle.check_laws.proofs.Going.{Entering, IsTrueOfStep, after, deep, entering, goes, numbers_after, running, stands, told_came}
 use Rattle.check_laws.proofs.Judging.{Judged, judge, subject_of}
 use Rattle.check_laws.proofs.Procs.{nmi_covered, set_covered, sub_not_main}
 use Rattle.check_laws.proofs.RestartLemmas.{restart_executes}
@@ -152,7 +152,7 @@ module _ (rom : List ℕ) (cert : CertificateView) (acc : AcceptsInForm rom cert
   pays_here b = j.consistent reasons.Time b
 
   abbrev ToldHere : Type 0
-  ToldHere = IsTold rom cert acc lowest under u c s env numbers is_env p j cert.version
+  ToldHere = IsTrueOfStep rom cert acc lowest under u c s env numbers is_env p j cert.version
 
   steps : (n : Next) (words : List ℕ) → Holds n.state cert.cells c.entry (seen_of cert.cells words new) → CameBy n.effect old_seen (seen_of cert.cells words new) → CameBy n.moved old_seen (seen_of cert.cells words new) → ToldHere
       → Steps here n c.entry old_seen (seen_of cert.cells words new)

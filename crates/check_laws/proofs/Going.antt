@@ -45,7 +45,7 @@ use Rattle.cert_lines.specs.declared.version.Version.{Version}
 use Rattle.cert_lines.specs.declared.version.Version.TheVariants.{One, Two, Three}
 use Rattle.cert_form.specs.Contents.{CertificateView, map_of_board}
 use Rattle.check_rules.specs.Table.{HasNoStack, FitsDepth, entry_bytes}
-use Rattle.check_steps.specs.Told.{refined_by}
+use Rattle.check_steps.specs.Told.{refinement_by}
 use Rattle.check_ways.specs.Ways.{CallsCallee, EntersCallee, GoesOn, SubjectView, arrival_at_entry as entry_arrival, nexts_from, restarts, step_by, told_of, writes_from}
 use Rattle.check_laws.proofs.EntryLemmas.{all_own}
 use Rattle.check_laws.proofs.InForm.{RowInForm, parts_in_form, row_in_form}
@@ -150,10 +150,10 @@ module _ (rom : List ℕ) (cert : CertificateView) (acc : AcceptsInForm rom cert
   }
 
   -- what version 3 tells of the step is true
-  abbrev pub IsTold : Version → Type 0
-  IsTold One = Unit {0}
-  IsTold Two = Unit {0}
-  IsTold Three = AreTrueOfStep (told_of subject (Ok j.instr)).conditions (told_of subject (Ok j.instr)).linear (seen_by cert c s) (done (at_board rom cert s env) j.instr).regs
+  abbrev pub IsTrueOfStep : Version → Type 0
+  IsTrueOfStep One = Unit {0}
+  IsTrueOfStep Two = Unit {0}
+  IsTrueOfStep Three = AreTrueOfStep (told_of subject (Ok j.instr)).conditions (told_of subject (Ok j.instr)).linear (seen_by cert c s) (done (at_board rom cert s env) j.instr).regs
 
   abbrev AfterHere : Type 0
   AfterHere = After cert.cells cert.region running c.row.state j.instr (writes_from subject) (nexts_from subject) (at_board rom cert s env)
@@ -172,7 +172,7 @@ module _ (rom : List ℕ) (cert : CertificateView) (acc : AcceptsInForm rom cert
   byte_here : RangeView
   byte_here = operand_of (ground_for rom cert) c.row.address (is_inline cert c.row.address) c.row.state j.instr
 
-  after_by : (version : Version) → step_by version subject j.instr ≡ Ok (nexts_from subject) → restarts subject ≡ false → AfterHere × IsTold version
+  after_by : (version : Version) → step_by version subject j.instr ≡ Ok (nexts_from subject) → restarts subject ≡ false → AfterHere × IsTrueOfStep version
   unfolding carry_here byte_here
   after_by One step plain = (keeps (ground_for rom cert) c.row.address (is_main c.row.proc) (is_inline cert c.row.address) c.row.state j.instr (nexts_from subject) in_form_here.short.shape j.stands step cert.region running (at_board rom cert s env) refl p.pc refl is_before (in_order plain), tt)
   after_by Two step plain = (keeps (ground_for rom cert) c.row.address (is_main c.row.proc) (is_inline cert c.row.address) c.row.state j.instr (nexts_from subject) in_form_here.short.shape j.stands step cert.region running (at_board rom cert s env) refl p.pc refl is_before (in_order plain), tt)
@@ -184,7 +184,7 @@ module _ (rom : List ℕ) (cert : CertificateView) (acc : AcceptsInForm rom cert
       (λ condition is. narrows_here condition) j.stands cert.region running (at_board rom cert s env) refl p.pc refl is_before p.holds.parts (in_order plain)
 
   -- what the instruction makes of the board, and what is told of it
-  pub after : restarts subject ≡ false → AfterHere × IsTold cert.version
+  pub after : restarts subject ≡ false → AfterHere × IsTrueOfStep cert.version
   after plain = after_by cert.version j.step plain
 
   becomes_at : (o : Option LinearEffect) (old now : Seen) (new : Regs) → now.regs ≡ new → IfSome o (λ e. (n : Seen) → n.regs ≡ new → pos (value_in n e.variable) ≡ value_at old e.linear) → IfSome o (λ e. pos (value_in now e.variable) ≡ value_at old e.linear)
@@ -192,8 +192,8 @@ module _ (rom : List ℕ) (cert : CertificateView) (acc : AcceptsInForm rom cert
   becomes_at (Some e) old now new same h = h now same
 
   -- so an arrival after the step has it too
-  pub told_came : (version : Version) → IsTold version → (moved : Effect) (words : List ℕ) → CameBy moved (seen_by cert c s) (seen_of cert.cells words (done (at_board rom cert s env) j.instr))
-      → CameRefinedIfSome (refined_by version (told_of subject (Ok j.instr)) moved) (seen_by cert c s) (seen_of cert.cells words (done (at_board rom cert s env) j.instr))
+  pub told_came : (version : Version) → IsTrueOfStep version → (moved : Effect) (words : List ℕ) → CameBy moved (seen_by cert c s) (seen_of cert.cells words (done (at_board rom cert s env) j.instr))
+      → CameRefinedIfSome (refinement_by version (told_of subject (Ok j.instr)) moved) (seen_by cert c s) (seen_of cert.cells words (done (at_board rom cert s env) j.instr))
   told_came One told moved words came = tt
   told_came Two told moved words came = tt
   told_came Three told moved words came = record {

@@ -67,7 +67,7 @@ use Rattle.check_rules.specs.Table.{IsTimed}
 use Rattle.check_steps.specs.Restarts.{restarted}
 use Rattle.check_ways.specs.Ways.{IsWay, SubjectView, jump_way, nexts_from, restarts, step_by, told_of, writes_from}
 use Rattle.check_laws.proofs.Depth.{chain_timed}
-use Rattle.check_laws.proofs.Going.{IsTold, goes, is_before, numbers_after, running, stands, told_came}
+use Rattle.check_laws.proofs.Going.{IsTrueOfStep, goes, is_before, numbers_after, running, stands, told_came}
 use Rattle.check_laws.proofs.Judging.{Judged, subject_of}
 use Rattle.check_laws.proofs.Narrowing.{tells_carry}
 use Rattle.check_laws.proofs.Procs.{nmi_covered, sub_not_main}
@@ -246,8 +246,8 @@ module _ (rom : List ℕ) (cert : CertificateView) (acc : AcceptsInForm rom cert
         subst (λ (o : Option LinearEffect). AreTrueOfStep (told_of here_subject (Ok j.instr)).conditions o old_seen new.regs) (sym (no_effect ground c.row.address inline_here j.instr c.row.parts c.row.state cert.region.top r.loads))
         (subst (λ (q : Regs). AreTrueOfStep (told_of here_subject (Ok j.instr)).conditions None old_seen q) (sym same) at_draft)
 
-    is_told : IsTold rom cert acc lowest under u c s env numbers is_env p j cert.version
-    is_told = subst (λ (v : Version). IsTold rom cert acc lowest under u c s env numbers is_env p j v) (sym r.version_is) truths
+    is_told : IsTrueOfStep rom cert acc lowest under u c s env numbers is_env p j cert.version
+    is_told = subst (λ (v : Version). IsTrueOfStep rom cert acc lowest under u c s env numbers is_env p j v) (sym r.version_is) truths
 
     abbrev after : Seen
     after = seen_of cert.cells c.words new

@@ -44,8 +44,8 @@ use Rattle.check_cover.specs.Covering.{Covered}
 use Rattle.check_cover.specs.declared.program.Callee.{Callee}
 use Rattle.cert_form.specs.Form.{IsInForm}
 use Rattle.check_steps.specs.Restarts.{restarted, restarts_by}
-use Rattle.check_steps.specs.Returned.{effect_back, effect_by_origins, effect_of_call, high_from, low_from, returned_change, word_from}
-use Rattle.check_steps.specs.Told.{refined_by}
+use Rattle.check_steps.specs.Returned.{effect_back, effect_by_origins, effect_of_call, high_by_origin, low_by_origin, returned_change, word_by_origin}
+use Rattle.check_steps.specs.Told.{refinement_by}
 use Rattle.check_ways.specs.Ways.{SubjectView, behind_of, jump_way, restarts, return_way, told_of}
 use Rattle.check_laws.specs.Comes.{CameBy, CameRefined, CameRefinedIfSome, Exits, Steps, entered, resumed}
 use Rattle.check_laws.specs.RowHolds.{IsHeld}
@@ -124,7 +124,7 @@ module _ (e : Effect) (exit : AbsState) (before at now : Seen) (came : CameBy e 
 
 -- a pair's value at the exit is that of its origin at the call
 module _ (e : Effect) (before at : Seen) (came : CameBy e before at) (i : IsRegs at.regs) where
-  word_came : (o : Option RegPair) (n : ℕ) → IfSome o (λ r. n ≡ entry_of at.regs r) → FollowsChange (word_from e o) (value_in before) n
+  word_came : (o : Option RegPair) (n : ℕ) → IfSome o (λ r. n ≡ entry_of at.regs r) → FollowsChange (word_by_origin e o) (value_in before) n
   word_came (Some Bc) n h = subst (FollowsChange e.bc (value_in before)) (sym h) (came variables.Bc tt)
   word_came (Some De) n h = subst (FollowsChange e.de (value_in before)) (sym h) (came variables.De tt)
   word_came (Some Hl) n h = subst (FollowsChange e.hl (value_in before)) (sym h) (came variables.Hl tt)
@@ -132,14 +132,14 @@ module _ (e : Effect) (before at : Seen) (came : CameBy e before at) (i : IsRegs
   word_came (Some Iy) n h = subst (FollowsChange e.iy (value_in before)) (sym h) (came variables.Iy tt)
   word_came _ n h = refl
 
-  high_came : (o : Option RegPair) (high low : ℕ) → low < 256 → IfSome o (λ r. word_of high low ≡ entry_of at.regs r) → FollowsChange (high_from e o) (value_in before) high
+  high_came : (o : Option RegPair) (high low : ℕ) → low < 256 → IfSome o (λ r. word_of high low ≡ entry_of at.regs r) → FollowsChange (high_by_origin e o) (value_in before) high
   high_came (Some Af) high low small h = subst (FollowsChange e.a (value_in before)) (same_high _ _ _ _ small i.main.f h) (came variables.A tt)
   high_came (Some Bc) high low small h = subst (FollowsChange e.b (value_in before)) (same_high _ _ _ _ small i.main.c h) (came variables.B tt)
   high_came (Some De) high low small h = subst (FollowsChange e.d (value_in before)) (same_high _ _ _ _ small i.main.e h) (came variables.D tt)
   high_came (Some Hl) high low small h = subst (FollowsChange e.h (value_in before)) (same_high _ _ _ _ small i.main.l h) (came variables.H tt)
   high_came _ high low small h = refl
 
-  low_came : (o : Option RegPair) (high low : ℕ) → low < 256 → IfSome o (λ r. word_of high low ≡ entry_of at.regs r) → FollowsChange (low_from e o) (value_in before) low
+  low_came : (o : Option RegPair) (high low : ℕ) → low < 256 → IfSome o (λ r. word_of high low ≡ entry_of at.regs r) → FollowsChange (low_by_origin e o) (value_in before) low
   low_came (Some Bc) high low small h = subst (FollowsChange e.c (value_in before)) (same_low _ _ _ _ small i.main.c h) (came variables.C tt)
   low_came (Some De) high low small h = subst (FollowsChange e.e (value_in before)) (same_low _ _ _ _ small i.main.e h) (came variables.E tt)
   low_came (Some Hl) high low small h = subst (FollowsChange e.l (value_in before)) (same_low _ _ _ _ small i.main.l h) (came variables.L tt)
@@ -212,8 +212,8 @@ load_refined s moved nn before now h = record {
   registers = h.registers;
 }
 
-restart_refined : (s : SubjectView) (moved : Effect) (before now : Seen) (version : Version) (decoded : Result Instr DecodeFault) → restarts_by version s.proc s.cert.region.top decoded ≡ true → CameRefinedIfSome (refined_by version (told_of s decoded) moved) before now
-    → CameRefinedIfSome (refined_by version (told_of s decoded) moved) before (entered now)
+restart_refined : (s : SubjectView) (moved : Effect) (before now : Seen) (version : Version) (decoded : Result Instr DecodeFault) → restarts_by version s.proc s.cert.region.top decoded ≡ true → CameRefinedIfSome (refinement_by version (told_of s decoded) moved) before now
+    → CameRefinedIfSome (refinement_by version (told_of s decoded) moved) before (entered now)
 restart_refined s moved before now One decoded e h = tt
 restart_refined s moved before now Two decoded e h = tt
 restart_refined s moved before now Three (Err fault) e h = missing _ e

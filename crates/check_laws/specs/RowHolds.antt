@@ -1,5 +1,5 @@
--- When a row of a certificate holds: its state holds, its facts are 0 and its flag parts are seen (docs/CHECKER.md, "What
--- a row knows").
+-- When a row of a certificate holds: its state holds, its facts are 0 and its flag parts are true (docs/CHECKER.md,
+-- "What a row knows").
 use Rattle.std.specs.Prelude.{ℕ, ◌≡◌, true, List, ℤ, pos}
 use Rattle.std.specs.List.{All}
 use Rattle.intervals.specs.Domain.{Entry}

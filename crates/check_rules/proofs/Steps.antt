@@ -9,7 +9,7 @@ use Rattle.abs_step.specs.declared.reason.Reason.TheVariants as reasons
 use Rattle.check_cover.specs.Program.{ground_for, is_inline, is_main}
 use Rattle.check_rules.specs.Table.{FitsDepth, IsLowest, PassesBelow, bytes_in}
 use Rattle.check_rules.proofs.Order.{begins, decode_passes, passes}
-use Rattle.check_ways.specs.Ways.{SubjectView, nexts_from, nexts_in, step_by, step_from, step_of}
+use Rattle.check_ways.specs.Ways.{SubjectView, nexts_from, nexts_in, step_by, step_for, step_of}
 use Rattle.cert_lines.specs.declared.version.Version.{Version}
 use Rattle.cert_lines.specs.declared.version.Version.TheVariants.{One, Two, Three}
 use Rattle.refined_step.specs.Refined.{refined_nexts}
@@ -54,13 +54,13 @@ refused s r e = by s.decoded refl e
         among_four s instr
         (refined_nexts (ground_for s.rom s.cert) s.row.address (is_main s.row.proc) (is_inline s.cert s.row.address) instr s.row.parts s.row.state) r e
 
-    by : (d : Result Instr DecodeFault) → s.decoded ≡ d → step_from s d ≡ Err r → Refuses s r
+    by : (d : Result Instr DecodeFault) → s.decoded ≡ d → step_for s d ≡ Err r → Refuses s r
     by (Err fault) is e = undecoded fault is (cc)
     by (Ok instr) is e = by_version s.cert.version instr e
 
 -- where no instruction stands, the step answers so
 undecoded_step : (s : SubjectView) (fault : DecodeFault) → s.decoded ≡ Err fault → step_of s ≡ Err (reasons.Decode fault)
-undecoded_step s fault is = ap (step_from s) is
+undecoded_step s fault is = ap (step_for s) is
 
 -- where the step gives successors, no reason up to 5 applies to the row
 pub leads_on : (s : SubjectView) (nexts : List Next) → step_of s ≡ Ok nexts → PassesBelow s 6

@@ -25,8 +25,8 @@ use Rattle.check_rules.specs.Table.{HasNoStack, IsConsistent, FitsDepth, IsLowes
 use Rattle.check_ways.specs.Pays.{LeadsToRow, Pays, PaysCall}
 use Rattle.check_steps.specs.Restarts.{restarted, restarts_by}
 use Rattle.check_steps.specs.Returned.{effect_back, effect_of_call}
-use Rattle.check_steps.specs.Told.{StepToldView, refined_by, untold}
-use Rattle.check_ways.specs.Ways.{CallsCallee, EntersCallee, GoesOn, IsExit, IsSubject, IsWay, SubjectView, WayView, arrival_at_entry, behind_of, call_cost, jump_way, nexts_from, nexts_in, restarts, return_way, step_by, step_from, step_of, told_of}
+use Rattle.check_steps.specs.Told.{StepToldView, refinement_by, untold}
+use Rattle.check_ways.specs.Ways.{CallsCallee, EntersCallee, GoesOn, IsExit, IsSubject, IsWay, SubjectView, WayView, arrival_at_entry, behind_of, call_cost, jump_way, nexts_from, nexts_in, restarts, return_way, step_by, step_for, step_of, told_of}
 use Rattle.loop_bounds.specs.Effect.{unchanged}
 use Rattle.loop_bounds.specs.declared.effect.Effect.{Effect}
 use Rattle.z80_decode.specs.declared.fault.DecodeFault.{DecodeFault}
@@ -68,7 +68,7 @@ IsEarly Two = Unit {0}
 IsEarly Three = ⊥
 
 -- no arrival has more than an effect
-plain_arrival : (v : Version) (told : StepToldView) (effect : Effect) → IsEarly v → refined_by v told effect ≡ None
+plain_arrival : (v : Version) (told : StepToldView) (effect : Effect) → IsEarly v → refinement_by v told effect ≡ None
 plain_arrival One told effect early = refl
 plain_arrival Two told effect early = refl
 plain_arrival Three told effect early = absurd early
@@ -99,7 +99,7 @@ plain_step Three s instr early = absurd early
 same_step : (v : Version) (s : SubjectView) → IsEarly s.cert.version → IsEarly v → step_of s ≡ step_of (moved v s)
 same_step v s old new = by s.decoded
   where
-    by : (decoded : Result Instr DecodeFault) → step_from s decoded ≡ step_from (moved v s) decoded
+    by : (decoded : Result Instr DecodeFault) → step_for s decoded ≡ step_for (moved v s) decoded
     by (Err fault) = refl
     by (Ok instr) = plain_step s.cert.version s instr old ∙ sym (plain_step v (moved v s) instr new)
 
@@ -129,7 +129,7 @@ jump_by s next restarted_there refined = record {
 
 plain_jump : (s : SubjectView) (next : Next) → IsEarly s.cert.version → jump_way s next ≡ jump_by s next false None
 plain_jump s next early =
-    ap (λ (b : Bool). jump_by s next b (refined_by s.cert.version (told_of s s.decoded) next.moved))
+    ap (λ (b : Bool). jump_by s next b (refinement_by s.cert.version (told_of s s.decoded) next.moved))
     (never_restarts s.cert.version s.proc s.cert.region.top s.decoded early)
     ∙ ap (λ (r : Option RefinementView). jump_by s next false r) (plain_arrival s.cert.version (told_of s s.decoded) next.moved early)
 
@@ -154,7 +154,7 @@ plain_return : (s : SubjectView) (next : Next) (callee : Callee) (exit : AbsStat
     return_way s next callee exit ≡ return_by s next callee exit (effect_of_call next.effect exit) None
 plain_return s next callee exit early =
     let moved_back = effect_back s.cert.version next.moved exit in
-    ap (λ (e : Effect). return_by s next callee exit e (refined_by s.cert.version untold moved_back)) (plain_back s.cert.version next.effect exit early)
+    ap (λ (e : Effect). return_by s next callee exit e (refinement_by s.cert.version untold moved_back)) (plain_back s.cert.version next.effect exit early)
     ∙ ap (λ (r : Option RefinementView). return_by s next callee exit (effect_of_call next.effect exit) r)
     (plain_arrival s.cert.version untold moved_back early)
 

@@ -2,8 +2,7 @@
 
 ghost use Rattle.std.specs.Prelude.{◌≡◌, OnOk, IfErr, Ok, Err};
 ghost use Rattle.check_rules.specs.Table.{IsConsistent, IsLowest, PassesBelow, TellsLowest};
-ghost use Rattle.cert_lines.specs.declared.version.Version.TheVariants.{Three};
-ghost use Rattle.check_ways.specs.Ways.{step_of, told_of, writes_from};
+ghost use Rattle.check_ways.specs.Ways.{IsTold, step_of, writes_from};
 
 use crate::instructions::{check_instruction, is_timed};
 use crate::saved::check_saved;
@@ -66,7 +65,7 @@ fn check_going(
     told: &StepTold,
     coverer: &mut Coverer,
 ) -> Result<(), Reason>
-    requires told { subject.now.cert.version ≡ Three → told.now ≡ told_of subject.now subject.now.decoded }
+    requires told { IsTold subject.now told.now }
     requires step { step_of subject.now ≡ Ok nexts.now }
     requires writes { writes.now ≡ writes_from subject.now }
     requires coverer { coverer.old ≡ subject.now.cert }
@@ -89,7 +88,7 @@ fn check_ways(
     told: &StepTold,
     coverer: &mut Coverer,
 ) -> Result<(), Reason>
-    requires told { subject.now.cert.version ≡ Three → told.now ≡ told_of subject.now subject.now.decoded }
+    requires told { IsTold subject.now told.now }
     requires step { step_of subject.now ≡ Ok nexts.now }
     requires coverer { coverer.old ≡ subject.now.cert }
     requires below { PassesBelow subject.now 9 }
@@ -110,7 +109,7 @@ fn check_ways(
 
 /// Reason 17: a row of a timed procedure has to pay.
 fn check_time(subject: &Subject, nexts: &[Next], told: &StepTold) -> Result<(), Reason>
-    requires told { subject.now.cert.version ≡ Three → told.now ≡ told_of subject.now subject.now.decoded }
+    requires told { IsTold subject.now told.now }
     requires step { step_of subject.now ≡ Ok nexts.now }
     requires below { PassesBelow subject.now 17 }
     ensures { TellsLowest subject.now 19 result }

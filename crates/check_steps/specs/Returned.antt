@@ -38,41 +38,41 @@ effect_of_call e exit = record {
 }
 
 -- in version 3 the change of a pair over the callee's run is that of its origin in the call, whichever pair that is
-abbrev pub word_from : Effect → Option RegPair → Change
-word_from e (Some Bc) = e.bc
-word_from e (Some De) = e.de
-word_from e (Some Hl) = e.hl
-word_from e (Some Ix) = e.ix
-word_from e (Some Iy) = e.iy
-word_from e _ = Unknown
+abbrev pub word_by_origin : Effect → Option RegPair → Change
+word_by_origin e (Some Bc) = e.bc
+word_by_origin e (Some De) = e.de
+word_by_origin e (Some Hl) = e.hl
+word_by_origin e (Some Ix) = e.ix
+word_by_origin e (Some Iy) = e.iy
+word_by_origin e _ = Unknown
 
-abbrev pub high_from : Effect → Option RegPair → Change
-high_from e (Some Af) = e.a
-high_from e (Some Bc) = e.b
-high_from e (Some De) = e.d
-high_from e (Some Hl) = e.h
-high_from e _ = Unknown
+abbrev pub high_by_origin : Effect → Option RegPair → Change
+high_by_origin e (Some Af) = e.a
+high_by_origin e (Some Bc) = e.b
+high_by_origin e (Some De) = e.d
+high_by_origin e (Some Hl) = e.h
+high_by_origin e _ = Unknown
 
-abbrev pub low_from : Effect → Option RegPair → Change
-low_from e (Some Bc) = e.c
-low_from e (Some De) = e.e
-low_from e (Some Hl) = e.l
-low_from e _ = Unknown
+abbrev pub low_by_origin : Effect → Option RegPair → Change
+low_by_origin e (Some Bc) = e.c
+low_by_origin e (Some De) = e.e
+low_by_origin e (Some Hl) = e.l
+low_by_origin e _ = Unknown
 
 abbrev pub effect_by_origins : Effect → AbsState → Effect
 effect_by_origins e exit = record {
-  a = high_from e exit.pairs.af.origin;
-  b = high_from e exit.pairs.bc.origin;
-  c = low_from e exit.pairs.bc.origin;
-  d = high_from e exit.pairs.de.origin;
-  e = low_from e exit.pairs.de.origin;
-  h = high_from e exit.pairs.hl.origin;
-  l = low_from e exit.pairs.hl.origin;
-  bc = word_from e exit.pairs.bc.origin;
-  de = word_from e exit.pairs.de.origin;
-  hl = word_from e exit.pairs.hl.origin;
-  ix = word_from e exit.pairs.ix.origin;
-  iy = word_from e exit.pairs.iy.origin;
+  a = high_by_origin e exit.pairs.af.origin;
+  b = high_by_origin e exit.pairs.bc.origin;
+  c = low_by_origin e exit.pairs.bc.origin;
+  d = high_by_origin e exit.pairs.de.origin;
+  e = low_by_origin e exit.pairs.de.origin;
+  h = high_by_origin e exit.pairs.hl.origin;
+  l = low_by_origin e exit.pairs.hl.origin;
+  bc = word_by_origin e exit.pairs.bc.origin;
+  de = word_by_origin e exit.pairs.de.origin;
+  hl = word_by_origin e exit.pairs.hl.origin;
+  ix = word_by_origin e exit.pairs.ix.origin;
+  iy = word_by_origin e exit.pairs.iy.origin;
   slot = e.slot;
 }
 

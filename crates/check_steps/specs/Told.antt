@@ -17,7 +17,7 @@ abbrev pub untold : StepToldView
 untold = record { linear = None; conditions = record { before = []; after = [] } }
 
 -- what an arrival has beside its effect: in version 3 what the step says and the effect without priority for constants
-abbrev pub refined_by : Version → StepToldView → Effect → Option RefinementView
-refined_by One told moved = None
-refined_by Two told moved = None
-refined_by Three told moved = Some (record { moved = moved; linear = told.linear; conditions = told.conditions })
+abbrev pub refinement_by : Version → StepToldView → Effect → Option RefinementView
+refinement_by One told moved = None
+refinement_by Two told moved = None
+refinement_by Three told moved = Some (record { moved = moved; linear = told.linear; conditions = told.conditions })

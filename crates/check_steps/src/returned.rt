@@ -1,7 +1,7 @@
 // The effect of a call together with the run of its callee.
 
 ghost use Rattle.std.specs.Prelude.{◌≡◌};
-ghost use Rattle.check_steps.specs.Returned.{effect_back, effect_by_origins, effect_of_call, high_from, low_from, returned_change, word_from};
+ghost use Rattle.check_steps.specs.Returned.{effect_back, effect_by_origins, effect_of_call, high_by_origin, low_by_origin, returned_change, word_by_origin};
 
 use abs_state::AbsState;
 use cert_lines::Version;
@@ -51,8 +51,8 @@ fn returned_change(pair: RegPair, origin: Option<RegPair>, change: Change) -> Ch
 }
 
 /// The change of the word of a pair in a call; unknown without an origin, and for a pair that is no variable.
-fn word_from(effect: &Effect, origin: Option<RegPair>) -> Change
-    ensures { result ≡ word_from effect.now origin }
+fn word_by_origin(effect: &Effect, origin: Option<RegPair>) -> Change
+    ensures { result ≡ word_by_origin effect.now origin }
 {
     match origin {
         Some(RegPair::Bc) => effect.bc,
@@ -65,8 +65,8 @@ fn word_from(effect: &Effect, origin: Option<RegPair>) -> Change
 }
 
 /// The same for its high byte.
-fn high_from(effect: &Effect, origin: Option<RegPair>) -> Change
-    ensures { result ≡ high_from effect.now origin }
+fn high_by_origin(effect: &Effect, origin: Option<RegPair>) -> Change
+    ensures { result ≡ high_by_origin effect.now origin }
 {
     match origin {
         Some(RegPair::Af) => effect.a,
@@ -78,8 +78,8 @@ fn high_from(effect: &Effect, origin: Option<RegPair>) -> Change
 }
 
 /// The same for its low byte.
-fn low_from(effect: &Effect, origin: Option<RegPair>) -> Change
-    ensures { result ≡ low_from effect.now origin }
+fn low_by_origin(effect: &Effect, origin: Option<RegPair>) -> Change
+    ensures { result ≡ low_by_origin effect.now origin }
 {
     match origin {
         Some(RegPair::Bc) => effect.c,
@@ -98,18 +98,18 @@ fn effect_by_origins(effect: &Effect, exit: &AbsState) -> Effect
     let de = pairs.de.origin;
     let hl = pairs.hl.origin;
     Effect {
-        a: high_from(effect, pairs.af.origin),
-        b: high_from(effect, bc),
-        c: low_from(effect, bc),
-        d: high_from(effect, de),
-        e: low_from(effect, de),
-        h: high_from(effect, hl),
-        l: low_from(effect, hl),
-        bc: word_from(effect, bc),
-        de: word_from(effect, de),
-        hl: word_from(effect, hl),
-        ix: word_from(effect, pairs.ix.origin),
-        iy: word_from(effect, pairs.iy.origin),
+        a: high_by_origin(effect, pairs.af.origin),
+        b: high_by_origin(effect, bc),
+        c: low_by_origin(effect, bc),
+        d: high_by_origin(effect, de),
+        e: low_by_origin(effect, de),
+        h: high_by_origin(effect, hl),
+        l: low_by_origin(effect, hl),
+        bc: word_by_origin(effect, bc),
+        de: word_by_origin(effect, de),
+        hl: word_by_origin(effect, hl),
+        ix: word_by_origin(effect, pairs.ix.origin),
+        iy: word_by_origin(effect, pairs.iy.origin),
         slot: effect.slot,
     }
 }

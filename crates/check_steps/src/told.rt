@@ -1,7 +1,7 @@
 // What the refined step says beside its answer.
 
 ghost use Rattle.std.specs.Prelude.{◌≡◌};
-ghost use Rattle.check_steps.specs.Told.{refined_by, untold};
+ghost use Rattle.check_steps.specs.Told.{refinement_by, untold};
 
 use cert_lines::Version;
 use check_cover::Refinement;
@@ -47,7 +47,7 @@ pub fn refinement<'s>(
     told: &'s StepTold,
     moved: &'s Effect,
 ) -> Option<Refinement<'s>>
-    ensures { result ≡ refined_by version told.now moved.now }
+    ensures { result ≡ refinement_by version told.now moved.now }
 {
     match version {
         Version::One | Version::Two => None,

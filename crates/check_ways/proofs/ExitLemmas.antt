@@ -24,7 +24,7 @@ use Rattle.cert_lines.specs.declared.version.Version.{Version}
 use Rattle.cert_lines.specs.declared.version.Version.TheVariants.{One, Two, Three}
 use Rattle.cert_form.specs.Contents.{CertificateView}
 use Rattle.check_ways.specs.Parts.{AnyExit, AtEachExit, AtSomeExit, AreExitsOf, HasNoExit, IsExitAt, IsExitIn, IsOnlyExit, OnEachExit, OnSomeExit, may_leave}
-use Rattle.check_ways.specs.Ways.{SubjectView, IsExit, IsNumbered, nexts_from, nexts_in, step_by, step_from, step_of}
+use Rattle.check_ways.specs.Ways.{SubjectView, IsExit, IsNumbered, nexts_from, nexts_in, step_by, step_for, step_of}
 use Rattle.flag_letters.specs.declared.part.FlagPart.{FlagPart}
 use Rattle.flag_parts.specs.Narrowing.{narrowed}
 use Rattle.intervals.specs.Range.{RangeView}
@@ -265,7 +265,7 @@ leaves_of s exit leaves = by s.decoded leaves
     by_version Three instr h =
         refined_leaves (ground_for s.rom s.cert) s.row.address (is_main s.row.proc) (is_inline s.cert s.row.address) instr s.row.parts s.row.state exit h
 
-    by : (decoded : Result Instr DecodeFault) → IsExitIn (nexts_in (step_from s decoded)) exit → may_leave s.row.state decoded ≡ true
+    by : (decoded : Result Instr DecodeFault) → IsExitIn (nexts_in (step_for s decoded)) exit → may_leave s.row.state decoded ≡ true
     by (Err fault) h = absurd (no_exit_in exit h)
     by (Ok instr) h = by_version s.cert.version instr h
 

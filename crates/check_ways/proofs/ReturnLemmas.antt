@@ -33,7 +33,7 @@ use Rattle.cert_form.specs.Form.{IsInForm, IsRowOf}
 use Rattle.check_ways.proofs.ExitLemmas.{exit_way, leaves_by, no_exit_in, none_in, refined_leaves, stated}
 use Rattle.check_ways.proofs.SubjectLemmas.{each_at, row_has_proc, subject_at}
 use Rattle.check_ways.specs.Parts.{IsExitAt, IsExitIn, may_leave}
-use Rattle.check_ways.specs.Ways.{SubjectView, nexts_from, nexts_in, step_by, step_from}
+use Rattle.check_ways.specs.Ways.{SubjectView, nexts_from, nexts_in, step_by, step_for}
 use Rattle.check_tables.specs.Exits.{exit_by, is_at_end, state_left, state_where}
 use Rattle.flag_letters.specs.declared.part.FlagPart.{FlagPart}
 use Rattle.flag_parts.specs.Narrowing.{narrowed}
@@ -368,7 +368,7 @@ subject_tells s suits = by s.decoded
     by_version Three instr any =
         refines (ground_for s.rom s.cert) s.row.address (is_inline s.cert s.row.address) (is_main s.row.proc) s.row.parts s.row.state instr
 
-    by : (decoded : Result Instr DecodeFault) → Tells (nexts_in (step_from s decoded)) (exit_by (is_main s.row.proc) s.row.parts s.row.state decoded)
+    by : (decoded : Result Instr DecodeFault) → Tells (nexts_in (step_for s decoded)) (exit_by (is_main s.row.proc) s.row.parts s.row.state decoded)
     by (Err fault) = none_tells
     by (Ok instr) = by_version s.cert.version instr suits
 

@@ -25,7 +25,7 @@ use Rattle.z80_decode.specs.declared.instr.Instr.{Instr}
 use Rattle.refined_step.specs.Refined.{refined_answer, step_conditions, step_effect}
 use Rattle.check_steps.specs.Restarts.{restarted, restarts_by}
 use Rattle.check_steps.specs.Returned.{effect_back}
-use Rattle.check_steps.specs.Told.{StepToldView, refined_by, untold}
+use Rattle.check_steps.specs.Told.{StepToldView, refinement_by, untold}
 
 -- ---- rows
 
@@ -57,14 +57,14 @@ step_by Three s instr =
     refined_answer (ground_for s.rom s.cert) s.row.address (is_main s.row.proc) (is_inline s.cert s.row.address) instr s.row.parts s.row.state
 
 -- what the step answers for what is decoded at a row
-abbrev pub step_from : SubjectView → Result Instr DecodeFault → Result (List Next) Reason
-step_from s (Ok instr) = step_by s.cert.version s instr
-step_from s (Err fault) =
+abbrev pub step_for : SubjectView → Result Instr DecodeFault → Result (List Next) Reason
+step_for s (Ok instr) = step_by s.cert.version s instr
+step_for s (Err fault) =
     answer_of (ground_for s.rom s.cert) s.row.address (is_main s.row.proc) (is_inline s.cert s.row.address) s.row.state (Err fault)
 
 -- what the step answers for a row
 abbrev pub step_of : SubjectView → Result (List Next) Reason
-step_of s = step_from s s.decoded
+step_of s = step_for s s.decoded
 
 -- what the refined step says of what is decoded at a row
 abbrev pub told_of : SubjectView → Result Instr DecodeFault → StepToldView
@@ -73,6 +73,10 @@ told_of s (Ok instr) = record {
   conditions = step_conditions (ground_for s.rom s.cert) s.row.address (is_inline s.cert s.row.address) instr s.row.parts s.row.state;
 }
 told_of s (Err fault) = untold
+
+-- this is what the step says of the row; before version 3 anything is
+abbrev pub IsTold : SubjectView → StepToldView → Type 0
+IsTold s told = s.cert.version ≡ Three → told ≡ told_of s s.decoded
 
 -- the data writes of a row
 abbrev pub writes_from : SubjectView → List DataWrite
@@ -130,7 +134,7 @@ jump_to s next proc state = record {
     facts = s.row.facts;
     before = s.row.state;
     effect = next.effect;
-    refined = refined_by s.cert.version (told_of s s.decoded) next.moved;
+    refined = refinement_by s.cert.version (told_of s s.decoded) next.moved;
   };
   state = state;
   cost = next.cost;
@@ -148,7 +152,7 @@ arrival_at_entry s next callee = record {
   facts = s.row.facts;
   before = s.row.state;
   effect = next.effect;
-  refined = refined_by s.cert.version untold next.moved;
+  refined = refinement_by s.cert.version untold next.moved;
 }
 
 -- the address after what stands at a row's address
@@ -169,7 +173,7 @@ return_way s next callee exit = record {
     facts = s.row.facts;
     before = s.row.state;
     effect = settled (after_call next.state exit) (effect_back s.cert.version next.effect exit);
-    refined = refined_by s.cert.version untold (effect_back s.cert.version next.moved exit);
+    refined = refinement_by s.cert.version untold (effect_back s.cert.version next.moved exit);
   };
   state = after_call next.state exit;
   cost = call_cost next callee;

@@ -6,8 +6,7 @@ ghost use Rattle.abs_state.specs.Entries.{callee_entry};
 ghost use Rattle.check_cover.specs.Covering.{Covered};
 ghost use Rattle.check_cover.specs.Program.{callee_at};
 ghost use Rattle.check_ways.specs.Parts.{AtEachExit, CallGoesOn, IsCoveredWay, NextGoesOn, OnEachExit, OnEachLeft, ReturnCovered, WideCovered};
-ghost use Rattle.cert_lines.specs.declared.version.Version.TheVariants.{Three};
-ghost use Rattle.check_ways.specs.Ways.{GoesOn, arrival_at_entry, jump_way, step_of, told_of};
+ghost use Rattle.check_ways.specs.Ways.{GoesOn, IsTold, arrival_at_entry, jump_way, step_of};
 
 use crate::subject::Subject;
 use abs_draft::settled;
@@ -20,7 +19,7 @@ use check_tables::{Left, ProcExits};
 
 /// Whether a jump arrives in a covered state.
 fn jump_is_covered(subject: &Subject, next: &Next, told: &StepTold, coverer: &mut Coverer) -> bool
-    requires { subject.now.cert.version ≡ Three → told.now ≡ told_of subject.now subject.now.decoded }
+    requires { IsTold subject.now told.now }
     ensures exact { IsTrue result ↔ IsCoveredWay coverer.old (jump_way subject.now next.now) }
     ensures same { coverer.new ≡ coverer.old }
 {
@@ -181,7 +180,7 @@ fn call_goes_on(subject: &Subject, next: &Next, coverer: &mut Coverer) -> bool
 
 /// Whether a successor is covered, through a call also back from each exit.
 fn next_goes_on(subject: &Subject, next: &Next, told: &StepTold, coverer: &mut Coverer) -> bool
-    requires told { subject.now.cert.version ≡ Three → told.now ≡ told_of subject.now subject.now.decoded }
+    requires told { IsTold subject.now told.now }
     ensures exact { IsTrue result ↔ NextGoesOn coverer.old subject.now next.now }
     ensures same { coverer.new ≡ coverer.old }
 {
@@ -194,7 +193,7 @@ fn next_goes_on(subject: &Subject, next: &Next, told: &StepTold, coverer: &mut C
 
 /// Whether each of these successors is covered.
 fn nexts_go_on(subject: &Subject, nexts: &[Next], told: &StepTold, coverer: &mut Coverer) -> bool
-    requires told { subject.now.cert.version ≡ Three → told.now ≡ told_of subject.now subject.now.decoded }
+    requires told { IsTold subject.now told.now }
     ensures exact { IsTrue result ↔ All (NextGoesOn coverer.old subject.now) nexts.now }
     ensures same { coverer.new ≡ coverer.old }
 {
@@ -211,7 +210,7 @@ fn nexts_go_on(subject: &Subject, nexts: &[Next], told: &StepTold, coverer: &mut
 /// its calls has to enter a called procedure in a covered state. The coverer is one of the row's certificate. No memory
 /// is taken. A call takes a step for each row of the callee, or for each different exit where the subject has tables.
 pub fn goes_on(subject: &Subject, nexts: &[Next], told: &StepTold, coverer: &mut Coverer) -> bool
-    requires told { subject.now.cert.version ≡ Three → told.now ≡ told_of subject.now subject.now.decoded }
+    requires told { IsTold subject.now told.now }
     requires certificate { coverer.old ≡ subject.now.cert }
     requires step { step_of subject.now ≡ Ok nexts.now }
     ensures exact { IsTrue result ↔ GoesOn subject.now }

@@ -6,8 +6,7 @@ ghost use Rattle.check_cover.specs.Program.{callee_at};
 ghost use Rattle.cert_lines.specs.declared.row.Row.{Row};
 ghost use Rattle.check_ways.specs.Parts.{AtEachExit, CallPays, NextPays, AreNumbersAt, OnEachExit, OnEachLeft, PaysAll, PaysNumber, PaysPlace, PaysReturn, PaysToRow, PaysWay};
 ghost use Rattle.check_ways.specs.Pays.{IsLone, IsWithinTime, Pays, PaysCall, PaysOut, PaysTo, constant_sum, cost_before, potential_of};
-ghost use Rattle.cert_lines.specs.declared.version.Version.TheVariants.{Three};
-ghost use Rattle.check_ways.specs.Ways.{behind_of, step_of, told_of};
+ghost use Rattle.check_ways.specs.Ways.{IsTold, behind_of, step_of};
 
 use crate::overlapping::is_lone;
 use crate::subject::Subject;
@@ -242,7 +241,7 @@ fn call_pays(subject: &Subject, next: &Next) -> bool
 
 /// Whether the row pays for one of its successors.
 fn next_pays(subject: &Subject, next: &Next, told: &StepTold) -> bool
-    requires told { subject.now.cert.version ≡ Three → told.now ≡ told_of subject.now subject.now.decoded }
+    requires told { IsTold subject.now told.now }
     ensures { IsTrue result ↔ NextPays subject.now next.now }
 {
     match next.kind {
@@ -253,7 +252,7 @@ fn next_pays(subject: &Subject, next: &Next, told: &StepTold) -> bool
 }
 
 fn nexts_pay(subject: &Subject, nexts: &[Next], told: &StepTold) -> bool
-    requires told { subject.now.cert.version ≡ Three → told.now ≡ told_of subject.now subject.now.decoded }
+    requires told { IsTold subject.now told.now }
     ensures { IsTrue result ↔ All (NextPays subject.now) nexts.now }
 {
     for next in nexts {
@@ -315,7 +314,7 @@ fn overlaps_entry(subject: &Subject) -> bool
 /// each way to each row that is asked there, for each call of a procedure, and for each exit. At its procedure's entry
 /// the potential has to be within the time. It is called for rows of timed procedures, and takes no memory.
 pub fn pays(subject: &Subject, nexts: &[Next], told: &StepTold) -> bool
-    requires told { subject.now.cert.version ≡ Three → told.now ≡ told_of subject.now subject.now.decoded }
+    requires told { IsTold subject.now told.now }
     requires step { step_of subject.now ≡ Ok nexts.now }
     ensures { IsTrue result ↔ Pays subject.now }
 {

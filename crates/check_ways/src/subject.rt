@@ -7,8 +7,8 @@ ghost use Rattle.cert_form.specs.Contents.{map_of_board};
 ghost use Rattle.board_fetch.specs.Decoded.{StandsAt};
 ghost use Rattle.check_ways.specs.Parts.{IsTopOf};
 ghost use Rattle.z80_decode.specs.Spelling.{spelling};
-ghost use Rattle.check_steps.specs.Told.{refined_by, untold};
-ghost use Rattle.check_ways.specs.Ways.{IsSubject, behind_of, step_by, step_of, told_of, writes_from};
+ghost use Rattle.check_steps.specs.Told.{refinement_by, untold};
+ghost use Rattle.check_ways.specs.Ways.{IsSubject, IsTold, behind_of, step_by, step_of, told_of, writes_from};
 
 use abs_draft::{DataWrite, Ground};
 use abs_state::AbsState;
@@ -149,7 +149,7 @@ impl<'a> Subject<'a> {
         ensures writes { result.writes.items ≡ writes_from self.now }
         ensures ok { IfOk result.answer (λ nexts. step_of self.now ≡ Ok nexts.items) }
         ensures err { IfErr result.answer (λ reason. step_of self.now ≡ Err reason) }
-        ensures told { self.now.cert.version ≡ Three → result.told ≡ told_of self.now self.now.decoded }
+        ensures told { IsTold self.now result.told }
     {
         match &self.decoded {
             Ok(instr) => match self.certificate.version() {
@@ -236,7 +236,7 @@ impl<'a> Subject<'a> {
           facts = self.now.row.facts;
           before = self.now.row.state;
           effect = effect.now;
-          refined = refined_by self.now.cert.version told.now moved.now;
+          refined = refinement_by self.now.cert.version told.now moved.now;
         } }
     {
         Arrival {

@@ -5,8 +5,7 @@ ghost use Rattle.abs_state.specs.Covers.{OverlapsState};
 ghost use Rattle.check_cover.specs.Program.{callee_at};
 ghost use Rattle.cert_lines.specs.declared.row.Row.{Row};
 ghost use Rattle.check_ways.specs.Pays.{Lands};
-ghost use Rattle.cert_lines.specs.declared.version.Version.TheVariants.{Three};
-ghost use Rattle.check_ways.specs.Ways.{call_cost, jump_way, return_way, told_of};
+ghost use Rattle.check_ways.specs.Ways.{IsTold, call_cost, jump_way, return_way};
 
 use crate::overlapping::{is_lone, overlaps_state};
 use crate::subject::Subject;
@@ -41,13 +40,13 @@ pub struct Way<'a> {
 }
 
 impl<'a> Model for Way<'a> {
-    ghost use Rattle.check_steps.specs.Told.{refined_by};
+    ghost use Rattle.check_steps.specs.Told.{refinement_by};
     ghost use Rattle.check_ways.specs.Ways.{WayView};
 
     ghost Value = { WayView };
 
     ghost view = { λ w. record {
-      arrival = record { proc = w.proc; address = w.address; facts = w.facts.now; before = w.before.now; effect = w.effect; refined = refined_by w.version w.told.now w.moved };
+      arrival = record { proc = w.proc; address = w.address; facts = w.facts.now; before = w.before.now; effect = w.effect; refined = refinement_by w.version w.told.now w.moved };
       state = w.state;
       cost = w.cost;
     } };
@@ -56,7 +55,7 @@ impl<'a> Model for Way<'a> {
 impl<'a> Subject<'a> {
     /// The way of a jump. Going on to the next address is a jump too.
     pub(crate) fn jump_way<'s>(&'s self, next: &Next, told: &'s StepTold) -> Way<'s>
-        requires { self.now.cert.version ≡ Three → told.now ≡ told_of self.now self.now.decoded }
+        requires { IsTold self.now told.now }
         ensures { result ≡ jump_way self.now next.now }
     {
         Way {

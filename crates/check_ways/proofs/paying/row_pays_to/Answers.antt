@@ -6,7 +6,7 @@ use Rattle.check_cover.specs.Arrival.{RefinementView}
 use Rattle.check_payments.specs.Paying.{PaysEitherWay}
 use Rattle.loop_bounds.specs.Linear.{LinearView}
 use Rattle.check_ways.specs.Pays.{PaysBy, PaysTo, potential_of}
-use Rattle.check_steps.specs.Told.{StepToldView, refined_by}
+use Rattle.check_steps.specs.Told.{StepToldView, refinement_by}
 use Rattle.check_ways.specs.Ways.{SubjectView, WayView}
 use Rattle.check_ways.proofs.paying.row_pays_to.Goals as goal
 
@@ -30,8 +30,8 @@ returns-in-Three c =
     (subst (λ (t : LinearView). IsTrue paid ↔ PaysEitherWay from t cost effect moved linear (range_of row.state) (range_of target.state)) c.potential_of-to.ensures
     (subst (λ (a : AbsState). IsTrue paid ↔ PaysEitherWay from to cost effect moved linear (range_of a) (range_of target.state)) state_is
     (subst (λ (b : AbsState). IsTrue paid ↔ PaysEitherWay from to cost effect moved linear (range_of state) (range_of b)) c.state-other.ensures c.pays_either_way.ensures))) in
-    let refined : Some (record { moved = moved; linear = told.linear; conditions = told.conditions }) ≡ refined_by c.way.inside.version c.way.inside.told.now moved =
+    let refined : Some (record { moved = moved; linear = told.linear; conditions = told.conditions }) ≡ refinement_by c.way.inside.version c.way.inside.told.now moved =
     ap (λ (t : StepToldView). Some (let r : RefinementView = record { moved = moved; linear = t.linear; conditions = t.conditions } in r)) c.told.view_is
-    ∙ ap (λ (v : Version). refined_by v c.way.inside.told.now moved) (sym c.in-Three.is) in
+    ∙ ap (λ (v : Version). refinement_by v c.way.inside.told.now moved) (sym c.in-Three.is) in
     subst (λ (w : WayView). IsTrue paid ↔ PaysTo row w.cost w.arrival target) c.way.view_is
     (subst (λ (o : Option RefinementView). IsTrue paid ↔ PaysBy row cost effect o target) refined exact)
