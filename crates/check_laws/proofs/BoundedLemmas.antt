@@ -87,7 +87,7 @@ module _ (rom : List ℕ) (cert : CertificateView) (acc : AcceptsInForm rom cert
       step = run.steps (i + k) within
 
       x : Executed rom cert lowest under q.chain (run.state_at (i + k)) (run.env_at (i + k))
-      x = executing rom cert lowest under q.chain (run.state_at (i + k)) (run.env_at (i + k)) acc u q.numbers_at (run.in_range (i + k) within) q.placed
+      x = executing rom cert lowest under q.chain (run.state_at (i + k)) (run.env_at (i + k)) acc u (inr timed) q.numbers_at (run.in_range (i + k) within) q.placed
 
       w : Taken rom cert acc (run.state_at (i + k)) (run.state_at (suc (i + k))) (run.env_at (i + k)) (run.event_at (i + k)) x.instr
       w = taken rom cert acc (run.state_at (i + k)) (run.state_at (suc (i + k))) (run.env_at (i + k)) (run.event_at (i + k)) x.instr q.numbers_at (run.in_range (i + k) within) step (awake_executes (run.state_at (i + k)) unlatched q.awake_at) x.stands

@@ -6,6 +6,7 @@ use Rattle.intervals.specs.declared.pair.Pair.{Pair}
 use Rattle.intervals.specs.declared.reg_pair.RegPair.{RegPair}
 use Rattle.intervals.specs.declared.reg_pair.RegPair.TheVariants as pairs
 use Rattle.loop_bounds.specs.Effect.{unchanged}
+use Rattle.loop_bounds.specs.declared.effect.Effect.{Effect}
 use Rattle.loop_bounds.specs.declared.variable.Variable.TheVariants.{Slot}
 use Rattle.stack_shape.specs.Shape.{HoldsShape}
 use Rattle.z80_alu.specs.declared.regs.Regs.{Regs}
@@ -19,13 +20,16 @@ use Rattle.abs_state.specs.declared.cell.KeptCell.{KeptCell}
 use Rattle.abs_state.specs.declared.pairs.Pairs.{Pairs}
 use Rattle.abs_state.specs.declared.state.AbsState.{AbsState}
 use Rattle.abs_step.specs.declared.next.Next.{Next}
-use Rattle.check_cover.specs.Arrival.{first_arrival}
+use Rattle.check_cover.specs.Arrival.{entry_refinement, first_arrival}
 use Rattle.check_cover.specs.Covering.{Covered, CoversMain, CoversNmi}
 use Rattle.check_cover.specs.declared.program.Callee.{Callee}
 use Rattle.cert_form.specs.Contents.{CertificateView}
+use Rattle.cert_lines.specs.declared.version.Version.{Version}
+use Rattle.cert_lines.specs.declared.version.Version.TheVariants.{One, Two, Three}
 use Rattle.cert_form.specs.Form.{IsInForm}
+use Rattle.check_steps.specs.Told.{refinement_by, untold}
 use Rattle.check_ways.specs.Ways.{SubjectView, arrival_at_entry as entry_arrival}
-use Rattle.check_laws.specs.Comes.{CameBy, Comes, Steps, entered}
+use Rattle.check_laws.specs.Comes.{CameBy, CameRefinedIfSome, Comes, Steps, entered}
 use Rattle.check_laws.specs.RowHolds.{IsHeld}
 use Rattle.check_laws.proofs.LandingLemmas.{lands}
 
@@ -86,8 +90,21 @@ pub own_values : (m : Seen) → CameBy unchanged m m
 own_values m (Slot number part) there = refl
 own_values m v there = refl
 
-first_comes : (proc address : ℕ) (state : AbsState) (cells : List KeptCell) (entry : Entry) (m : Seen) → IsRegs m.regs → Holds state cells entry m → Comes (first_arrival proc address state) cells m
-first_comes proc address state cells entry m i h = record { entry = entry; before = m; numbers = i; held = h; facts = λ k d p. absurd (omega arith); came = own_values m }
+-- an entry tells nothing
+entry_refined : (version : Version) (m : Seen) → CameRefinedIfSome (entry_refinement version) m m
+entry_refined One m = tt
+entry_refined Two m = tt
+entry_refined Three m = record {
+  moved = own_values m;
+  becomes = tt;
+  told_before = λ k d p. absurd (omega arith);
+  told_after = λ k d p. absurd (omega arith);
+  registers = λ k d p. absurd (omega arith);
+}
+
+first_comes : (version : Version) (proc address : ℕ) (state : AbsState) (cells : List KeptCell) (entry : Entry) (m : Seen) → IsRegs m.regs → Holds state cells entry m → Comes (first_arrival version proc address state) cells m
+first_comes version proc address state cells entry m i h =
+    record { entry = entry; before = m; numbers = i; held = h; facts = λ k d p. absurd (omega arith); came = own_values m; refined = entry_refined version m }
 
 main_holds : (cells : List KeptCell) (entry : Entry) (m : Seen) → IsRegs m.regs → IsQuiet m.enable m.line m.latched → m.words ≡ [] → Holds main_entry cells entry m
 main_holds cells entry m i quiet none = record { mode = quiet; cells_hold = tt; pairs = all_full entry m.regs i; flag = tt; shape = no_shape entry m.words none }
@@ -95,7 +112,7 @@ main_holds cells entry m i quiet none = record { mode = quiet; cells_hold = tt; 
 pub main_begins : (cert : CertificateView) (entry : Entry) (m : Seen) → IsInForm cert → IsRegs m.regs → IsQuiet m.enable m.line m.latched → m.words ≡ [] → CoversMain cert → IsHeld cert 0 0 main_entry entry m
 main_begins cert entry m form i quiet none covers =
     let h = main_holds cert.cells entry m i quiet none in
-    lands cert form (first_arrival 0 0 main_entry) entry m i (first_comes 0 0 main_entry cert.cells entry m i h) main_entry h covers
+    lands cert form (first_arrival cert.version 0 0 main_entry) entry m i (first_comes cert.version 0 0 main_entry cert.cells entry m i h) main_entry h covers
 
 nmi_holds : (cells : List KeptCell) (m : Seen) → IsRegs m.regs → m.words ≡ [] → HoldsCells (length cells) cells m.cells → Holds (nmi_entry (length cells)) cells (entry_of m.regs) m
 nmi_holds cells m i none held = record { mode = tt; cells_hold = held; pairs = all_own full_pairs (entry_of m.regs) m.regs (all_full (entry_of m.regs) m.regs i); flag = tt; shape = no_shape (entry_of m.regs) m.words none }
@@ -104,7 +121,7 @@ pub nmi_begins : (cert : CertificateView) (m : Seen) → IsInForm cert → IsReg
 nmi_begins cert m form i none held covers =
     let state = nmi_entry (length cert.cells) in
     let h = nmi_holds cert.cells m i none held in
-    lands cert form (first_arrival 1 102 state) (entry_of m.regs) m i (first_comes 1 102 state cert.cells (entry_of m.regs) m i h) state h covers
+    lands cert form (first_arrival cert.version 1 102 state) (entry_of m.regs) m i (first_comes cert.version 1 102 state cert.cells (entry_of m.regs) m i h) state h covers
 
 -- ---- callees
 
@@ -112,13 +129,33 @@ callee_holds : (s : AbsState) (cells : List KeptCell) (entry : Entry) (m : Seen)
 callee_holds s cells entry m h = record { mode = h.mode; cells_hold = h.cells_hold; pairs = all_own s.pairs entry m.regs h.pairs; flag = tt; shape = tt }
 
 -- a callee sees the registers that its caller saw
-entered_values : (s : SubjectView) (next : Next) (entry : Entry) (before now : Seen) → Steps s next entry before now → CameBy next.effect before (entered now)
-entered_values s next entry before now x (Slot number part) there = absurd (omega (arith, there))
-entered_values s next entry before now x v there = x.came v tt
+pub entered_values : (effect : Effect) (before now : Seen) → CameBy effect before now → CameBy effect before (entered now)
+entered_values effect before now came (Slot number part) there = absurd (omega (arith, there))
+entered_values effect before now came v there = came v tt
+
+-- an arrival of which nothing is told but where its values come from
+pub untold_came : (version : Version) (moved : Effect) (before now : Seen) → CameBy moved before now → CameRefinedIfSome (refinement_by version untold moved) before now
+untold_came One moved before now came = tt
+untold_came Two moved before now came = tt
+untold_came Three moved before now came = record {
+  moved = came;
+  becomes = tt;
+  told_before = λ k d p. absurd (omega arith);
+  told_after = λ k d p. absurd (omega arith);
+  registers = λ k d p. absurd (omega arith);
+}
 
 pub callee_begins : (s : SubjectView) (next : Next) (callee : Callee) (entry : Entry) (before now : Seen) → IsInForm s.cert → Steps s next entry before now → Covered s.cert (entry_arrival s next callee) (callee_entry next.state)
     → IsHeld s.cert callee.number next.address (callee_entry next.state) (entry_of now.regs) (entered now)
 callee_begins s next callee entry before now form x covers =
     lands s.cert form (entry_arrival s next callee) (entry_of now.regs) (entered now) x.numbers_now
-    (record { entry = entry; before = before; numbers = x.numbers; held = x.held.state; facts = x.held.facts; came = entered_values s next entry before now x })
+    (record {
+      entry = entry;
+      before = before;
+      numbers = x.numbers;
+      held = x.held.state;
+      facts = x.held.facts;
+      came = entered_values next.effect before now x.came;
+      refined = untold_came s.cert.version next.moved before (entered now) (entered_values next.moved before now x.moved);
+    })
     (callee_entry next.state) (callee_holds next.state s.cert.cells entry now x.holds) covers

@@ -1,10 +1,11 @@
 -- A chain of activations takes its instruction: it goes on, calls, returns, or leaves.
-use Rattle.std.proofs.Common.{◌≡◌, ◌≤◌, ◌+◌, ◌*◌, ◌∙◌, inl, inr, ℕ, Bool, true, false, List, [], ◌∷◌, ◌++◌, length, slice_get, Contains, Option, Some, None, Ok, ℤ, pos, ◌+ℤ◌, ◌-ℤ◌, ◌≤ℤ◌, refl, sym, ap, subst, arith}
+use Rattle.std.proofs.Common.{◌≡◌, ◌≤◌, ◌+◌, ◌*◌, ◌∙◌, inl, inr, ℕ, Bool, true, false, cond, List, [], ◌∷◌, ◌++◌, length, slice_get, Contains, Option, Some, None, Ok, ℤ, pos, ◌+ℤ◌, ◌-ℤ◌, ◌≤ℤ◌, refl, sym, ap, subst, arith}
 use Rattle.std.specs.Prelude.{◌%◌, IfSome, unwrap_or}
 use Rattle.std.specs.List.{All}
 use Rattle.std.proofs.lemmas.Int.{ints}
 use Rattle.std.proofs.lemmas.Option.{get_or_from_slice_get, slice_get_within}
 use Rattle.z80_decode.specs.Spelling.{spelling}
+use Rattle.z80_decode.specs.declared.instr.Instr.TheVariants.{Halt}
 use Rattle.z80_alu.specs.Word.{word_of}
 use Rattle.z80_alu.specs.declared.regs.RegisterSet.{RegisterSet}
 use Rattle.z80_alu.specs.declared.regs.Regs.{Regs}
@@ -34,28 +35,31 @@ use Rattle.abs_step.specs.declared.next.NextKind.TheVariants as kinds
 use Rattle.abs_step.specs.declared.reason.Reason.TheVariants as reasons
 use Rattle.abs_step.specs.declared.reason.Saved.TheVariants as saved
 use Rattle.abs_step.proofs.GoesStack.{as_many}
-use Rattle.check_cover.specs.Program.{is_main}
+use Rattle.abs_state.specs.Covers.{OverlapsState}
+use Rattle.check_cover.specs.Program.{IsRowAt, is_main}
 use Rattle.check_cover.specs.declared.program.Callee.{Callee}
 use Rattle.cert_lines.specs.Proc.{IsProc}
 use Rattle.cert_lines.specs.declared.proc.Proc.{Proc}
 use Rattle.cert_lines.specs.declared.row.Row.{Row}
 use Rattle.cert_form.specs.Contents.{CertificateView, map_of_board}
 use Rattle.check_rules.specs.Table.{FitsDepth, IsTimed, entry_bytes}
-use Rattle.check_ways.specs.Pays.{IsWithinTime, Pays, cost_before}
-use Rattle.check_ways.specs.Ways.{GoesOn, IsExit, IsWay, SubjectView, behind_of, call_cost, jump_way, nexts_from, return_way, writes_from}
+use Rattle.check_ways.specs.Pays.{IsWithinTime, Lands, Pays, cost_before}
+use Rattle.check_steps.specs.Restarts.{restarted}
+use Rattle.check_ways.specs.Ways.{GoesOn, IsExit, IsWay, SubjectView, behind_of, call_cost, jump_way, nexts_from, restarts, return_way, writes_from}
 use Rattle.check_laws.specs.Comes.{CameBy, Exits, Steps, resumed}
 use Rattle.check_laws.specs.RowHolds.{IsHeld, worth}
 use Rattle.check_laws.proofs.EntryLemmas.{callee_begins}
 use Rattle.check_laws.proofs.InForm.{each_or}
 use Rattle.check_laws.proofs.PayLemmas.{entry_in_time, exit_paid, way_paid, worth_low}
-use Rattle.check_laws.proofs.ReturnLemmas.{call_comes_back, return_came, way_leads}
+use Rattle.check_laws.proofs.ReturnLemmas.{call_comes_back, return_came, return_refined, way_leads}
 use Rattle.check_laws.specs.Chain.{Awaits, Chain, Has, AcceptsInForm, Waiting, later_all, slack, waiting_words}
-use Rattle.check_laws.specs.Placed.{Activations, ArePlaced, Under, seen_by}
+use Rattle.check_laws.specs.Placed.{Activations, ArePlaced, IsMainOrTimed, Under, seen_by}
 use Rattle.check_laws.specs.Steps.{Executed, Leaves, Stays, TakesInstruction, at_board, leaves, stays}
 use Rattle.check_laws.proofs.Depth.{chain_timed}
-use Rattle.check_laws.proofs.Going.{Entering, after, deep, entering, goes, numbers_after, running, stands}
+use Rattle.check_laws.proofs.Going.{Entering, IsTrueOfStep, after, deep, entering, goes, numbers_after, running, stands, told_came}
 use Rattle.check_laws.proofs.Judging.{Judged, judge, subject_of}
 use Rattle.check_laws.proofs.Procs.{nmi_covered, set_covered, sub_not_main}
+use Rattle.check_laws.proofs.RestartLemmas.{restart_executes}
 
 -- ---- numbers
 
@@ -147,16 +151,34 @@ module _ (rom : List ℕ) (cert : CertificateView) (acc : AcceptsInForm rom cert
   pays_here : IsTimed c.of.proc → Pays here
   pays_here b = j.consistent reasons.Time b
 
-  steps : (n : Next) (words : List ℕ) → Holds n.state cert.cells c.entry (seen_of cert.cells words new) → CameBy n.effect old_seen (seen_of cert.cells words new) → Steps here n c.entry old_seen (seen_of cert.cells words new)
-  steps n words holds came = record { numbers = numbers.regs; held = p.holds; numbers_now = after_numbers.regs; holds = holds; came = came }
+  abbrev ToldHere : Type 0
+  ToldHere = IsTrueOfStep rom cert acc lowest under u c s env numbers is_env p j cert.version
+
+  steps : (n : Next) (words : List ℕ) → Holds n.state cert.cells c.entry (seen_of cert.cells words new) → CameBy n.effect old_seen (seen_of cert.cells words new) → CameBy n.moved old_seen (seen_of cert.cells words new) → ToldHere
+      → Steps here n c.entry old_seen (seen_of cert.cells words new)
+  steps n words holds came moved told = record {
+    numbers = numbers.regs;
+    held = p.holds;
+    numbers_now = after_numbers.regs;
+    holds = holds;
+    came = came;
+    moved = moved;
+    refined = told_came rom cert acc lowest under u c s env numbers is_env p j cert.version told n.moved words moved;
+  }
 
   -- ---- jumps
 
-  went_on : (n : Next) → Contains (nexts_from here) n → n.kind ≡ kinds.Jump → t ≡ n.cost → (c.row.state.mode ≡ Nmi → n.state.mode ≡ Nmi) → Went cert.cells cert.region running_here ctx n new → StaysNow
-  went_on n listed kind cost nmi w =
-      let x = steps n w.words w.holds w.through in
+  -- without a restart a jump arrives in the row's procedure
+  lands_plain : restarts here ≡ false → (n : Next) (row : Row) → IsRowAt cert c.row.proc n.address row → OverlapsState row.state n.state → Lands cert (jump_way here n) row
+  lands_plain plain n row at overlaps =
+      let way = jump_way here n in
+      subst (λ (b : Bool). Lands cert (record way { arrival = record way.arrival { proc = cond b 0 c.row.proc }; state = cond b (restarted n.state) n.state }) row) (sym plain) (record { at = at; asked = inr overlaps })
+
+  went_on : restarts here ≡ false → ToldHere → (n : Next) → Contains (nexts_from here) n → n.kind ≡ kinds.Jump → t ≡ n.cost → (c.row.state.mode ≡ Nmi → n.state.mode ≡ Nmi) → Went cert.cells cert.region running_here ctx n new → StaysNow
+  went_on plain told n listed kind cost nmi w =
+      let x = steps n w.words w.holds w.through w.moved told in
       let way : IsWay here (jump_way here n) = inl (record { next = n; leads = listed; kind = kind; is = refl }) in
-      let l = way_leads here n c.entry old_seen (seen_of cert.cells w.words new) acc.form x (goes_here.ways (jump_way here n) way) in
+      let l = way_leads here n c.entry old_seen (seen_of cert.cells w.words new) acc.form plain x (goes_here.ways (jump_way here n) way) in
       record {
         next = record { row = l.row; of = c.of; entry = c.entry; words = w.words; waiting = c.waiting; first = c.first };
         placed = record {
@@ -171,8 +193,8 @@ module _ (rom : List ℕ) (cert : CertificateView) (acc : AcceptsInForm rom cert
         first = refl;
         nmi = λ m. nmi_covered l.row.state.mode n.state.mode l.mode (nmi m);
         pays = λ b.
-            let paid = way_paid cert c.row l.row n.cost n.effect c.entry c.entry old_seen (seen_of cert.cells w.words new) acc.form l.at.listed numbers.regs after_numbers.regs p.holds.state l.holds.state w.through
-            ((pays_here (timed_here b)).ways (jump_way here n) l.row (record { is_way = way; lands = record { at = l.at; asked = inr l.overlaps } })) in
+            let paid = way_paid cert c.row l.row n.cost (jump_way here n).arrival c.entry c.entry old_seen (seen_of cert.cells w.words new) acc.form l.at.listed numbers.regs after_numbers.regs p.holds.state l.holds.state w.through x.refined
+            ((pays_here (timed_here b)).ways (jump_way here n) l.row (record { is_way = way; lands = lands_plain plain n l.row l.at l.overlaps })) in
             more_waits t n.cost (worth c.row old_seen) (worth l.row (seen_of cert.cells w.words new)) (later_all c.waiting) cost paid;
       }
 
@@ -193,10 +215,10 @@ module _ (rom : List ℕ) (cert : CertificateView) (acc : AcceptsInForm rom cert
       let is : IsProc q.proc = subst IsProc (get_or_from_slice_get cert.procs q.number q.proc q.proc has) (each_or IsProc cert.procs q.number q.proc acc.form.certificate.procs (slice_get_within cert.procs q.number q.proc has)) in
       time_small q.proc.time is.time
 
-  awaits : (n : Next) → (e : Entering here n) → t ≡ n.cost → (w : Called cert.cells cert.region running_here j.instr ctx n new) → Awaits rom cert e.callee (entry_of new.regs) (waits_for n e.callee)
-  awaits n e cost w =
+  awaits : ToldHere → (n : Next) → (e : Entering here n) → t ≡ n.cost → (w : Called cert.cells cert.region running_here j.instr ctx n new) → Awaits rom cert e.callee (entry_of new.regs) (waits_for n e.callee)
+  awaits told n e cost w =
       let at = seen_of cert.cells c.words new in
-      let x = steps n c.words w.holds w.through in
+      let x = steps n c.words w.holds w.through w.moved told in
       let callee = e.callee in
       let regs : SameRegs s.regs new.regs = w.same in
       record {
@@ -226,8 +248,8 @@ module _ (rom : List ℕ) (cert : CertificateView) (acc : AcceptsInForm rom cert
               holds = l.holds;
               mode_is = l.mode;
               owes = λ b.
-                  let paid = way_paid cert c.row l.row (call_cost n callee) back.arrival.effect c.entry c.entry old_seen (resumed at m) acc.form l.at.listed numbers.regs i p.holds.state l.holds.state
-                  (return_came here n callee exit c.entry old_seen at m x y)
+                  let paid = way_paid cert c.row l.row (call_cost n callee) back.arrival c.entry c.entry old_seen (resumed at m) acc.form l.at.listed numbers.regs i p.holds.state l.holds.state
+                  (return_came here n callee exit c.entry old_seen at m x y) (return_refined here n callee exit c.entry old_seen at m x y)
                   ((pays_here b).ways back l.row (record { is_way = way; lands = record { at = l.at; asked = inr l.overlaps } })) in
                   kept_less (call_cost n callee) (worth c.row old_seen) (worth l.row (resumed at m)) paid;
             };
@@ -238,13 +260,13 @@ module _ (rom : List ℕ) (cert : CertificateView) (acc : AcceptsInForm rom cert
             (worth_low cert c.row c.entry old_seen acc.form p.listed numbers.regs p.holds.state);
       }
 
-  calls_on : (n : Next) → Contains (nexts_from here) n → n.kind ≡ kinds.Call → t ≡ n.cost → (c.row.state.mode ≡ Nmi → n.state.mode ≡ Nmi) → Called cert.cells cert.region running_here j.instr ctx n new → StaysNow
+  calls_on : ToldHere → (n : Next) → Contains (nexts_from here) n → n.kind ≡ kinds.Call → t ≡ n.cost → (c.row.state.mode ≡ Nmi → n.state.mode ≡ Nmi) → Called cert.cells cert.region running_here j.instr ctx n new → StaysNow
   unfolding Chain waiting_words later_all on_top
-  calls_on n listed kind cost nmi w =
+  calls_on told n listed kind cost nmi w =
       let e = entering here goes_here n listed kind in
       let callee = e.callee in
       let at = seen_of cert.cells c.words new in
-      let x = steps n c.words w.holds w.through in
+      let x = steps n c.words w.holds w.through w.moved told in
       let l : IsHeld cert callee.number n.address (callee_entry n.state) (entry_of new.regs) (seen_of cert.cells [] new) = callee_begins here n callee c.entry old_seen at acc.form x e.covered in
       let wait = waits_for n callee in
       let resume : (s.regs.pc + length (spelling j.instr)) % 65536 ≡ wait.resume = ap (λ (k : ℕ). (k + length (spelling j.instr)) % 65536) p.pc in
@@ -257,7 +279,7 @@ module _ (rom : List ℕ) (cert : CertificateView) (acc : AcceptsInForm rom cert
           has = e.found.has;
           holds = l.holds;
           laid = λ set. subst (λ (ws : List ℕ). HasWords (map_of_board cert) cert.region new ws) (ap (λ (k : ℕ). k ∷ on_top c.words (waiting_words c.waiting ++ under)) resume ∙ ap (λ (ws : List ℕ). wait.resume ∷ ws) (on_top-under c.words (waiting_words c.waiting) under)) w.laid;
-          chain = (awaits n e cost w, p.chain);
+          chain = (awaits told n e cost w, p.chain);
         };
         first = refl;
         nmi = λ m. nmi_covered l.row.state.mode n.state.mode l.mode (nmi m);
@@ -333,35 +355,43 @@ module _ (rom : List ℕ) (cert : CertificateView) (acc : AcceptsInForm rom cert
   leaving n listed kind cost nmi arms e [] is = leaves (out n listed kind cost nmi arms e is)
   leaving n listed kind cost nmi arms e (w ∷ ws) is = stays (returns_on n listed kind cost nmi e w ws is)
 
-  by_kind : (n : Next) (k : NextKind) → n.kind ≡ k → Contains (nexts_from here) n → t ≡ n.cost → (c.row.state.mode ≡ Nmi → n.state.mode ≡ Nmi) → c.row.state.armed ≤ n.state.armed → GoesBy k cert.cells cert.region running_here j.instr ctx n → Going
-  by_kind n kinds.Jump kind listed cost nmi arms g = stays (went_on n listed kind cost nmi g)
-  by_kind n kinds.Call kind listed cost nmi arms g = stays (calls_on n listed kind cost nmi g)
-  by_kind n kinds.Exit kind listed cost nmi arms g = leaving n listed kind cost nmi arms g c.waiting refl
+  by_kind : restarts here ≡ false → ToldHere → (n : Next) (k : NextKind) → n.kind ≡ k → Contains (nexts_from here) n → t ≡ n.cost → (c.row.state.mode ≡ Nmi → n.state.mode ≡ Nmi) → c.row.state.armed ≤ n.state.armed → GoesBy k cert.cells cert.region running_here j.instr ctx n → Going
+  by_kind plain told n kinds.Jump kind listed cost nmi arms g = stays (went_on plain told n listed kind cost nmi g)
+  by_kind plain told n kinds.Call kind listed cost nmi arms g = stays (calls_on told n listed kind cost nmi g)
+  by_kind plain told n kinds.Exit kind listed cost nmi arms g = leaving n listed kind cost nmi arms g c.waiting refl
 
   -- ---- the rest
 
   takes_data : All (TakesData (map_of_board cert)) (writes_from here)
   takes_data k d within at inside = (λ rom_at. j.consistent reasons.WriteRom k d within (at, inside, rom_at), λ gap. j.consistent reasons.WriteUnmapped k d within (at, inside, gap))
 
-  never_halts : IsTimed c.of.proc → (b : Bool) → new.halted ≡ b → new.halted ≡ false
-  never_halts timed false e = e
-  never_halts timed true e = absurd (j.consistent reasons.HaltInNmi timed (ap (λ i. Ok i) ((after rom cert acc lowest under u c s env numbers is_env p j).halts e)))
+  never_halts : (new.halted ≡ true → j.instr ≡ Halt) → IsTimed c.of.proc → (b : Bool) → new.halted ≡ b → new.halted ≡ false
+  never_halts halts timed false e = e
+  never_halts halts timed true e = absurd (j.consistent reasons.HaltInNmi timed (ap (λ i. Ok i) (halts e)))
 
-  executes : Executed rom cert lowest under c s env
-  executes =
-      let a = after rom cert acc lowest under u c s env numbers is_env p j in
+  executes_on : restarts here ≡ false → Executed rom cert lowest under c s env
+  executes_on plain =
+      let both = after rom cert acc lowest under u c s env numbers is_env p j plain in
+      let a = both.0 in
       record {
         instr = j.instr;
         stands = stands rom cert acc lowest under u c s env numbers is_env p j;
         safe = a.safe takes_data;
-        takes = by_kind a.goes.next a.goes.next.kind refl a.goes.listed a.goes.cost a.goes.stays a.goes.arms a.goes.goes;
+        takes = by_kind plain both.1 a.goes.next a.goes.next.kind refl a.goes.listed a.goes.cost a.goes.stays a.goes.arms a.goes.goes;
         clear = λ none. a.clear (j.consistent reasons.NmiMissing none);
-        halts = λ timed. never_halts timed new.halted refl;
+        halts = λ timed. never_halts a.halts timed new.halted refl;
         keeps_i = λ timed. a.keeps_i (λ e. j.consistent (reasons.SavedRegister saved.I) timed (ap (λ i. Ok i) e));
       }
 
+  executes : IsMainOrTimed lowest → Executed rom cert lowest under c s env
+  executes root = by (restarts here) refl
+    where
+      by : (b : Bool) → restarts here ≡ b → Executed rom cert lowest under c s env
+      by true restart = restart_executes rom cert acc lowest under u c s env numbers is_env p j root restart
+      by false plain = executes_on plain
+
 -- a chain on a board executes its instruction
-pub executing : (rom : List ℕ) (cert : CertificateView) (lowest : Callee) (under : List ℕ) (c : Activations) (s : BoardView) (env : Env) → AcceptsInForm rom cert → Under cert lowest under → IsState s → IsEnv env → ArePlaced rom cert lowest under c s
+pub executing : (rom : List ℕ) (cert : CertificateView) (lowest : Callee) (under : List ℕ) (c : Activations) (s : BoardView) (env : Env) → AcceptsInForm rom cert → Under cert lowest under → IsMainOrTimed lowest → IsState s → IsEnv env → ArePlaced rom cert lowest under c s
     → Executed rom cert lowest under c s env
-executing rom cert lowest under c s env acc u numbers is_env p =
-    executes rom cert acc lowest under u c s env numbers is_env p (judge rom cert c.row c.of.proc acc p.listed (ap (slice_get cert.procs) p.is_of ∙ p.has))
+executing rom cert lowest under c s env acc u root numbers is_env p =
+    executes rom cert acc lowest under u c s env numbers is_env p (judge rom cert c.row c.of.proc acc p.listed (ap (slice_get cert.procs) p.is_of ∙ p.has)) root

@@ -1,4 +1,5 @@
--- The facts of a row that covers what arrives are 0, and tightening by them cuts nothing that is there.
+-- The facts of a row that covers what arrives are 0, its flag parts are seen, and tightening by the facts cuts nothing
+-- that is there.
 use Rattle.std.proofs.Common.{◌≡◌, ◌∙◌, ℕ, Bool, true, false, cond, eqb, List, [], ◌∷◌, length, get_or, Option, Some, None, pos, neg_ℤ, Contains, inl, inr, ◌⊎◌, refl, sym, ap, subst, arith}
 use Rattle.std.specs.Prelude.{◌+ℤ◌, IsSomeAnd, option_and_then}
 use Rattle.std.specs.List.{AllByRecursion}
@@ -26,9 +27,18 @@ use Rattle.abs_state.specs.Variables.{cut_to, range_of, value_in}
 use Rattle.abs_state.specs.declared.cell.KeptCell.{KeptCell}
 use Rattle.abs_state.specs.declared.state.AbsState.{AbsState}
 use Rattle.abs_state.proofs.TightenHolds.{tightened_holds}
-use Rattle.check_cover.specs.Arrival.{ArrivalView}
-use Rattle.check_cover.specs.Covering.{IsKnownFact, tightened_by}
-use Rattle.check_laws.specs.Comes.{Comes}
+use Rattle.check_claims.proofs.SeenLemmas.{seen_agrees, seen_ones}
+use Rattle.check_claims.proofs.TruthLemmas.{fact_true, part_true}
+use Rattle.check_claims.specs.Claims.{IsClaimedFact, IsClaimedPart}
+use Rattle.check_claims.specs.RegisterLaws.{IsRegister, NamesRegisters}
+use Rattle.check_claims.specs.Source.{StepSourceView}
+use Rattle.check_claims.specs.Truth.{AreTrueConditions, ComeBoth, ComesBoth, IsTrueSource}
+use Rattle.check_cover.specs.Arrival.{ArrivalView, RefinementView, source_of}
+use Rattle.check_cover.specs.Covering.{IsKnownFact, KnowsFact, KnowsPart, tightened_by}
+use Rattle.flag_letters.specs.declared.part.FlagPart.{FlagPart}
+use Rattle.flag_parts.specs.Parts.{HoldsPart}
+use Rattle.z80_alu.specs.Flags.{flags_of}
+use Rattle.check_laws.specs.Comes.{CameRefined, CameRefinedIfSome, Comes}
 use Rattle.check_laws.specs.RowHolds.{AreZeroAt, value_at}
 
 -- ---- variables that exist
@@ -36,6 +46,11 @@ use Rattle.check_laws.specs.RowHolds.{AreZeroAt, value_at}
 pub below_there : (count : ℕ) (v : Variable) → IsBelow count v → IsThere count v
 below_there count (Slot number part) h = h
 below_there count v h = tt
+
+-- a register is there, however many words there are
+register_there : (count : ℕ) (v : Variable) → IsRegister v → IsThere count v
+register_there count (Slot number part) h = absurd h
+register_there count v h = tt
 
 -- a constant with priority changes no value
 pub constant_kept : (source : Box) (before : Valuation) (change : Change) (n : ℕ) → ((v : Variable) → Within (source v) (before v)) → FollowsChange change before n
@@ -69,14 +84,65 @@ module _ (cells : List KeptCell) (a : ArrivalView) (now : Seen) (c : Comes a cel
   given_zero : (given : LinearView) → Contains a.facts given → value_at c.before given ≡ pos 0
   given_zero given (k, within, is) = subst (λ (f : LinearView). value_at c.before f ≡ pos 0) is (c.facts k given within)
 
-  -- a fact that is known to hold is 0
-  pub known_zero : (fact : LinearView) → HasSlotsBelow (length now.words) fact → IsKnownFact a.facts a.before a.effect fact → value_at now fact ≡ pos 0
-  known_zero fact within (inl vanishes) = sym (value_is fact within) ∙ vanishes.1 (value_in c.before) (value_in now)
-  known_zero fact within (inr from) = by from.is
+  -- before version 3 a fact that is known to hold is 0
+  plain_zero : (fact : LinearView) → HasSlotsBelow (length now.words) fact → IsKnownFact a.facts a.before a.effect fact → value_at now fact ≡ pos 0
+  plain_zero fact within (inl vanishes) = sym (value_is fact within) ∙ vanishes.1 (value_in c.before) (value_in now)
+  plain_zero fact within (inr from) = by from.is
     where
       by : Becomes fact a.effect (range_of a.before) from.given ⊎ BecomesNegation fact a.effect (range_of a.before) from.given → value_at now fact ≡ pos 0
       by (inl same) = sym (value_is fact within) ∙ same.1 (value_in c.before) (value_in now) ∙ given_zero from.given from.known
       by (inr negated) = sym (value_is fact within) ∙ negated.1 (value_in c.before) (value_in now) ∙ ap neg_ℤ (given_zero from.given from.known)
+
+  -- ---- version 3
+
+  module _ (r : RefinementView) (refined : CameRefined r c.before now) where
+    abbrev source : StepSourceView
+    source = source_of a r
+
+    is_true : IsTrueSource source (value_in c.before) (value_in now)
+    is_true = record { bytes = seen_agrees c.before; ones = seen_ones a.before cells c.entry c.before c.numbers c.held; facts = c.facts; becomes = refined.becomes }
+
+    comes_both : (v : Variable) → IsThere (length now.words) v → ComesBoth source (value_in c.before) (value_in now) v
+    comes_both v there = record { settled = c.came v there; moved = refined.moved v there }
+
+    come_both : (linear : LinearView) → HasSlotsBelow (length now.words) linear → ComeBoth source (value_in c.before) (value_in now) linear
+    come_both linear within = λ k d p. comes_both (get_or linear.terms k d).variable (below_there (length now.words) (get_or linear.terms k d).variable (within k d p))
+
+    registers_come : (linear : LinearView) → NamesRegisters linear → ComeBoth source (value_in c.before) (value_in now) linear
+    registers_come linear named = λ k d p. comes_both (get_or linear.terms k d).variable (register_there (length now.words) (get_or linear.terms k d).variable (named k d p))
+
+    claimed_zero : (fact : LinearView) → HasSlotsBelow (length now.words) fact → IsClaimedFact source fact → value_at now fact ≡ pos 0
+    claimed_zero fact within claimed = fact_true source (value_in c.before) (value_in now) is_true fact claimed (come_both fact within)
+
+    claimed_seen : (state : AbsState) (entry : Entry) → IsRegs now.regs → Holds state cells entry now → (part : FlagPart) → HasSlotsBelow (length now.words) part.linear → IsClaimedPart source state part
+        → HoldsPart part (flags_of now.regs.main.f) (value_in now)
+    claimed_seen state entry i h part within claimed =
+        let told : AreTrueConditions source state (flags_of now.regs.main.f) (value_in c.before) (value_in now) = record {
+          bytes = seen_agrees now;
+          ones = seen_ones state cells entry now i h;
+          holds_before = refined.told_before;
+          holds_after = refined.told_after;
+          come = λ k d p. registers_come (get_or r.conditions.after k d).linear (refined.registers k d p);
+        } in
+        part_true source (value_in c.before) (value_in now) is_true state (flags_of now.regs.main.f) told part claimed (come_both part.linear within)
+
+  known_by : (o : Option RefinementView) → CameRefinedIfSome o c.before now → (fact : LinearView) → HasSlotsBelow (length now.words) fact → KnowsFact a o fact → value_at now fact ≡ pos 0
+  known_by None refined fact within known = plain_zero fact within known
+  known_by (Some r) refined fact within known = claimed_zero r refined fact within known
+
+  seen_by : (o : Option RefinementView) → CameRefinedIfSome o c.before now → (state : AbsState) (entry : Entry) → IsRegs now.regs → Holds state cells entry now → (part : FlagPart) → HasSlotsBelow (length now.words) part.linear
+      → KnowsPart a o state part → HoldsPart part (flags_of now.regs.main.f) (value_in now)
+  seen_by None refined state entry i h part within known = absurd known
+  seen_by (Some r) refined state entry i h part within known = claimed_seen r refined state entry i h part within known
+
+  -- a fact that is known to hold is 0
+  pub known_zero : (fact : LinearView) → HasSlotsBelow (length now.words) fact → KnowsFact a a.refined fact → value_at now fact ≡ pos 0
+  known_zero = known_by a.refined c.refined
+
+  -- a flag part that is known to hold is seen
+  pub known_seen : (state : AbsState) (entry : Entry) → IsRegs now.regs → Holds state cells entry now → (part : FlagPart) → HasSlotsBelow (length now.words) part.linear → KnowsPart a a.refined state part
+      → HoldsPart part (flags_of now.regs.main.f) (value_in now)
+  known_seen = seen_by a.refined c.refined
 
 -- ---- tightening
 
@@ -88,7 +154,7 @@ pub are_linear : (slots : ℕ) (facts : List LinearView) → AllByRecursion (IsS
 are_linear slots [] h k = tt
 are_linear slots (fact ∷ facts) h k = (is_linear slots fact h.0 k.0, are_linear slots facts h.1 k.1)
 
-goes_through : {X Y : Type 0} (o : Option X) (f : X → Option Y) (P : X → Type 0) (Q : Y → Type 0) → IsSomeAnd o P → ((x : X) → P x → IsSomeAnd (f x) Q) → IsSomeAnd (option_and_then f o) Q
+pub goes_through : {X Y : Type 0} (o : Option X) (f : X → Option Y) (P : X → Type 0) (Q : Y → Type 0) → IsSomeAnd o P → ((x : X) → P x → IsSomeAnd (f x) Q) → IsSomeAnd (option_and_then f o) Q
 goes_through None f P Q h g = h
 goes_through (Some x) f P Q h g = g x h
 

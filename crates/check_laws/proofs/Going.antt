@@ -1,6 +1,7 @@
 -- What the rules give a chain before an instruction: the callee of a call, room, and that the instruction is in order.
-use Rattle.std.proofs.Common.{◌≡◌, ◌≢◌, ◌≤◌, ◌+◌, ◌*◌, ◌∙◌, ◌⊎◌, inl, inr, ℕ, true, List, [], ◌++◌, length, get_or, slice_get, Contains, Option, Some, None, Ok, refl, sym, ap, subst, arith}
+use Rattle.std.proofs.Common.{◌≡◌, ◌≢◌, ◌≤◌, ◌+◌, ◌*◌, ◌∙◌, ◌⊎◌, inl, inr, ℕ, Bool, true, false, List, [], ◌++◌, length, get_or, slice_get, Contains, Option, Some, None, Ok, refl, sym, ap, subst, arith}
 use Rattle.std.specs.List.{All}
+use Rattle.std.specs.Prelude.{IfSome, pos}
 use Rattle.z80_alu.specs.declared.regs.Regs.{Regs}
 use Rattle.z80_draft.specs.Registers.{IsRegs}
 use Rattle.board_fetch.specs.Decoded.{StandsAt}
@@ -13,23 +14,47 @@ use Rattle.board_laws.specs.Region.{HasRoom}
 use Rattle.abs_laws.specs.Writes.{MissesRegion}
 use Rattle.abs_state.specs.Entries.{callee_entry}
 use Rattle.abs_state.specs.Pairs.{HoldsPairs, entry_of}
-use Rattle.abs_step.specs.Contained.{After, Before, IsInOrder, IsUnder, Running}
+use Rattle.abs_step.specs.Contained.{After, Before, IsInOrder, IsUnder, Running, SetsTop, seen_of}
 use Rattle.abs_step.specs.declared.next.Next.{Next}
 use Rattle.abs_step.specs.declared.next.NextKind.TheVariants as kinds
 use Rattle.abs_step.specs.declared.reason.Reason.TheVariants as reasons
 use Rattle.abs_step.proofs.Keeps.{keeps}
+use Rattle.abs_step.specs.Successors.{operand_of}
+use Rattle.abs_state.specs.Seen.{Seen}
+use Rattle.abs_state.specs.Variables.{range_of, value_in}
+use Rattle.check_claims.proofs.RegisterLemmas.{after_named}
+use Rattle.flag_conditions.proofs.True.{conditions_true}
+use Rattle.flag_conditions.specs.Conditions.{conditions_of}
+use Rattle.flag_parts.specs.Carry.{known_carry}
+use Rattle.intervals.specs.Range.{RangeView}
+use Rattle.linear_effects.proofs.CarriedRanges.{table_ranges_true}
+use Rattle.linear_effects.proofs.Each.{effects_true}
+use Rattle.linear_effects.specs.Carried.{carried_range}
+use Rattle.linear_effects.specs.Effects.{effect_of}
+use Rattle.linear_effects.specs.declared.variable_effect.LinearEffect.{LinearEffect}
+use Rattle.loop_bounds.specs.declared.effect.Effect.{Effect}
+use Rattle.refined_step.proofs.Assembled.{answered_keeps}
+use Rattle.refined_step.specs.Conditionals.{NarrowsSoundly}
+use Rattle.refined_step.specs.Kept.{AreTrueOfStep}
+use Rattle.z80_decode.specs.declared.kinds.Condition.{Condition}
 use Rattle.check_cover.specs.Covering.{Covered}
 use Rattle.check_cover.specs.Program.{IsRowAt, callee_at, ground_for, is_inline, is_main}
 use Rattle.check_cover.specs.declared.program.Callee.{Callee}
 use Rattle.cert_lines.specs.declared.row.Row.{Row}
+use Rattle.cert_lines.specs.declared.version.Version.{Version}
+use Rattle.cert_lines.specs.declared.version.Version.TheVariants.{One, Two, Three}
 use Rattle.cert_form.specs.Contents.{CertificateView, map_of_board}
 use Rattle.check_rules.specs.Table.{HasNoStack, FitsDepth, entry_bytes}
-use Rattle.check_ways.specs.Ways.{CallsCallee, EntersCallee, GoesOn, SubjectView, arrival_at_entry as entry_arrival, nexts_from, writes_from}
+use Rattle.check_steps.specs.Told.{refinement_by}
+use Rattle.check_ways.specs.Ways.{CallsCallee, EntersCallee, GoesOn, SubjectView, arrival_at_entry as entry_arrival, nexts_from, restarts, step_by, told_of, writes_from}
 use Rattle.check_laws.proofs.EntryLemmas.{all_own}
-use Rattle.check_laws.proofs.InForm.{row_in_form}
+use Rattle.check_laws.proofs.InForm.{RowInForm, parts_in_form, row_in_form}
 use Rattle.check_laws.proofs.LandingLemmas.{has_row}
+use Rattle.check_laws.proofs.Narrowing.{narrows, parts_linear, tells_carry}
+use Rattle.check_laws.specs.Comes.{CameBy, CameRefinedIfSome}
+use Rattle.check_laws.specs.RowHolds.{value_at}
 use Rattle.check_laws.specs.Chain.{AcceptsInForm, waiting_words}
-use Rattle.check_laws.specs.Placed.{Activations, ArePlaced, Under}
+use Rattle.check_laws.specs.Placed.{Activations, ArePlaced, Under, seen_by}
 use Rattle.check_laws.specs.Steps.{at_board}
 use Rattle.check_laws.proofs.Boards.{are_placed, fits_len, is_region}
 use Rattle.check_laws.proofs.Depth.{chain_under, room_by}
@@ -97,17 +122,21 @@ module _ (rom : List ℕ) (cert : CertificateView) (acc : AcceptsInForm rom cert
   overwrites (inl none) some = absurd (some none.main none.empty)
   overwrites (inr all) some = all
 
-  in_order : IsInOrder (ground_for rom cert) cert.region running c.row.state j.instr (writes_from subject) (nexts_from subject)
-  in_order = record {
+  sets_top : restarts subject ≡ false → SetsTop (is_main c.row.proc) cert.region j.instr ⊎ (restarts subject ≡ true) → SetsTop (is_main c.row.proc) cert.region j.instr
+  sets_top plain (inl sets) = sets
+  sets_top plain (inr restart) = let both : false ≡ true = sym plain ∙ restart in absurd (cc)
+
+  in_order : restarts subject ≡ false → IsInOrder (ground_for rom cert) cert.region running c.row.state j.instr (writes_from subject) (nexts_from subject)
+  in_order plain = record {
     overwrites = overwrites (j.consistent reasons.StackOverwrite);
     enables = j.consistent reasons.NmiBeforeStack;
-    sets = λ sets. j.consistent reasons.SpWrite j.instr refl sets;
+    sets = λ sets. sets_top plain (j.consistent reasons.SpWrite j.instr refl sets);
     keeps = j.consistent reasons.CellRange;
     jumps = λ k d within kind. room (length (get_or (nexts_from subject) k d).state.shape) (deep.nexts (get_or (nexts_from subject) k d) (listed_at (nexts_from subject) k d within));
     calls = λ k d within kind regs i h. room_call (get_or (nexts_from subject) k d) (listed_at (nexts_from subject) k d within) kind regs i h;
   }
 
-  is_before : Before cert.cells cert.region running c.row.state (at_board rom cert s env)
+  pub is_before : Before cert.cells cert.region running c.row.state (at_board rom cert s env)
   is_before = record {
     numbers = numbers;
     env = is_env;
@@ -120,8 +149,57 @@ module _ (rom : List ℕ) (cert : CertificateView) (acc : AcceptsInForm rom cert
     laid = p.laid;
   }
 
-  -- what the instruction makes of the board
-  pub after : After cert.cells cert.region running c.row.state j.instr (writes_from subject) (nexts_from subject) (at_board rom cert s env)
-  after =
-      keeps (ground_for rom cert) c.row.address (is_main c.row.proc) (is_inline cert c.row.address) c.row.state j.instr (nexts_from subject)
-      (row_in_form cert acc.form c.row p.listed).short.shape j.stands j.step cert.region running (at_board rom cert s env) refl p.pc refl is_before in_order
+  -- what version 3 tells of the step is true
+  abbrev pub IsTrueOfStep : Version → Type 0
+  IsTrueOfStep One = Unit {0}
+  IsTrueOfStep Two = Unit {0}
+  IsTrueOfStep Three = AreTrueOfStep (told_of subject (Ok j.instr)).conditions (told_of subject (Ok j.instr)).linear (seen_by cert c s) (done (at_board rom cert s env) j.instr).regs
+
+  abbrev AfterHere : Type 0
+  AfterHere = After cert.cells cert.region running c.row.state j.instr (writes_from subject) (nexts_from subject) (at_board rom cert s env)
+
+  in_form_here : RowInForm cert c.row
+  in_form_here = row_in_form cert acc.form c.row p.listed
+
+  narrows_here : (condition : Condition) → NarrowsSoundly condition c.row.parts c.row.state
+  narrows_here condition =
+      narrows condition c.row.parts (parts_linear (length c.row.state.shape) c.row.parts (parts_in_form cert.version c.row in_form_here.of.form) in_form_here.short.parts.short) c.row.state
+
+  -- the carry that the row's parts tell, and the byte in work
+  carry_here : Option Bool
+  carry_here = known_carry (range_of c.row.state) c.row.parts
+
+  byte_here : RangeView
+  byte_here = operand_of (ground_for rom cert) c.row.address (is_inline cert c.row.address) c.row.state j.instr
+
+  after_by : (version : Version) → step_by version subject j.instr ≡ Ok (nexts_from subject) → restarts subject ≡ false → AfterHere × IsTrueOfStep version
+  unfolding carry_here byte_here
+  after_by One step plain = (keeps (ground_for rom cert) c.row.address (is_main c.row.proc) (is_inline cert c.row.address) c.row.state j.instr (nexts_from subject) in_form_here.short.shape j.stands step cert.region running (at_board rom cert s env) refl p.pc refl is_before (in_order plain), tt)
+  after_by Two step plain = (keeps (ground_for rom cert) c.row.address (is_main c.row.proc) (is_inline cert c.row.address) c.row.state j.instr (nexts_from subject) in_form_here.short.shape j.stands step cert.region running (at_board rom cert s env) refl p.pc refl is_before (in_order plain), tt)
+  after_by Three step plain =
+      answered_keeps (ground_for rom cert) c.row.address (is_main c.row.proc) (is_inline cert c.row.address) c.row.state j.instr c.row.parts (nexts_from subject)
+      byte_here carry_here (conditions_of j.instr byte_here c.row.parts carry_here) (effect_of j.instr c.row.state.pairs byte_here carry_here) (carried_range j.instr c.row.state.pairs byte_here carry_here)
+      refl refl refl refl refl in_form_here.short.shape step (tells_carry c.row.parts c.row.state)
+      (conditions_true j.instr byte_here c.row.parts carry_here) (effects_true j.instr c.row.state.pairs byte_here carry_here) (table_ranges_true _ j.instr c.row.state.pairs byte_here carry_here refl)
+      (λ condition is. narrows_here condition) j.stands cert.region running (at_board rom cert s env) refl p.pc refl is_before p.holds.parts (in_order plain)
+
+  -- what the instruction makes of the board, and what is told of it
+  pub after : restarts subject ≡ false → AfterHere × IsTrueOfStep cert.version
+  after plain = after_by cert.version j.step plain
+
+  becomes_at : (o : Option LinearEffect) (old now : Seen) (new : Regs) → now.regs ≡ new → IfSome o (λ e. (n : Seen) → n.regs ≡ new → pos (value_in n e.variable) ≡ value_at old e.linear) → IfSome o (λ e. pos (value_in now e.variable) ≡ value_at old e.linear)
+  becomes_at None old now new same h = tt
+  becomes_at (Some e) old now new same h = h now same
+
+  -- so an arrival after the step has it too
+  pub told_came : (version : Version) → IsTrueOfStep version → (moved : Effect) (words : List ℕ) → CameBy moved (seen_by cert c s) (seen_of cert.cells words (done (at_board rom cert s env) j.instr))
+      → CameRefinedIfSome (refinement_by version (told_of subject (Ok j.instr)) moved) (seen_by cert c s) (seen_of cert.cells words (done (at_board rom cert s env) j.instr))
+  told_came One told moved words came = tt
+  told_came Two told moved words came = tt
+  told_came Three told moved words came = record {
+    moved = came;
+    becomes = becomes_at (told_of subject (Ok j.instr)).linear (seen_by cert c s) (seen_of cert.cells words (done (at_board rom cert s env) j.instr)) (done (at_board rom cert s env) j.instr).regs refl told.becomes;
+    told_before = told.before;
+    told_after = told.after (seen_of cert.cells words (done (at_board rom cert s env) j.instr)) refl;
+    registers = after_named j.instr _ _;
+  }

@@ -11,18 +11,21 @@ use Rattle.z80_decode.specs.declared.instr.Instr.{Instr}
 use Rattle.z80_decode.proofs.Laws.{front, no_beginning, no_front, proper_beginning}
 use Rattle.board_fetch.specs.Decoded.{StandsAt}
 use Rattle.board_step.specs.State.{AreBytes}
-use Rattle.abs_step.specs.Successors.{answer_by, has_no_shape, jumps_anywhere, nexts_of, uses_stack}
+use Rattle.abs_step.specs.Successors.{answer_by, has_no_shape, jumps_anywhere, uses_stack}
 use Rattle.abs_step.specs.declared.next.Next.{Next}
+use Rattle.abs_step.specs.declared.reason.Reason.{Reason}
 use Rattle.abs_step.specs.declared.reason.Reason.TheVariants as reasons
 use Rattle.abs_state.specs.Mode.{is_unset}
 use Rattle.t_states.specs.Io.{is_io}
 use Rattle.std.specs.Prelude.{◌&&◌}
-use Rattle.check_cover.specs.Program.{ground_for, is_inline, is_main}
+use Rattle.check_cover.specs.Program.{is_inline, is_main}
 use Rattle.cert_lines.specs.declared.proc.Proc.{Proc}
 use Rattle.cert_lines.specs.declared.row.Row.{Row}
+use Rattle.cert_lines.specs.declared.version.Version.{Version}
+use Rattle.cert_lines.specs.declared.version.Version.TheVariants.{One, Two, Three}
 use Rattle.cert_form.specs.Contents.{CertificateView}
 use Rattle.check_rules.specs.Table.{IsConsistent}
-use Rattle.check_ways.specs.Ways.{IsSubject, SubjectView, nexts_from, nexts_in, step_of}
+use Rattle.check_ways.specs.Ways.{IsSubject, SubjectView, nexts_from, nexts_in, step_by, step_of}
 use Rattle.check_laws.specs.Chain.{AcceptsInForm}
 
 -- ---- something stands at each address
@@ -64,17 +67,34 @@ allowed false false true d nexts p q r s = absurd (r refl)
 allowed false false false true nexts p q r s = absurd (s refl)
 allowed false false false false nexts p q r s = refl
 
+-- an answer that is no refusal, of a step of each version
+told_nexts : (answer : Result (List Next) Reason) (nexts : List Next) → answer ≡ Ok nexts → answer ≡ Ok (nexts_in answer)
+told_nexts answer nexts e = e ∙ ap (λ ns. Ok ns) (sym (ap nexts_in e))
+
+answered_by : (version : Version) (s : SubjectView) (instr : Instr) → step_by version s instr ≢ Err reasons.IoSpace → step_by version s instr ≢ Err reasons.StackUnset → step_by version s instr ≢ Err reasons.StackShape → step_by version s instr ≢ Err reasons.NotCovered
+    → step_by version s instr ≡ Ok (nexts_in (step_by version s instr))
+answered_by One s instr p q r n =
+    let a = s.row.state in
+    let main = is_main s.row.proc in
+    let inline = is_inline s.cert s.row.address in
+    told_nexts (step_by One s instr) _ (allowed (is_io instr) (uses_stack instr && is_unset a.mode) (has_no_shape main inline instr a.shape) (jumps_anywhere instr a) _ p q r n)
+answered_by Two s instr p q r n =
+    let a = s.row.state in
+    let main = is_main s.row.proc in
+    let inline = is_inline s.cert s.row.address in
+    told_nexts (step_by Two s instr) _ (allowed (is_io instr) (uses_stack instr && is_unset a.mode) (has_no_shape main inline instr a.shape) (jumps_anywhere instr a) _ p q r n)
+answered_by Three s instr p q r n =
+    let a = s.row.state in
+    let main = is_main s.row.proc in
+    let inline = is_inline s.cert s.row.address in
+    told_nexts (step_by Three s instr) _ (allowed (is_io instr) (uses_stack instr && is_unset a.mode) (has_no_shape main inline instr a.shape) (jumps_anywhere instr a) _ p q r n)
+
 answered : (s : SubjectView) (instr : Instr) → s.decoded ≡ Ok instr → IsConsistent s → (rom : List ℕ) (cert : CertificateView) (row : Row) (proc : Proc) → s ≡ subject_of rom cert row proc instr
     → step_of (subject_of rom cert row proc instr) ≡ Ok (nexts_from (subject_of rom cert row proc instr))
 answered s instr d ok rom cert row proc e =
     let t = subject_of rom cert row proc instr in
     let k : IsConsistent t = subst IsConsistent e ok in
-    let a = row.state in
-    let main = is_main row.proc in
-    let inline = is_inline cert row.address in
-    let answer : step_of t ≡ Ok (nexts_of (ground_for rom cert) row.address main inline instr a) =
-    allowed (is_io instr) (uses_stack instr && is_unset a.mode) (has_no_shape main inline instr a.shape) (jumps_anywhere instr a) _ (k reasons.IoSpace) (k reasons.StackUnset) (k reasons.StackShape) (k reasons.NotCovered).jumps in
-    answer ∙ ap (λ ns. Ok ns) (sym (ap nexts_in answer))
+    answered_by cert.version t instr (k reasons.IoSpace) (k reasons.StackUnset) (k reasons.StackShape) (k reasons.NotCovered).jumps
 
 pub judge : (rom : List ℕ) (cert : CertificateView) (row : Row) (proc : Proc) → AcceptsInForm rom cert → Contains cert.rows row → slice_get cert.procs row.proc ≡ Some proc → Judged rom cert row proc
 judge rom cert row proc acc listed has = by stands.0 stands.1

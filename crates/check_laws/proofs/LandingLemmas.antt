@@ -30,8 +30,10 @@ use Rattle.cert_form.specs.Contents.{CertificateView}
 use Rattle.cert_form.specs.Form.{IsInForm}
 use Rattle.check_laws.specs.Comes.{Comes}
 use Rattle.check_laws.specs.RowHolds.{AreZeroAt, IsHeld, RowHolds}
-use Rattle.check_laws.proofs.Facts.{all_tightened, are_linear, known_zero}
-use Rattle.check_laws.proofs.InForm.{each_or, row_in_form}
+use Rattle.cert_flags.specs.Parts.{IsFlagPart}
+use Rattle.flag_parts.specs.Parts.{AreSeen}
+use Rattle.check_laws.proofs.Facts.{all_tightened, are_linear, known_seen, known_zero}
+use Rattle.check_laws.proofs.InForm.{each_or, parts_in_form, row_in_form}
 use Rattle.check_laws.proofs.Overlapping.{cut_mode, states_overlap}
 
 pub byte_small : (r : Register8) (regs : Regs) → IsRegs regs → byte_in r regs ≤ 255
@@ -59,8 +61,12 @@ module _ (cert : CertificateView) (form : IsInForm cert) (a : ArrivalView) (entr
       known_zero cert.cells a now c (get_or row.facts k d)
       (subst (λ (n : ℕ). HasSlotsBelow n (get_or row.facts k d)) slots (each_or (IsSum (length row.state.shape)) row.facts k d f.of.form.facts p).within_shape)
       (covers.facts k d p) in
+      let parts : AreSeen row.parts now = λ k d p.
+      known_seen cert.cells a now c state entry numbers h (get_or row.parts k d)
+      (subst (λ (n : ℕ). HasSlotsBelow n (get_or row.parts k d).linear) slots (each_or (IsFlagPart (length row.state.shape)) row.parts k d (parts_in_form cert.version row f.of.form) p).within_shape)
+      (covers.parts k d p) in
       let left = all_tightened cert.cells entry now numbers row.facts (are_linear (length row.state.shape) row.facts f.of.form.facts f.short.facts.short) facts state h in
-      record { state = covered_left row.state cert.cells entry now (tightened_by row.facts state) covers.tightened left; facts = facts }
+      record { state = covered_left row.state cert.cells entry now (tightened_by row.facts state) covers.tightened left; facts = facts; parts = parts }
 
   lands_at : (state cut : AbsState) → Holds state cert.cells entry now → Holds cut cert.cells entry now → cut.mode ≡ state.mode → SomeCovers cert a cut → IsHeld cert a.proc a.address state entry now
   lands_at state cut h k mode some =

@@ -3,7 +3,9 @@ pub mod InForm
 pub mod Overlapping
 pub mod Facts
 pub mod LandingLemmas
+pub mod Narrowing
 pub mod EntryLemmas
+pub mod Restarts
 pub mod ReturnLemmas
 pub mod PayLemmas
 pub mod Procs
@@ -11,6 +13,7 @@ pub mod Judging
 pub mod Boards
 pub mod Depth
 pub mod Going
+pub mod RestartLemmas
 pub mod ExecutingLemmas
 pub mod OwingLemmas
 pub mod Keeper

@@ -1,5 +1,5 @@
 -- Events while only main code has activations.
-use Rattle.std.proofs.Common.{◌≡◌, ◌≢◌, ◌≤◌, ◌∙◌, ℕ, Bool, true, false, cond, List, [], drop, None, Result, Ok, refl, sym, ap, subst}
+use Rattle.std.proofs.Common.{◌≡◌, ◌≢◌, ◌≤◌, ◌∙◌, ℕ, Bool, true, false, cond, List, [], drop, inl, None, Result, Ok, refl, sym, ap, subst}
 use Rattle.z80_decode.specs.declared.instr.Instr.{Instr}
 use Rattle.z80_decode.specs.declared.fault.DecodeFault.{DecodeFault}
 use Rattle.t_states.specs.Frame.{idle_cost}
@@ -97,7 +97,7 @@ module _ (rom : List ℕ) (cert : CertificateView) (acc : AcceptsInForm rom cert
 
     module _ (nmi : Callee) (time : ℕ) (c : Activations) (s : BoardView) (st : Stands rom cert MainIs nmi time (alone rom cert acc main is_main c) s) (unlatched : s.latched ≡ false) where
       executed : (env : Env) → IsEnv env → Executed rom cert MainIs [] c s env
-      executed env is_env = executing rom cert MainIs [] c s env acc (under_main rom cert acc main is_main) st.numbers is_env st.placed
+      executed env is_env = executing rom cert MainIs [] c s env acc (under_main rom cert acc main is_main) (inl refl) st.numbers is_env st.placed
 
       -- main code meets no trap
       pub main_never : (env : Env) → IsEnv env → Traps (certified_profile rom cert) s env None

@@ -107,7 +107,7 @@ module _ (rom : List ℕ) (cert : CertificateView) (acc : AcceptsInForm rom cert
   ahead c s numbers p = by x.takes
     where
       x : Executed rom cert lowest under c s any_env
-      x = executing rom cert lowest under c s any_env acc u numbers is_env p
+      x = executing rom cert lowest under c s any_env acc u (inr timed) numbers is_env p
 
       keeps : IsState (done (at_board rom cert s any_env) x.instr)
       keeps = done_keeps (at_board rom cert s any_env) x.instr (record { rom = acc.bytes; state = numbers; env = is_env }) x.stands

@@ -1,7 +1,8 @@
 -- What rows pay, at the values that activations see.
-use Rattle.std.proofs.Common.{◌≡◌, ◌≤◌, ℕ, zero, suc, List, [], ◌∷◌, length, get_or, Option, Some, None, ℤ, pos, negsuc, ◌+ℤ◌, ◌-ℤ◌, ◌≤ℤ◌, Contains, refl, sym, ap, subst, arith}
+use Rattle.std.proofs.Common.{◌≡◌, ◌≤◌, ◌∙◌, ℕ, zero, suc, Bool, true, false, cond, eqb, inl, inr, List, [], ◌∷◌, length, get_or, Option, Some, None, ℤ, pos, negsuc, ◌+ℤ◌, ◌-ℤ◌, ◌≤ℤ◌, Contains, refl, sym, ap, subst, arith}
 use Rattle.std.specs.Prelude.{◌*◌, ◌*ℤ◌, unsigned_abs, unwrap_or}
 use Rattle.std.specs.List.{All}
+use Rattle.std.proofs.lemmas.Bool.{eqb-true}
 use Rattle.std.proofs.lemmas.Int.{ints, unsigned_abs-mul}
 use Rattle.std.proofs.lemmas.List.Elements.{All-head, All-tail}
 use Rattle.intervals.specs.Domain.{Entry}
@@ -15,22 +16,35 @@ use Rattle.loop_bounds.specs.declared.variable.Variable.TheVariants as variables
 use Rattle.loop_bounds.specs.declared.variable.Part.{Part}
 use Rattle.loop_bounds.specs.declared.variable.Part.TheVariants.{Word, High, Low}
 use Rattle.loop_bounds.proofs.Boxes.{total_agree}
+use Rattle.loop_bounds.proofs.VariableLemmas.{same_from_rank}
+use Rattle.loop_bounds.specs.Variable.{rank_of}
 use Rattle.cert_fields.specs.Pair.{IsPair}
 use Rattle.cert_fields.specs.Shape.{IsShape}
 use Rattle.stack_shape.specs.declared.slot.Slot.{Slot as ShapeSlot}
 use Rattle.z80_draft.specs.Registers.{IsRegs}
+use Rattle.abs_laws.specs.Fits.{IsThere}
 use Rattle.abs_state.specs.CutLaws.{variable_lies}
 use Rattle.abs_state.specs.Holds.{Holds}
 use Rattle.abs_state.specs.Seen.{Seen}
-use Rattle.abs_state.specs.Variables.{full_slot, part_range, value_in}
+use Rattle.abs_state.specs.Variables.{full_slot, part_range, range_of, value_in}
 use Rattle.abs_state.specs.declared.cell.KeptCell.{KeptCell}
 use Rattle.abs_step.proofs.GoesStack.{as_many}
 use Rattle.cert_lines.specs.declared.proc.Proc.{Proc}
 use Rattle.cert_lines.specs.declared.row.Row.{Row}
 use Rattle.cert_form.specs.Contents.{CertificateView}
 use Rattle.cert_form.specs.Form.{IsInForm}
-use Rattle.check_ways.specs.Pays.{IsWithinTime, PaysOut, PaysTo, constant_sum, cost_before, potential_of}
-use Rattle.check_laws.specs.Comes.{CameBy}
+use Rattle.check_claims.proofs.SeenLemmas.{seen_agrees, seen_ones}
+use Rattle.check_claims.proofs.TruthLemmas.{first_true, second_true}
+use Rattle.check_claims.specs.Rewritings.{constants_first, variables_first}
+use Rattle.check_claims.specs.Source.{StepSourceView}
+use Rattle.check_claims.specs.Truth.{ComesBoth, IsTrueSource}
+use Rattle.check_claims.specs.declared.rewritings.Rewriting.{Rewriting}
+use Rattle.check_cover.specs.Arrival.{ArrivalView, RefinementView}
+use Rattle.check_payments.specs.Paying.{PaysRewritten, after_with}
+use Rattle.check_ways.specs.Pays.{IsWithinTime, PaysBy, PaysOut, PaysTo, constant_sum, cost_before, potential_of}
+use Rattle.linear_sums.specs.Rewriting.{FollowsEffect}
+use Rattle.linear_sums.specs.declared.rewriting.LinearChange.{LinearChange}
+use Rattle.check_laws.specs.Comes.{CameBy, CameRefined, CameRefinedIfSome}
 use Rattle.check_laws.specs.RowHolds.{value_at, worth}
 use Rattle.check_laws.proofs.EntryLemmas.{word_small}
 use Rattle.check_laws.proofs.Facts.{below_there}
@@ -55,14 +69,69 @@ came_value effect before now s came within =
 left_over : (a b z : ℤ) (cost : ℕ) → pos 0 ≤ℤ (a -ℤ pos cost -ℤ z) → z ≡ b → (pos cost +ℤ b) ≤ℤ a
 left_over a b z cost h e = omega (arith, ints, h, e)
 
-pub way_paid : (cert : CertificateView) (row target : Row) (cost : ℕ) (effect : Effect) (entry later : Entry) (before now : Seen) → IsInForm cert → Contains cert.rows target → IsRegs before.regs → IsRegs now.regs
-    → Holds row.state cert.cells entry before → Holds target.state cert.cells later now → CameBy effect before now → PaysTo row cost effect target → (pos cost +ℤ worth target now) ≤ℤ worth row before
-way_paid cert row target cost effect entry later before now form listed i j h k came pays =
+-- ---- version 3
+
+one_rank : (n : ℕ) → true ≡ eqb n n
+one_rank n = search arith
+
+-- what an effect beside a linear change makes of the values before is the value that came
+with_is : (effect : Effect) (change : Option LinearChange) (before now : Valuation) (v : Variable) → FollowsEffect effect change before v (now v) → after_with effect change before now v ≡ pos (now v)
+with_is effect None before now v f = f
+with_is effect (Some c) before now v f = at (eqb (rank_of c.variable) (rank_of v)) refl
+  where
+    at : (b : Bool) → eqb (rank_of c.variable) (rank_of v) ≡ b → cond b (value (whole before) c.value) (after effect before now v) ≡ pos (now v)
+    at true e = sym (f.0 (sym (same_from_rank c.variable v (eqb-true _ _ e))))
+    at false e = f.1 (λ same. let both : false ≡ true = sym e ∙ ap (λ (w : Variable). eqb (rank_of c.variable) (rank_of w)) same ∙ sym (one_rank (rank_of c.variable)) in cc)
+
+module _ (row target : Row) (cost : ℕ) (cells : List KeptCell) (entry later : Entry) (before now : Seen) (i : IsRegs before.regs) (j : IsRegs now.regs) (h : Holds row.state cells entry before) (k : Holds target.state cells later now) (within : HasSlotsBelow (length now.words) (potential_of target)) where
+  abbrev IsPaid : Type 0
+  IsPaid = (pos cost +ℤ worth target now) ≤ℤ worth row before
+
+  plain_paid : (effect : Effect) → CameBy effect before now → PaysBy row cost effect None target → IsPaid
+  plain_paid effect came pays =
+      let paid : pos 0 ≤ℤ (worth row before -ℤ pos cost -ℤ value (after effect (value_in before) (value_in now)) (potential_of target)) =
+      pays (value_in before) (value_in now) (λ v some. variable_lies row.state cells entry before i h v) (λ v some. variable_lies target.state cells later now j k v) in
+      left_over (worth row before) (worth target now) (value (after effect (value_in before) (value_in now)) (potential_of target)) cost paid (came_value effect before now (potential_of target) came within)
+
+  rewritten_paid : (r : Rewriting) → ((v : Variable) → IsThere (length now.words) v → FollowsEffect r.effect r.change (value_in before) v (value_in now v))
+      → PaysRewritten (potential_of row) (potential_of target) cost r (range_of row.state) (range_of target.state) → IsPaid
+  rewritten_paid r follows pays =
+      let paid : pos 0 ≤ℤ (worth row before -ℤ pos cost -ℤ value (after_with r.effect r.change (value_in before) (value_in now)) (potential_of target)) =
+      pays (value_in before) (value_in now) (λ v some. variable_lies row.state cells entry before i h v) (λ v some. variable_lies target.state cells later now j k v) in
+      let same : value (after_with r.effect r.change (value_in before) (value_in now)) (potential_of target) ≡ worth target now =
+      ap (λ z. (potential_of target).constant +ℤ z)
+      (total_agree (after_with r.effect r.change (value_in before) (value_in now)) (whole (value_in now)) (potential_of target).terms
+      (λ n d p.
+      let v = (get_or (potential_of target).terms n d).variable in
+      with_is r.effect r.change (value_in before) (value_in now) v (follows v (below_there (length now.words) v (within n d p))))) in
+      left_over (worth row before) (worth target now) (value (after_with r.effect r.change (value_in before) (value_in now)) (potential_of target)) cost paid same
+
+  refined_paid : (effect : Effect) (r : RefinementView) → CameBy effect before now → CameRefined r before now → PaysBy row cost effect (Some r) target → IsPaid
+  refined_paid effect r came refined pays = by pays
+    where
+      source : StepSourceView
+      source = record { facts = []; before = row.state; settled = effect; moved = r.moved; linear = r.linear; conditions = r.conditions }
+
+      is_true : IsTrueSource source (value_in before) (value_in now)
+      is_true = record { bytes = seen_agrees before; ones = seen_ones row.state cells entry before i h; facts = λ n d p. absurd (omega arith); becomes = refined.becomes }
+
+      both : (v : Variable) → IsThere (length now.words) v → ComesBoth source (value_in before) (value_in now) v
+      both v there = record { settled = came v there; moved = refined.moved v there }
+
+      by : PaysBy row cost effect (Some r) target → IsPaid
+      by (inl p) = rewritten_paid (constants_first effect r.linear) (λ v there. first_true source (value_in before) (value_in now) is_true v (both v there)) p
+      by (inr p) = rewritten_paid (variables_first effect r.moved r.linear) (λ v there. second_true source (value_in before) (value_in now) is_true v (both v there)) p
+
+  by_refinement : (effect : Effect) (o : Option RefinementView) → CameBy effect before now → CameRefinedIfSome o before now → PaysBy row cost effect o target → IsPaid
+  by_refinement effect None came refined pays = plain_paid effect came pays
+  by_refinement effect (Some r) came refined pays = refined_paid effect r came refined pays
+
+pub way_paid : (cert : CertificateView) (row target : Row) (cost : ℕ) (a : ArrivalView) (entry later : Entry) (before now : Seen) → IsInForm cert → Contains cert.rows target → IsRegs before.regs → IsRegs now.regs
+    → Holds row.state cert.cells entry before → Holds target.state cert.cells later now → CameBy a.effect before now → CameRefinedIfSome a.refined before now → PaysTo row cost a target → (pos cost +ℤ worth target now) ≤ℤ worth row before
+way_paid cert row target cost a entry later before now form listed i j h k came refined pays =
     let f = row_in_form cert form target listed in
     let within : HasSlotsBelow (length now.words) (potential_of target) = subst (λ (n : ℕ). HasSlotsBelow n (potential_of target)) (sym (as_many target.state.shape later now.words k.shape)) (potential_within (length target.state.shape) target.potential f.of.form.potential) in
-    let paid : pos 0 ≤ℤ (worth row before -ℤ pos cost -ℤ value (after effect (value_in before) (value_in now)) (potential_of target)) =
-    pays (value_in before) (value_in now) (λ v some. variable_lies row.state cert.cells entry before i h v) (λ v some. variable_lies target.state cert.cells later now j k v) in
-    left_over (worth row before) (worth target now) (value (after effect (value_in before) (value_in now)) (potential_of target)) cost paid (came_value effect before now (potential_of target) came within)
+    by_refinement row target cost cert.cells entry later before now i j h k within a.effect a.refined came refined pays
 
 module _ (row : Row) (cells : List KeptCell) (entry : Entry) (m : Seen) (i : IsRegs m.regs) (h : Holds row.state cells entry m) where
   pub exit_paid : (cost : ℕ) → PaysOut row cost → pos cost ≤ℤ worth row m

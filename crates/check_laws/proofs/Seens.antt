@@ -1,6 +1,8 @@
 -- What a row says depends only on the pairs, the words, the cells and the mode.
 use Rattle.std.proofs.Common.{◌≡◌, ◌≢◌, ◌≤◌, ◌∙◌, ℕ, zero, suc, Bool, List, [], ◌∷◌, get_or, Option, Some, None, pos, refl, sym, ap, subst, arith}
-use Rattle.std.specs.Prelude.{◌+ℤ◌}
+use Rattle.std.specs.Prelude.{◌+ℤ◌, ◌↔◌, IsTrue, ℤ}
+use Rattle.flag_letters.specs.declared.part.FlagPart.{FlagPart}
+use Rattle.flag_parts.specs.Parts.{AreSeen, HoldsPart, IsSetAt, flag_of}
 use Rattle.intervals.specs.Domain.{Entry}
 use Rattle.intervals.specs.Pair.{HoldsPair}
 use Rattle.loop_bounds.specs.Effect.{whole}
@@ -9,6 +11,7 @@ use Rattle.loop_bounds.specs.declared.variable.Variable.{Variable}
 use Rattle.loop_bounds.specs.declared.variable.Variable.TheVariants as variables
 use Rattle.loop_bounds.proofs.Boxes.{total_agree}
 use Rattle.stack_shape.specs.Shape.{HoldsShape}
+use Rattle.z80_alu.specs.Flags.{flags_of}
 use Rattle.z80_alu.specs.Word.{word_of}
 use Rattle.z80_alu.specs.declared.regs.Regs.{Regs}
 use Rattle.z80_alu.specs.declared.regs.RegisterSet.{RegisterSet}
@@ -91,6 +94,13 @@ same_value m n e (variables.Slot number part) = ap (λ (ws : List ℕ). part_of 
 pub same_linear : (m n : Seen) → SameView m n → (s : LinearView) → value_at n s ≡ value_at m s
 same_linear m n e s = ap (λ z. s.constant +ℤ z) (total_agree (whole (value_in n)) (whole (value_in m)) s.terms (λ k d p. ap pos (same_value m n e (get_or s.terms k d).variable)))
 
+-- the flag parts say the same of what looks the same
+pub same_parts : (parts : List FlagPart) (m n : Seen) → SameView m n → AreSeen parts m → AreSeen parts n
+same_parts parts m n e h = λ k d p.
+    let part = get_or parts k d in
+    let at_flags : HoldsPart part (flags_of n.regs.main.f) (value_in m) = subst (λ (r : RegisterSet). HoldsPart part (flags_of r.f) (value_in m)) (sym e.main) (h k d p) in
+    subst (λ (z : ℤ). IsTrue (flag_of part.letter (flags_of n.regs.main.f)) ↔ IsSetAt part.letter z) (sym (same_linear m n e part.linear)) at_flags
+
 -- a row that holds does so of everything that looks the same to it
 pub still_holds : (row : Row) (cells : List KeptCell) (entry : Entry) (m n : Seen) → SameView m n → HoldsMode row.state.mode n.enable n.line n.latched → HoldsCells row.state.armed cells n.cells → RowHolds row cells entry m → RowHolds row cells entry n
 still_holds row cells entry m n e mode held h = record {
@@ -102,6 +112,7 @@ still_holds row cells entry m n e mode held h = record {
     shape = subst (λ (ws : List ℕ). HoldsShape row.state.shape entry ws) (sym e.words) h.state.shape;
   };
   facts = λ k d p. same_linear m n e (get_or row.facts k d) ∙ h.facts k d p;
+  parts = same_parts row.parts m n e h.parts;
 }
 
 -- if more cells hold, fewer do

@@ -88,7 +88,7 @@ module _ (rom : List ℕ) (cert : CertificateView) (acc : AcceptsInForm rom cert
       under_here = under_nmi rom cert acc main is_main nmi time is_nmi u st.inside.context
 
       taking : Executed rom cert NmiIs (under_words (Some u)) c s env
-      taking = executing rom cert NmiIs (under_words (Some u)) c s env acc under_here st.numbers is_env st.placed
+      taking = executing rom cert NmiIs (under_words (Some u)) c s env acc under_here (inr (subst (λ (o : Option ℕ). IsSome o) (sym is_nmi.time_is) refl)) st.numbers is_env st.placed
 
       kind_here : kind_of s ≡ kinds.Instr
       kind_here = awake_executes s st.inside.unlatched st.inside.awake

@@ -1,5 +1,5 @@
 -- The chain of activations on a board (docs/CHECKER.md, "Activations").
-use Rattle.std.specs.Prelude.{ℕ, ◌+◌, ◌-◌, ◌*◌, ◌≤◌, ◌≡◌, ◌≢◌, List, ◌++◌, length, Contains, ℤ, ◌+ℤ◌}
+use Rattle.std.specs.Prelude.{ℕ, ◌+◌, ◌-◌, ◌*◌, ◌≤◌, ◌≡◌, ◌≢◌, ◌⊎◌, true, List, ◌++◌, length, Contains, ℤ, ◌+ℤ◌}
 use Rattle.intervals.specs.Domain.{Entry}
 use Rattle.board_step.specs.State.{BoardView}
 use Rattle.board_laws.specs.Board.{HasWords}
@@ -11,7 +11,7 @@ use Rattle.check_cover.specs.Program.{is_main}
 use Rattle.check_cover.specs.declared.program.Callee.{Callee}
 use Rattle.cert_lines.specs.declared.row.Row.{Row}
 use Rattle.cert_form.specs.Contents.{CertificateView, map_of_board}
-use Rattle.check_rules.specs.Table.{entry_bytes}
+use Rattle.check_rules.specs.Table.{IsTimed, entry_bytes}
 use Rattle.check_laws.specs.RowHolds.{RowHolds, worth}
 use Rattle.check_laws.specs.Chain.{Chain, Has, Waiting, later_all, waiting_words}
 
@@ -47,6 +47,11 @@ pub record ArePlaced (rom : List ℕ) (cert : CertificateView) (lowest : Callee)
 pub record Under (cert : CertificateView) (lowest : Callee) (under : List ℕ) : Type 0 where
   pub lowest_is : IsUnder (is_main lowest.number) under
   pub room : 2 * length under + lowest.proc.depth ≤ (cert.region.top - cert.region.low) + entry_bytes lowest.proc.kind
+
+-- The lowest activation of a chain is main's, or has a time. A restart goes on in main; where the lowest has a time, so
+-- have all that it called, and no activation of the chain restarts.
+abbrev pub IsMainOrTimed : Callee → Type 0
+IsMainOrTimed lowest = (is_main lowest.number ≡ true) ⊎ IsTimed lowest.proc
 
 -- the T-states that a chain may still take
 abbrev pub owed : CertificateView → Activations → BoardView → ℤ

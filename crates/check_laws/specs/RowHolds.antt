@@ -1,4 +1,5 @@
--- When a row of a certificate holds: its state holds and its facts are 0 (docs/CHECKER.md, "What a row knows").
+-- When a row of a certificate holds: its state holds, its facts are 0 and its flag parts are true (docs/CHECKER.md,
+-- "What a row knows").
 use Rattle.std.specs.Prelude.{ℕ, ◌≡◌, true, List, ℤ, pos}
 use Rattle.std.specs.List.{All}
 use Rattle.intervals.specs.Domain.{Entry}
@@ -13,6 +14,7 @@ use Rattle.abs_state.specs.declared.cell.KeptCell.{KeptCell}
 use Rattle.abs_state.specs.declared.state.AbsState.{AbsState}
 use Rattle.check_cover.specs.Program.{IsRowAt}
 use Rattle.cert_lines.specs.declared.row.Row.{Row}
+use Rattle.flag_parts.specs.Parts.{AreSeen}
 use Rattle.cert_form.specs.Contents.{CertificateView}
 use Rattle.check_ways.specs.Pays.{potential_of}
 
@@ -24,10 +26,11 @@ value_at m linear = value (whole (value_in m)) linear
 abbrev pub AreZeroAt : Seen → List LinearView → Type 0
 AreZeroAt m facts = All (λ fact. value_at m fact ≡ pos 0) facts
 
--- the row's state holds of what an activation sees, and its facts are 0 there
+-- the row's state holds of what an activation sees, its facts are 0 there, and its flag parts are true of it
 pub record RowHolds (row : Row) (cells : List KeptCell) (entry : Entry) (m : Seen) : Type 0 where
   pub state : Holds row.state cells entry m
   pub facts : AreZeroAt m row.facts
+  pub parts : AreSeen row.parts m
 
 -- the value of a row's potential there, in T-states; it may be negative
 abbrev pub worth : Row → Seen → ℤ

@@ -25,8 +25,8 @@ use Rattle.check_laws.specs.Board.{board_of}
 abbrev pub at_board : List ℕ → CertificateView → BoardView → Env → ContextView
 at_board rom cert s env = context_of (board_of rom cert) s env
 
--- The chain continues: its running activation goes on, calls, or returns to the one that waits. It pays the
--- instruction's T-states.
+-- The chain continues: its running activation goes on, calls, or returns to the one that waits; after a restart main's
+-- alone goes on. It pays the instruction's T-states.
 pub record Stays (rom : List ℕ) (cert : CertificateView) (lowest : Callee) (under : List ℕ) (c : Activations) (s new : BoardView) (t : ℕ) : Type 0 where
   pub next : Activations
   pub placed : ArePlaced rom cert lowest under next new
