@@ -13,14 +13,14 @@ use z80_decode::Register8;
 const KEPT: usize = 40_000;
 
 /// The judged rows by their digests.
-type Kept = BTreeMap<u64, Rc<JudgedRow>>;
+type RowsByDigest = BTreeMap<u64, Rc<JudgedRow>>;
 
 /// Judged rows by digests of what they depend on: the state, its place, and what a plan says of the whole ROM. Nothing
 /// else may differ between the analyses that share them. Two rows with one digest, of 64 bits, count as the same; what
 /// is found is judged by the checker in the end.
 #[derive(Drop)]
 pub struct JudgedRows {
-    kept: Rc<RefCell<Kept>>,
+    kept: Rc<RefCell<RowsByDigest>>,
     /// The digest of what a plan says of the whole ROM.
     whole: Digest,
 }
