@@ -10,7 +10,11 @@ use command_words::{OLD_SYMBOLS, SYMBOLS};
 use program_names::{NameFiles, ProgramNames};
 
 /// `galcert diff`. The result is the exit status.
-pub fn diff_files<'a>(rt: &'a HostRuntime, matches: &ArgMatches<'a>, notes: &mut ErrorStream) -> u8 {
+pub fn diff_files<'a>(
+    rt: &'a HostRuntime,
+    matches: &ArgMatches<'a>,
+    notes: &mut ErrorStream,
+) -> u8 {
     if let Some(clash) = clash_of(rt, matches, &["OLD", "NEW", OLD_SYMBOLS, SYMBOLS], None) {
         return report_clash(notes, &clash);
     }

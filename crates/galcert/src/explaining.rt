@@ -22,7 +22,11 @@ const MOST_UNSAID: u32 = 20;
 const INPUTS: [&str; 4] = ["ROM", SECOND, SYMBOLS, LISTING];
 
 /// `galcert explain`. The result is the exit status.
-pub fn explain_files<'a>(rt: &'a HostRuntime, matches: &ArgMatches<'a>, notes: &mut ErrorStream) -> u8 {
+pub fn explain_files<'a>(
+    rt: &'a HostRuntime,
+    matches: &ArgMatches<'a>,
+    notes: &mut ErrorStream,
+) -> u8 {
     let second = matches.get_str(SECOND);
     if second.is_none() {
         if let Some(number) = page_number(word(matches, "ROM")) {
@@ -115,7 +119,12 @@ fn hint_explained(
 }
 
 /// Reports a note in the source that is bad. The result is the exit status.
-fn bad_note(rt: &HostRuntime, names: &ProgramNames, out: &mut Answer, notes: &mut ErrorStream) -> u8 {
+fn bad_note(
+    rt: &HostRuntime,
+    names: &ProgramNames,
+    out: &mut Answer,
+    notes: &mut ErrorStream,
+) -> u8 {
     let Some(Err(fault)) = &names.notes else {
         return ExitStatus::Refused.code();
     };

@@ -40,7 +40,11 @@ struct MakeRequest<'r, 'm> {
 }
 
 /// `galcert check`, with and without `--infer`. The result is the exit status.
-pub fn check_files<'a>(rt: &'a HostRuntime, matches: &ArgMatches<'a>, notes: &mut ErrorStream) -> u8 {
+pub fn check_files<'a>(
+    rt: &'a HostRuntime,
+    matches: &ArgMatches<'a>,
+    notes: &mut ErrorStream,
+) -> u8 {
     let infers = matches.get_flag(INFER);
     if !infers && matches.get_str("ANNOT").is_none() && matches.get_str(LISTING).is_none() {
         report(
@@ -199,7 +203,11 @@ pub fn trials_of(matches: &ArgMatches, notes: &mut ErrorStream) -> Option<u32> {
 }
 
 /// `galcert suggest`. The result is the exit status.
-pub fn suggest_files<'a>(rt: &'a HostRuntime, matches: &ArgMatches<'a>, notes: &mut ErrorStream) -> u8 {
+pub fn suggest_files<'a>(
+    rt: &'a HostRuntime,
+    matches: &ArgMatches<'a>,
+    notes: &mut ErrorStream,
+) -> u8 {
     let Some(trials) = trials_of(matches, notes) else {
         return ExitStatus::Usage.code();
     };

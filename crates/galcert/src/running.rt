@@ -204,7 +204,13 @@ fn lines_of<'a>(rt: &'a HostRuntime, matches: &ArgMatches<'a>) -> Lines<'a> {
 }
 
 /// After a refusal, says what the files look like.
-pub fn hint_refused(rt: &HostRuntime, status: u8, rom: &InputFile, cert: &InputFile, notes: &mut ErrorStream) {
+pub fn hint_refused(
+    rt: &HostRuntime,
+    status: u8,
+    rom: &InputFile,
+    cert: &InputFile,
+    notes: &mut ErrorStream,
+) {
     if status == ExitStatus::Refused.code() {
         hint_rom(rt, rt.alloc(), rom, notes);
         hint_certificate(rt.alloc(), rom, cert, notes);

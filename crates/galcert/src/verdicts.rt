@@ -14,7 +14,11 @@ use json_documents::{Command, conclude};
 use watched_sinks::Watched;
 
 /// `galcert verify`. The result is the exit status.
-pub fn verify_files<'a>(rt: &'a HostRuntime, matches: &ArgMatches<'a>, notes: &mut ErrorStream) -> u8 {
+pub fn verify_files<'a>(
+    rt: &'a HostRuntime,
+    matches: &ArgMatches<'a>,
+    notes: &mut ErrorStream,
+) -> u8 {
     let Some(limits) = Limits::of(matches, notes) else {
         return ExitStatus::Usage.code();
     };
@@ -64,7 +68,11 @@ fn wanted_output<'a>(rt: &'a HostRuntime, matches: &ArgMatches) -> Out<'a> {
 }
 
 /// `galcert migrate`. The result is the exit status.
-pub fn migrate_file<'a>(rt: &'a HostRuntime, matches: &ArgMatches<'a>, notes: &mut ErrorStream) -> u8 {
+pub fn migrate_file<'a>(
+    rt: &'a HostRuntime,
+    matches: &ArgMatches<'a>,
+    notes: &mut ErrorStream,
+) -> u8 {
     let mut cert = input(rt, matches, "CERT");
     let mut out = stdout(rt);
     let status = migrate_on(rt.alloc(), &mut cert, &mut out);

@@ -22,17 +22,29 @@ enum Shows {
 }
 
 /// `galcert list`. The result is the exit status.
-pub fn list_files<'a>(rt: &'a HostRuntime, matches: &ArgMatches<'a>, notes: &mut ErrorStream) -> u8 {
+pub fn list_files<'a>(
+    rt: &'a HostRuntime,
+    matches: &ArgMatches<'a>,
+    notes: &mut ErrorStream,
+) -> u8 {
     view_files(rt, matches, Shows::List, notes)
 }
 
 /// `galcert longest`. The result is the exit status.
-pub fn longest_files<'a>(rt: &'a HostRuntime, matches: &ArgMatches<'a>, notes: &mut ErrorStream) -> u8 {
+pub fn longest_files<'a>(
+    rt: &'a HostRuntime,
+    matches: &ArgMatches<'a>,
+    notes: &mut ErrorStream,
+) -> u8 {
     view_files(rt, matches, Shows::Longest, notes)
 }
 
 /// `galcert report`. The result is the exit status.
-pub fn report_files<'a>(rt: &'a HostRuntime, matches: &ArgMatches<'a>, notes: &mut ErrorStream) -> u8 {
+pub fn report_files<'a>(
+    rt: &'a HostRuntime,
+    matches: &ArgMatches<'a>,
+    notes: &mut ErrorStream,
+) -> u8 {
     view_files(rt, matches, Shows::Report, notes)
 }
 

@@ -56,7 +56,10 @@ fn z80asm_lines(alloc: Global, listing: &[u8]) -> Result<Vec<Option<FileLine<'_>
     let mut places = Vec::new(alloc);
     let mut files: Vec<FileLine<'_>> = Vec::new(alloc);
     for counted in counted_lines(alloc, listing)? {
-        if let (CountedLine::Source | CountedLine::Includes(_), Some(file)) = (counted, files.last_mut()) {
+        if let (CountedLine::Source | CountedLine::Includes(_), Some(file)) = (
+            counted,
+            files.last_mut(),
+        ) {
             file.line = file.line.saturating_add(1);
         }
         places.push(files.last().copied())?;
@@ -85,7 +88,10 @@ fn counted_lines(alloc: Global, listing: &[u8]) -> Result<Vec<CountedLine<'_>>, 
 }
 
 /// What a line of z80asm's listing is. `open` has what ends at the lines after it and has not begun there.
-fn counted_line<'a>(open: &mut Vec<EndedPart<'a>>, line: &'a [u8]) -> Result<CountedLine<'a>, AllocError> {
+fn counted_line<'a>(
+    open: &mut Vec<EndedPart<'a>>,
+    line: &'a [u8],
+) -> Result<CountedLine<'a>, AllocError> {
     let mark = line.trim_ascii_end();
     if let Some(name) = mark.strip_prefix(b"# End of macro ") {
         open.push(EndedPart::Macro(name))?;
@@ -113,7 +119,10 @@ fn counted_line<'a>(open: &mut Vec<EndedPart<'a>>, line: &'a [u8]) -> Result<Cou
     if begins {
         open.pop();
     }
-    if open.iter().any(|ended| matches!(ended, EndedPart::Macro(_))) {
+    if open
+        .iter()
+        .any(|ended| matches!(ended, EndedPart::Macro(_)))
+    {
         return Ok(CountedLine::Expanded);
     }
     match ended {

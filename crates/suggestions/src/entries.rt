@@ -96,7 +96,9 @@ pub(crate) fn finding_of<'p>(plan: &'p Plan, entry: &FileEntry) -> Option<&'p Fi
         (Family::Turns(note), FileEntry::Turns(other)) => note.head == other.head,
         (Family::Split(split), FileEntry::Split(note)) => split.at == note.at,
         (Family::Loop(other), FileEntry::Loop(note)) => other.at == note.at,
-        (Family::Cells(cells), FileEntry::Cell(cell)) => cells.iter().any(|other| other.at == cell.at),
+        (Family::Cells(cells), FileEntry::Cell(cell)) => cells
+            .iter()
+            .any(|other| other.at == cell.at),
         _ => false,
     })
 }

@@ -29,7 +29,9 @@ impl ByteClass {
             ByteClass::Line => byte != b'\n',
             ByteClass::Word => byte.is_ascii_alphanumeric() || byte == b'_' || byte == b'-',
             ByteClass::AfterKey => !matches!(byte, b'=' | b']' | b'\n' | b',' | b'}'),
-            ByteClass::Unquoted => { !matches!(byte, b',' | b']' | b'}' | b'#' | b'\n' | b'\r' | b' ') }
+            ByteClass::Unquoted => {
+                !matches!(byte, b',' | b']' | b'}' | b'#' | b'\n' | b'\r' | b' ')
+            }
             ByteClass::Only(only) => byte == only,
         }
     }

@@ -8,7 +8,7 @@ ghost use Rattle.texts.specs.Device.{FailsAmid, HasFailed, CountsNoFailure, Take
 ghost use Rattle.view_commands.specs.Viewing.{IsViewStatus};
 
 use crate::documents::write_document;
-use crate::showing::{ViewRequest, Shown};
+use crate::showing::{Shown, ViewRequest};
 use cert_checker::Accepted;
 use command_parts::{ExitStatus, Stop, judge, read_rom};
 use report::FileNames;
