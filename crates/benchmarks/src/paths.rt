@@ -12,7 +12,7 @@ use std::string::String;
 /// A procedure at 0008 that repeats `code`, of `len` bytes, `times` times. `starts` are the offsets in `code` that have
 /// rows. `halves` are the ranges of BC in the two rows at an address.
 #[derive(Drop)]
-pub struct Shape {
+pub struct PathShape {
     code: &'static [u8],
     len: u16,
     starts: &'static [u16],
@@ -21,7 +21,7 @@ pub struct Shape {
 }
 
 /// NOP. Each row has one successor.
-pub const STRAIGHT: Shape = Shape {
+pub const STRAIGHT: PathShape = PathShape {
     code: &[0x00],
     len: 1,
     starts: &[0],
@@ -30,7 +30,7 @@ pub const STRAIGHT: Shape = Shape {
 };
 
 /// JR NZ over a NOP, and the NOP. Each row has two successors or four.
-pub const BRANCHES: Shape = Shape {
+pub const BRANCHES: PathShape = PathShape {
     code: &[0x20, 0x01, 0x00],
     len: 3,
     starts: &[0, 2],
@@ -45,7 +45,7 @@ const MAIN_ROWS: &str = "row 0 0000 u * * * * * * * * * * - - - -\n\
     row 0 0003 s * * * * * * * * * * - - - -\n\
     row 0 0006 s * * * * * * * * * * - - - -\n";
 
-impl Shape {
+impl PathShape {
     /// The ROM of this shape. It ends with RET.
     pub fn rom(&self, alloc: Global) -> Result<Vec<u8>, AllocError> {
         let mut rom = Vec::from_slice(alloc, &MAIN)?;
@@ -84,7 +84,7 @@ impl Shape {
 }
 
 /// The certificate of the shape's ROM. None if the text can't be built or read.
-pub fn certificate_of(alloc: Global, shape: &Shape, rom_len: usize) -> Option<Certificate> {
+pub fn certificate_of(alloc: Global, shape: &PathShape, rom_len: usize) -> Option<Certificate> {
     let text = shape.text(alloc, rom_len).ok()?;
     read(alloc, text.as_bytes()).ok()
 }

@@ -9,7 +9,7 @@ use Rattle.call_graph.specs.Calls.{Calls, CallPath, IsCycle, IsLower}
 use Rattle.call_graph.specs.Cycle.{Returns, IsShortestFrom, path_to, Traced, PlaceInCycle, Searched, step_proc, step_from, step_far, seen_at, unseen_one, left}
 use Rattle.call_graph.specs.Walk.{caller_at, callee_of_edge}
 use Rattle.call_graph.proofs.CallLemmas.{numbered}
-use Rattle.call_graph.specs.declared.cycle.Step.{Step}
+use Rattle.call_graph.specs.declared.cycle.SearchStep.{SearchStep}
 use Rattle.call_graph.specs.declared.edge.Edge.{Edge}
 
 -- p calls the first of the list, each calls the next, and the last is q. For the empty list p is q.
@@ -35,7 +35,7 @@ trail_cycle edges p xs q trail call = record {
 }
 
 -- if all steps up to a distance are done, calls of that number from the start lead to a step that is done
-done_way : (edges : List Edge) (start : ℕ) (seen : List Bool) (steps : List Step) (done : ℕ) → Searched edges start seen steps done → (q n : ℕ) →
+done_way : (edges : List Edge) (start : ℕ) (seen : List Bool) (steps : List SearchStep) (done : ℕ) → Searched edges start seen steps done → (q n : ℕ) →
     ((j : ℕ) → j < length steps → step_far steps j ≤ n → j < done) → CallPath edges start q n → (i : ℕ) × (i < done) × (step_proc steps i ≡ q) × (step_far steps i ≤ n)
 done_way edges start seen steps done s q zero all way =
     let near : step_far steps 0 ≡ 0 = s.traced.near in
@@ -49,14 +49,14 @@ done_way edges start seen steps done s q (suc n) all way =
     (place.at, all place.at place.inside most, place.is, most)
 
 -- so no call from such a step leads back to the start
-no_return : (edges : List Edge) (start : ℕ) (seen : List Bool) (steps : List Step) (done : ℕ) → Searched edges start seen steps done → (n : ℕ) →
+no_return : (edges : List Edge) (start : ℕ) (seen : List Bool) (steps : List SearchStep) (done : ℕ) → Searched edges start seen steps done → (n : ℕ) →
     ((j : ℕ) → j < length steps → step_far steps j ≤ n → j < done) → Returns edges start n → ⊥
 no_return edges start seen steps done s n all back =
     let z = done_way edges start seen steps done s back.0 n all back.1 in
     (s.spread z.0 start z.1 (subst (λ x. Calls edges x start) (sym z.2) back.2)).0 refl
 
 -- a search with all steps done found no cycle through the start
-pub search_none : (edges : List Edge) (start : ℕ) (seen : List Bool) (steps : List Step) (done : ℕ) → Searched edges start seen steps done → length steps ≤ done →
+pub search_none : (edges : List Edge) (start : ℕ) (seen : List Bool) (steps : List SearchStep) (done : ℕ) → Searched edges start seen steps done → length steps ≤ done →
     (n : ℕ) → Returns edges start n → ⊥
 search_none edges start seen steps done s all n back = no_return edges start seen steps done s n (λ j h l. omega arith) back
 
@@ -71,18 +71,18 @@ lower_last [] x y h = inl h
 lower_last (z ∷ xs) x y h = inr (refl, lower_last xs x y h)
 
 -- the way to a step compared with other procedures, the last of which has a place at or after that step
-abbrev Compared : List Step → ℕ → ℕ → ℕ → List ℕ → Type 0
+abbrev Compared : List SearchStep → ℕ → ℕ → ℕ → List ℕ → Type 0
 Compared steps n i j ws = IsLower (path_to steps n i) ws ⊎ ((path_to steps n i ≡ ws) × (i ≡ j))
 
 -- a procedure of another cycle has a place, and no way to an earlier step at that distance is above the cycle so far
-record Reached (steps : List Step) (o : ℕ) (ws : List ℕ) (k : ℕ) : Type 0 where
+record Reached (steps : List SearchStep) (o : ℕ) (ws : List ℕ) (k : ℕ) : Type 0 where
   at : ℕ
   inside : at < length steps
   is : step_proc steps at ≡ get_or (o ∷ ws) k 0
   near : step_far steps at ≤ k
   compared : (i : ℕ) → i < length steps → i ≤ at → step_far steps i ≡ k → Compared steps k i at (take k ws)
 
-module _ (edges : List Edge) (start : ℕ) (seen : List Bool) (steps : List Step) (done : ℕ) (s : Searched edges start seen steps done) (next : done < length steps) (o : ℕ) (ws : List ℕ) (cycle : IsCycle edges (o ∷ ws)) (first : o ≡ start) (long : length ws ≡ step_far steps done) where
+module _ (edges : List Edge) (start : ℕ) (seen : List Bool) (steps : List SearchStep) (done : ℕ) (s : Searched edges start seen steps done) (next : done < length steps) (o : ℕ) (ws : List ℕ) (cycle : IsCycle edges (o ∷ ws)) (first : o ≡ start) (long : length ws ≡ step_far steps done) where
   compared_more : (k i j j' : ℕ) → k < length ws → i < length steps → 0 < i → i ≤ j → j < length steps → step_from steps j ≤ j' → step_proc steps j ≡ get_or ws k 0 → Compared steps k (step_from steps i) j' (take k ws) → Compared steps (suc k) i j (take (suc k) ws)
   compared_more k i j j' short here some upto inside from is old =
       let split = take-suc ws k 0 short in
@@ -158,13 +158,13 @@ module _ (edges : List Edge) (start : ℕ) (seen : List Bool) (steps : List Step
         | inr same ↦ inl (ap (λ xs. start ∷ xs) (same.0 ∙ all))
       ])
 
-search_lowest : (edges : List Edge) (start : ℕ) (seen : List Bool) (steps : List Step) (done : ℕ) → Searched edges start seen steps done → done < length steps → (other : List ℕ) → IsCycle edges other → get_or other 0 0 ≡ start → length other ≡ step_far steps done + 1 →
+search_lowest : (edges : List Edge) (start : ℕ) (seen : List Bool) (steps : List SearchStep) (done : ℕ) → Searched edges start seen steps done → done < length steps → (other : List ℕ) → IsCycle edges other → get_or other 0 0 ≡ start → length other ≡ step_far steps done + 1 →
     (start ∷ path_to steps (step_far steps done) done ≡ other) ⊎ IsLower (start ∷ path_to steps (step_far steps done) done) other
 search_lowest edges start seen steps done s next [] cycle first long = absurd (omega (arith, cycle.some))
 search_lowest edges start seen steps done s next (o ∷ ws) cycle first long = lowest_than edges start seen steps done s next o ws cycle first (omega arith)
 
 -- the cycle of the first step that calls the start is a shortest one, and the lowest of those
-pub search_shortest : (edges : List Edge) (start : ℕ) (seen : List Bool) (steps : List Step) (done : ℕ) (list : List ℕ) → Searched edges start seen steps done →
+pub search_shortest : (edges : List Edge) (start : ℕ) (seen : List Bool) (steps : List SearchStep) (done : ℕ) (list : List ℕ) → Searched edges start seen steps done →
     done < length steps → IsCycle edges list → get_or list 0 0 ≡ start → length list ≡ step_far steps done + 1 → list ≡ start ∷ path_to steps (step_far steps done) done → IsShortestFrom edges start list
 search_shortest edges start seen steps done list s inside cycle first long path = record {
   cycle = cycle;
@@ -182,7 +182,7 @@ search_shortest edges start seen steps done list s inside cycle first long path 
 }
 
 -- the search before its first call
-pub search_begun : (edges : List Edge) (start : ℕ) (seen : List Bool) (s : Step) → length seen ≡ 65536 → s.proc ≡ start → s.far ≡ 0 → s.from ≡ 0 →
+pub search_begun : (edges : List Edge) (start : ℕ) (seen : List Bool) (s : SearchStep) → length seen ≡ 65536 → s.proc ≡ start → s.far ≡ 0 → s.from ≡ 0 →
     ((p : ℕ) → seen_at seen p ≡ true → p ≡ start) → seen_at seen start ≡ true → Searched edges start seen (s ∷ []) 0
 search_begun edges start seen s room proc far from only start_seen = record {
   room = room;
@@ -206,7 +206,7 @@ search_begun edges start seen s room proc far from only start_seen = record {
 }
 
 -- one more step, to p, called from the next step
-record Pushed (steps more : List Step) (p done : ℕ) : Type 0 where
+record Pushed (steps more : List SearchStep) (p done : ℕ) : Type 0 where
   longer : length more ≡ length steps + 1
   old_proc : (i : ℕ) → i < length steps → step_proc more i ≡ step_proc steps i
   old_from : (i : ℕ) → i < length steps → step_from more i ≡ step_from steps i
@@ -215,10 +215,10 @@ record Pushed (steps more : List Step) (p done : ℕ) : Type 0 where
   new_from : (i : ℕ) → i ≡ length steps → step_from more i ≡ done
   new_far : (i : ℕ) → i ≡ length steps → step_far more i ≡ step_far steps done + 1
 
-pushed : (steps : List Step) (p done : ℕ) → Pushed steps (steps ++ (record { proc = p; from = done; far = step_far steps done + 1 }) ∷ []) p done
+pushed : (steps : List SearchStep) (p done : ℕ) → Pushed steps (steps ++ (record { proc = p; from = done; far = step_far steps done + 1 }) ∷ []) p done
 pushed steps p done =
-    let start : Step = record { proc = 0; from = 0; far = 0 } in
-    let s : Step = record { proc = p; from = done; far = step_far steps done + 1 } in
+    let start : SearchStep = record { proc = 0; from = 0; far = 0 } in
+    let s : SearchStep = record { proc = p; from = done; far = step_far steps done + 1 } in
     let old : (i : ℕ) → i < length steps → get_or (steps ++ s ∷ []) i start ≡ get_or steps i start = λ i h. get_or-append steps (s ∷ []) start i h in
     let new : (i : ℕ) → i ≡ length steps → get_or (steps ++ s ∷ []) i start ≡ s = λ i e. ap (λ k. get_or (steps ++ s ∷ []) k start) e ∙ get_or-append_seam steps s [] start in
     record {
@@ -231,7 +231,7 @@ pushed steps p done =
       new_far = λ i e. ap (λ v. v.far) (new i e);
     }
 
-place_stays : (steps more : List Step) (p done q most caller : ℕ) → Pushed steps more p done → PlaceInCycle steps q most caller → PlaceInCycle more q most caller
+place_stays : (steps more : List SearchStep) (p done q most caller : ℕ) → Pushed steps more p done → PlaceInCycle steps q most caller → PlaceInCycle more q most caller
 place_stays steps more p done q most caller add place =
     let longer : length more ≡ length steps + 1 = add.longer in
     let inside : place.at < length steps = place.inside in
@@ -241,7 +241,7 @@ place_stays steps more p done q most caller add place =
     let from : step_from more place.at ≡ step_from steps place.at = add.old_from place.at inside in
     record { at = place.at; inside = omega arith; is = add.old_proc place.at inside ∙ place.is; near = omega arith; from = omega arith }
 
-more_traced : (edges : List Edge) (start : ℕ) (steps more : List Step) (p done : ℕ) → Pushed steps more p done → Traced edges start steps → done < length steps →
+more_traced : (edges : List Edge) (start : ℕ) (steps more : List SearchStep) (p done : ℕ) → Pushed steps more p done → Traced edges start steps → done < length steps →
     Calls edges (step_proc steps done) p → Traced edges start more
 more_traced edges start steps more p done add old inside call =
     let longer : length more ≡ length steps + 1 = add.longer in
@@ -281,7 +281,7 @@ kept_mark seen p q inside marked = elim (cases_eq q p) [
   | inr ne ↦ get_or-set_other seen p q true false ne ∙ marked
 ]
 
-more_searched : (edges : List Edge) (start : ℕ) (seen : List Bool) (steps more : List Step) (p done : ℕ) → Pushed steps more p done → Searched edges start seen steps done →
+more_searched : (edges : List Edge) (start : ℕ) (seen : List Bool) (steps more : List SearchStep) (p done : ℕ) → Pushed steps more p done → Searched edges start seen steps done →
     done < length steps → p < 65536 → Calls edges (step_proc steps done) p →
     ((i : ℕ) → 0 < i → i < length steps → step_from steps i ≡ done → step_proc steps i < p) → Searched edges start (set seen p true) more done
 more_searched edges start seen steps more p done add old inside fits call others =
@@ -350,17 +350,17 @@ more_searched edges start seen steps more p done add old inside fits call others
     }
 
 -- the search goes on to p
-pub search_more : (edges : List Edge) (start : ℕ) (seen : List Bool) (steps : List Step) (p done : ℕ) → Searched edges start seen steps done →
+pub search_more : (edges : List Edge) (start : ℕ) (seen : List Bool) (steps : List SearchStep) (p done : ℕ) → Searched edges start seen steps done →
     done < length steps → p < 65536 → Calls edges (step_proc steps done) p →
     ((i : ℕ) → 0 < i → i < length steps → step_from steps i ≡ done → step_proc steps i < p) →
     Searched edges start (set seen p true) (steps ++ (record { proc = p; from = done; far = step_far steps done + 1 }) ∷ []) done
 search_more edges start seen steps p done old inside fits call others =
     more_searched edges start seen steps (steps ++ (record { proc = p; from = done; far = step_far steps done + 1 }) ∷ []) p done (pushed steps p done) old inside fits call others
 
-pub place_more : (steps : List Step) (p done q most caller : ℕ) → PlaceInCycle steps q most caller → PlaceInCycle (steps ++ (record { proc = p; from = done; far = step_far steps done + 1 }) ∷ []) q most caller
+pub place_more : (steps : List SearchStep) (p done q most caller : ℕ) → PlaceInCycle steps q most caller → PlaceInCycle (steps ++ (record { proc = p; from = done; far = step_far steps done + 1 }) ∷ []) q most caller
 place_more steps p done q most caller place = place_stays steps (steps ++ (record { proc = p; from = done; far = step_far steps done + 1 }) ∷ []) p done q most caller (pushed steps p done) place
 
-pub place_new : (steps : List Step) (p done : ℕ) → PlaceInCycle (steps ++ (record { proc = p; from = done; far = step_far steps done + 1 }) ∷ []) p (step_far steps done + 1) done
+pub place_new : (steps : List SearchStep) (p done : ℕ) → PlaceInCycle (steps ++ (record { proc = p; from = done; far = step_far steps done + 1 }) ∷ []) p (step_far steps done + 1) done
 place_new steps p done =
     let add = pushed steps p done in
     let far = add.new_far (length steps) refl in
@@ -368,7 +368,7 @@ place_new steps p done =
     record { at = length steps; inside = rw longer (omega arith); is = add.new_proc (length steps) refl; near = rw far (omega arith); from = rw (add.new_from (length steps) refl) (omega arith) }
 
 -- the next step is done
-pub search_done : (edges : List Edge) (start : ℕ) (seen : List Bool) (steps : List Step) (done : ℕ) → Searched edges start seen steps done → done < length steps →
+pub search_done : (edges : List Edge) (start : ℕ) (seen : List Bool) (steps : List SearchStep) (done : ℕ) → Searched edges start seen steps done → done < length steps →
     ((p : ℕ) → Calls edges (step_proc steps done) p → (p ≢ start) × PlaceInCycle steps p (step_far steps done + 1) done) → Searched edges start seen steps (done + 1)
 search_done edges start seen steps done old inside all = record {
   room = old.room;
@@ -386,7 +386,7 @@ search_done edges start seen steps done old inside all = record {
 }
 
 -- the same by the indices of the calls: those below this index, and none from it on
-pub search_passed : (edges : List Edge) (start : ℕ) (seen : List Bool) (steps : List Step) (done number : ℕ) → Searched edges start seen steps done → done < length steps →
+pub search_passed : (edges : List Edge) (start : ℕ) (seen : List Bool) (steps : List SearchStep) (done number : ℕ) → Searched edges start seen steps done → done < length steps →
     ((i : ℕ) → i < number → i < length edges → caller_at edges i ≡ step_proc steps done → (callee_of_edge edges i ≢ start) × PlaceInCycle steps (callee_of_edge edges i) (step_far steps done + 1) done) →
     ((i : ℕ) → number ≤ i → i < length edges → caller_at edges i ≢ step_proc steps done) → Searched edges start seen steps (done + 1)
 search_passed edges start seen steps done number old inside before from =
@@ -397,7 +397,7 @@ search_passed edges start seen steps done number old inside before from =
       | inr l ↦ absurd (from e.at l e.inside e.caller)
     ])
 
-pub left_more : (seen : List Bool) (steps : List Step) (p : ℕ) (s : Step) → p < length seen → seen_at seen p ≡ false → left (set seen p true) (steps ++ s ∷ []) ≡ left seen steps
+pub left_more : (seen : List Bool) (steps : List SearchStep) (p : ℕ) (s : SearchStep) → p < length seen → seen_at seen p ≡ false → left (set seen p true) (steps ++ s ∷ []) ≡ left seen steps
 left_more seen steps p s inside unseen =
     let written : sum_by unseen_one (set seen p true) + unseen_one (seen_at seen p) ≡ sum_by unseen_one seen + 0 = sum_by-set unseen_one seen p true false inside in
     let one : unseen_one (seen_at seen p) ≡ 1 = ap unseen_one unseen in

@@ -11,7 +11,7 @@ use std::alloc::{AllocError, Global};
 /// A procedure that the search has reached, the index of the step from which it was called, and the number of calls
 /// from the start to it.
 #[derive(Clone, Copy)]
-pub(crate) struct Step {
+pub(crate) struct SearchStep {
     pub(crate) proc: ProcId,
     pub(crate) from: usize,
     pub(crate) far: usize,
@@ -49,7 +49,7 @@ fn none_of(alloc: Global, count: usize) -> Result<Vec<bool>, AllocError>
 }
 
 /// A search that has reached only its start.
-fn begin(alloc: Global, start: ProcId) -> Result<(Vec<bool>, Vec<Step>), AllocError>
+fn begin(alloc: Global, start: ProcId) -> Result<(Vec<bool>, Vec<SearchStep>), AllocError>
     ensures searched { IfOk result (λ x. (calls : List Edge)
         → Searched calls start x.0.items x.1.items 0) }
     ensures first { IfOk result (λ x. NoneFrom x.1.items 0) }
@@ -57,7 +57,7 @@ fn begin(alloc: Global, start: ProcId) -> Result<(Vec<bool>, Vec<Step>), AllocEr
     let mut seen = none_of(alloc, NUMBERS)?;
     seen[usize::from(start)] = true;
     let mut steps = Vec::new(alloc);
-    steps.push(Step {
+    steps.push(SearchStep {
         proc: start,
         from: 0,
         far: 0,
@@ -71,7 +71,7 @@ fn spread(
     calls: &[Edge],
     start: ProcId,
     seen: &mut [bool],
-    steps: &mut Vec<Step>,
+    steps: &mut Vec<SearchStep>,
     at: usize,
 ) -> Result<bool, AllocError>
     requires rising { ByCall calls.now }
@@ -96,7 +96,7 @@ fn spread(
             return Ok(true);
         }
         if !seen[usize::from(edge.callee)] {
-            steps.push(Step {
+            steps.push(SearchStep {
                 proc: edge.callee,
                 from: at,
                 far: step.far + 1,
@@ -108,7 +108,7 @@ fn spread(
 }
 
 /// The cycle from the start to the procedure at step `at`, which calls the start.
-fn cycle_from(alloc: Global, steps: &[Step], at: usize) -> Result<Vec<ProcId>, AllocError>
+fn cycle_from(alloc: Global, steps: &[SearchStep], at: usize) -> Result<Vec<ProcId>, AllocError>
     requires inside { at < length steps.now }
     requires earlier { (i : ℕ) → 0 < i → i < length steps.now → step_from steps.now i < i }
     ensures { IfOk result (λ list. (calls : List Edge) (start : ℕ) → Traced calls start steps.now

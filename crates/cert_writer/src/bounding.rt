@@ -2,7 +2,7 @@
 
 ghost use Rattle.cert_writer.specs.Same.{SaysTheSame};
 
-use crate::calls::Under;
+use crate::calls::RankedDepth;
 use crate::fault::WriterFault;
 use crate::layout::Layout;
 use analysis::Flow;
@@ -14,7 +14,7 @@ pub(crate) fn set_bounds(
     certificate: &mut Certificate,
     flow: &Flow,
     layout: &Layout,
-    under: &[Under],
+    under: &[RankedDepth],
     times: &[u32],
 ) -> Result<(), WriterFault>
     ensures { SaysTheSame certificate.old certificate.new }

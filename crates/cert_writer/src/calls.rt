@@ -95,7 +95,7 @@ fn with_others(
 
 /// The rank of a procedure, and the bytes of stack that it and its callees need.
 #[derive(Clone, Copy)]
-pub(crate) struct Under {
+pub(crate) struct RankedDepth {
     pub(crate) rank: u16,
     pub(crate) depth: u32,
 }
@@ -107,7 +107,7 @@ pub(crate) fn under_all(
     layout: &Layout,
     calls: &[Holding],
     procs: &[ProcId],
-) -> Result<Vec<Under>, WriterFault> {
+) -> Result<Vec<RankedDepth>, WriterFault> {
     let mut all = own_bytes(alloc, flow, layout)?;
     let mut sorted = Vec::from_slice(alloc, calls)?;
     sorted.sort_unstable_by_key(|call| call.caller);
@@ -132,8 +132,8 @@ fn calls_from(calls: &[Holding], proc: ProcId) -> &[Holding] {
 }
 
 /// Rank 0 and, as the depth, the most bytes of stack that the rows of each procedure and their successors have.
-fn own_bytes(alloc: Global, flow: &Flow, layout: &Layout) -> Result<Vec<Under>, WriterFault> {
-    let mut all = vec![in alloc; Under { rank: 0, depth: 0 }; layout.count()]?;
+fn own_bytes(alloc: Global, flow: &Flow, layout: &Layout) -> Result<Vec<RankedDepth>, WriterFault> {
+    let mut all = vec![in alloc; RankedDepth { rank: 0, depth: 0 }; layout.count()]?;
     for (number, row) in flow.rows().iter() {
         let proc = ProgramPoint::of(*number).proc;
         let bytes = bytes_of(proc, row.bytes);
@@ -145,7 +145,7 @@ fn own_bytes(alloc: Global, flow: &Flow, layout: &Layout) -> Result<Vec<Under>, 
 }
 
 /// Raises the rank and depth of a caller by those of its callee.
-fn add_call(all: &mut [Under], call: &Holding) {
+fn add_call(all: &mut [RankedDepth], call: &Holding) {
     let Some(callee) = all.get(usize::from(call.callee)).copied() else {
         return;
     };

@@ -1,6 +1,6 @@
 // The parts of a certificate.
 
-use crate::calls::Under;
+use crate::calls::RankedDepth;
 use crate::fault::WriterFault;
 use crate::layout::Layout;
 use analysis::{Flow, Noted, ProgramPoint, Task, facts_at, names_slots_below};
@@ -112,7 +112,7 @@ pub(crate) fn rows_of(
 pub(crate) fn procs_of(
     alloc: Global,
     layout: &Layout,
-    under: &[Under],
+    under: &[RankedDepth],
 ) -> Result<Vec<Proc>, WriterFault> {
     let mut procs = Vec::new(alloc);
     for id in 0..under.len() {

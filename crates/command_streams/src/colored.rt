@@ -45,12 +45,12 @@ impl Color {
 
 /// A line that is passed on in color once it is whole.
 #[derive(Drop)]
-struct Line<W: Sink> {
+struct LineInColor<W: Sink> {
     inner: W,
     text: ArrayVec<u8, ROOM>,
 }
 
-impl<W: Sink> Line<W> {
+impl<W: Sink> LineInColor<W> {
     /// Passes on the bytes of the line so far.
     fn flush(&mut self) -> Result<(), DeviceFault> {
         let text = self.text.as_slice();
@@ -94,7 +94,7 @@ impl<W: Sink> Line<W> {
 /// A sink that passes lines to another one, in color if that is wanted. With color a line is passed on once it is whole.
 #[derive(Drop)]
 pub struct ColoredLines<W: Sink> {
-    line: Line<W>,
+    line: LineInColor<W>,
     is_colored: bool,
     failures: u64,
 }
@@ -102,7 +102,7 @@ pub struct ColoredLines<W: Sink> {
 impl<W: Sink> ColoredLines<W> {
     pub fn new(inner: W, is_colored: bool) -> ColoredLines<W> {
         ColoredLines {
-            line: Line {
+            line: LineInColor {
                 inner,
                 text: ArrayVec::new(),
             },

@@ -6,14 +6,14 @@ use Rattle.check_ways.specs.Pays.{cost_before}
 use Rattle.path_time.specs.Walks.{AreApart, BelongsAt, CostsToLeave, MayComeNext}
 use Rattle.dearest_way.specs.Worth.{IsWorth}
 use Rattle.dearest_way.specs.declared.parts.WayPart.{WayPart}
-use Rattle.dearest_way.specs.declared.parts.Stage.{Stage}
+use Rattle.dearest_way.specs.declared.parts.UntimedPart.{UntimedPart}
 
 -- the row from which a part goes on: the row itself or, of a loop, the row by which it is left
 abbrev pub last_row_of : ℕ → Option ℕ → ℕ
 last_row_of row left_by = unwrap_or left_by row
 
 -- the row from which the way comes to a place of a route
-abbrev pub before_at : List Stage → ℕ → Option ℕ
+abbrev pub before_at : List UntimedPart → ℕ → Option ℕ
 before_at route zero = None
 before_at route (suc place) = option_map (λ stage. last_row_of stage.row stage.left_by) (slice_get route place)
 

@@ -37,13 +37,13 @@ pub struct WayPart {
 
 /// A part whose T-states are not known yet.
 #[derive(Clone, Copy)]
-pub(crate) struct Stage {
+pub(crate) struct UntimedPart {
     pub(crate) row: RowId,
     pub(crate) left_by: Option<RowId>,
 }
 
 /// The row from which a stage goes on.
-fn last_row(stage: Stage) -> RowId
+fn last_row(stage: UntimedPart) -> RowId
     ensures { result ≡ last_row_of stage.row stage.left_by }
 {
     match stage.left_by {
@@ -53,7 +53,7 @@ fn last_row(stage: Stage) -> RowId
 }
 
 /// The row from which the way comes to a stage; None for the first.
-fn before_of(route: &[Stage], place: usize) -> Option<RowId>
+fn before_of(route: &[UntimedPart], place: usize) -> Option<RowId>
     ensures { result ≡ before_at route.now place }
 {
     let at = place.checked_sub(1)?;
@@ -156,7 +156,7 @@ fn part_at(
     rom: &Rom,
     certificate: &Certificate,
     before: Option<RowId>,
-    stage: Stage,
+    stage: UntimedPart,
     next: Option<RowId>,
     rest: u32,
 ) -> Option<WayPart>
@@ -189,7 +189,7 @@ fn part_of(
     alloc: Global,
     rom: &Rom,
     certificate: &Certificate,
-    route: &[Stage],
+    route: &[UntimedPart],
     place: usize,
     next: Option<RowId>,
     rest: u32,
@@ -210,7 +210,7 @@ pub(crate) fn parts_along(
     alloc: Global,
     rom: &Rom,
     certificate: &Certificate,
-    route: &[Stage],
+    route: &[UntimedPart],
 ) -> Result<(Vec<WayPart>, u32), WayFault>
     requires { certificate.now.rom_len ≡ length rom.now }
     ensures along { IfOk result

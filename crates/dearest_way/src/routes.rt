@@ -4,7 +4,7 @@ ghost use Rattle.std.specs.Prelude.{◌≡◌, length};
 
 use crate::entered::Entered;
 use crate::links::links_of;
-use crate::parts::Stage;
+use crate::parts::UntimedPart;
 use crate::values::Values;
 use crate::worth::{greatest, potential_of};
 use address_map::Rom;
@@ -15,7 +15,7 @@ use std::alloc::{AllocError, Global};
 /// A way as it was found: its stages, and the rows of its loops in their order.
 #[derive(Drop)]
 pub(crate) struct Route {
-    pub(crate) stages: Vec<Stage>,
+    pub(crate) stages: Vec<UntimedPart>,
     pub(crate) loops: Vec<Vec<RowId>>,
 }
 
@@ -56,7 +56,7 @@ impl Route {
         row: u32,
     ) -> Result<Option<u32>, AllocError> {
         if !values.is_in_loop(row) {
-            self.stages.push(Stage {
+            self.stages.push(UntimedPart {
                 row: first.saturating_add(row),
                 left_by: None,
             })?;
@@ -70,7 +70,7 @@ impl Route {
             Some(leaving) => leaving.from,
             None => row,
         };
-        self.stages.push(Stage {
+        self.stages.push(UntimedPart {
             row: first.saturating_add(row),
             left_by: Some(first.saturating_add(last)),
         })?;

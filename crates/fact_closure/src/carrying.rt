@@ -1,6 +1,6 @@
 // A fact at the head of a loop, carried over the loop.
 
-use crate::closure::{Incoming, add, has};
+use crate::closure::{IncomingSteps, add, has};
 use crate::rewriting::before_step;
 use analysis::FlowFault;
 use annotations::FactNote;
@@ -43,7 +43,7 @@ pub fn carried_facts(
     edges: Vec<RowEdge>,
     wanted: &LoopFact,
 ) -> Result<Vec<FactNote>, FlowFault> {
-    let incoming = Incoming::of(edges);
+    let incoming = IncomingSteps::of(edges);
     let mut table = BTreeMap::new(alloc);
     let mut todo = Vec::new(alloc);
     for (number, _) in list.rows().iter() {

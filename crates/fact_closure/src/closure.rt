@@ -18,16 +18,16 @@ const STEPS: u32 = 20_000;
 
 /// The steps that come to each row.
 #[derive(Drop)]
-pub(crate) struct Incoming {
+pub(crate) struct IncomingSteps {
     edges: Vec<RowEdge>,
 }
 
-impl Incoming {
+impl IncomingSteps {
     /// Sorts steps by the rows to which they come.
-    pub(crate) fn of(edges: Vec<RowEdge>) -> Incoming {
+    pub(crate) fn of(edges: Vec<RowEdge>) -> IncomingSteps {
         let mut edges = edges;
         edges.sort_unstable_by_key(|edge| (edge.to, edge.from));
-        Incoming { edges }
+        IncomingSteps { edges }
     }
 
     /// The steps that come to a row.
@@ -87,7 +87,7 @@ pub(crate) fn closure_of(
     alloc: Global,
     said: &[FactNote],
     related: &Worklist,
-    incoming: &Incoming,
+    incoming: &IncomingSteps,
     table: &BTreeMap<u64, Facts>,
     row: u64,
     fact: &Linear,

@@ -1,6 +1,6 @@
 // The facts that rows need so that nothing is against them.
 
-use crate::closure::{Incoming, add, closure_of};
+use crate::closure::{IncomingSteps, add, closure_of};
 use abs_state::AbsState;
 use abs_step::Reason;
 use analysis::FlowFault;
@@ -56,9 +56,9 @@ pub struct NeededFacts {
 ///
 /// As for `needed_facts`.
 pub fn facts_and_rows(alloc: Global, search: &FactSearch) -> Result<NeededFacts, FlowFault> {
-    let incoming = Incoming::of(search.related.edges(alloc, search.setting)?);
+    let incoming = IncomingSteps::of(search.related.edges(alloc, search.setting)?);
     let mut guide = search.setting.guide.copied(alloc)?;
-    let mut stage = Stage::Wanted;
+    let mut stage = FactFamily::Wanted;
     for _ in 0..ROUNDS {
         let setting = Setting {
             guide: &guide,
@@ -81,7 +81,7 @@ pub fn facts_and_rows(alloc: Global, search: &FactSearch) -> Result<NeededFacts,
                 break;
             }
             if !search.has_refused(&plain) {
-                stage = Stage::Counting;
+                stage = FactFamily::Counting;
                 found = search.found(alloc, &incoming, &guide, &plain, stage)?;
                 if found.is_empty() {
                     return Ok(NeededFacts {
@@ -98,14 +98,14 @@ pub fn facts_and_rows(alloc: Global, search: &FactSearch) -> Result<NeededFacts,
             found = search.found(alloc, &incoming, &guide, &plain, stage)?;
         }
         merge(&mut guide.facts, &found)?;
-        stage = Stage::Wanted;
+        stage = FactFamily::Wanted;
     }
     Ok(NeededFacts { guide, rows: None })
 }
 
 /// Which facts are looked for, the most telling first.
 #[derive(Clone, Copy, PartialEq, Eq)]
-enum Stage {
+enum FactFamily {
     /// Those with which a refused row is not refused any more.
     Wanted,
     /// Those of refused rows that say something of the pair through which they write.
@@ -116,12 +116,12 @@ enum Stage {
     Counting,
 }
 
-impl Stage {
-    fn next(self) -> Option<Stage> {
+impl FactFamily {
+    fn next(self) -> Option<FactFamily> {
         match self {
-            Stage::Wanted => Some(Stage::Pointing),
-            Stage::Pointing => Some(Stage::Narrowing),
-            Stage::Narrowing | Stage::Counting => None,
+            FactFamily::Wanted => Some(FactFamily::Pointing),
+            FactFamily::Pointing => Some(FactFamily::Narrowing),
+            FactFamily::Narrowing | FactFamily::Counting => None,
         }
     }
 }
@@ -159,16 +159,16 @@ impl<'s> FactSearch<'s> {
     fn found(
         &self,
         alloc: Global,
-        incoming: &Incoming,
+        incoming: &IncomingSteps,
         guide: &Guide,
         plain: &Worklist,
-        stage: Stage,
+        stage: FactFamily,
     ) -> Result<BTreeMap<u64, Facts>, FlowFault> {
         match stage {
-            Stage::Wanted => self.wanted(alloc, incoming, guide, plain),
-            Stage::Pointing => self.pointing(alloc, incoming, guide, plain),
-            Stage::Narrowing => self.narrowing(alloc, incoming, guide, plain),
-            Stage::Counting => self.counting(alloc, incoming, guide, plain),
+            FactFamily::Wanted => self.wanted(alloc, incoming, guide, plain),
+            FactFamily::Pointing => self.pointing(alloc, incoming, guide, plain),
+            FactFamily::Narrowing => self.narrowing(alloc, incoming, guide, plain),
+            FactFamily::Counting => self.counting(alloc, incoming, guide, plain),
         }
     }
 
@@ -176,7 +176,7 @@ impl<'s> FactSearch<'s> {
     fn pointing(
         &self,
         alloc: Global,
-        incoming: &Incoming,
+        incoming: &IncomingSteps,
         guide: &Guide,
         plain: &Worklist,
     ) -> Result<BTreeMap<u64, Facts>, FlowFault> {
@@ -214,7 +214,7 @@ impl<'s> FactSearch<'s> {
     fn wanted(
         &self,
         alloc: Global,
-        incoming: &Incoming,
+        incoming: &IncomingSteps,
         guide: &Guide,
         plain: &Worklist,
     ) -> Result<BTreeMap<u64, Facts>, FlowFault> {
@@ -237,7 +237,7 @@ impl<'s> FactSearch<'s> {
     fn best_for(
         &self,
         alloc: Global,
-        incoming: &Incoming,
+        incoming: &IncomingSteps,
         table: &Guide,
         number: u64,
         row: &InferredRow,
@@ -271,7 +271,7 @@ impl<'s> FactSearch<'s> {
     fn closure(
         &self,
         alloc: Global,
-        incoming: &Incoming,
+        incoming: &IncomingSteps,
         table: &Guide,
         number: u64,
         relation: &Linear,
@@ -292,7 +292,7 @@ impl<'s> FactSearch<'s> {
     fn counting(
         &self,
         alloc: Global,
-        incoming: &Incoming,
+        incoming: &IncomingSteps,
         guide: &Guide,
         plain: &Worklist,
     ) -> Result<BTreeMap<u64, Facts>, FlowFault> {
@@ -357,7 +357,7 @@ impl<'s> FactSearch<'s> {
     fn narrowing(
         &self,
         alloc: Global,
-        incoming: &Incoming,
+        incoming: &IncomingSteps,
         guide: &Guide,
         plain: &Worklist,
     ) -> Result<BTreeMap<u64, Facts>, FlowFault> {

@@ -15,7 +15,7 @@ const MOST_DRAFTS: u32 = 100;
 
 /// A file beside another one, whose name it takes once it is whole.
 #[derive(Drop)]
-struct Draft {
+struct TemporaryFile {
     name: String,
     /// The name that it takes.
     becomes: String,
@@ -31,7 +31,7 @@ pub struct FileSink<'a, R: Files> {
     alloc: Global,
     path: &'a str,
     file: Option<R::File>,
-    draft: Option<Draft>,
+    draft: Option<TemporaryFile>,
     failures: Failures,
 }
 
@@ -79,7 +79,7 @@ impl<'a, R: Files> FileSink<'a, R> {
 }
 
 /// A file that was opened, with its draft if it is one.
-type Opened<F> = (F, Option<Draft>);
+type Opened<F> = (F, Option<TemporaryFile>);
 
 /// Opens a file for writing, or a draft of it.
 fn open<R: Files>(files: &R, alloc: Global, path: &str) -> io::Result<Opened<R::File>> {
@@ -114,7 +114,7 @@ fn open_draft<R: Files>(
     files: &R,
     alloc: Global,
     path: &str,
-) -> io::Result<Option<(R::File, Draft)>> {
+) -> io::Result<Option<(R::File, TemporaryFile)>> {
     for number in 0..MOST_DRAFTS {
         let Ok(name) = format!(in alloc; "{path}.{number}.part") else {
             return Ok(None);
@@ -127,7 +127,7 @@ fn open_draft<R: Files>(
             .create_new(true)
             .open(files, name.as_str());
         match opened {
-            Ok(file) => return Ok(Some((file, Draft { name, becomes }))),
+            Ok(file) => return Ok(Some((file, TemporaryFile { name, becomes }))),
             Err(error) => match error.kind() {
                 ErrorKind::AlreadyExists => {}
                 ErrorKind::PermissionDenied

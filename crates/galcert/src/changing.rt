@@ -2,7 +2,7 @@
 
 use crate::devices::{input, stdout};
 use crate::naming::read_files;
-use crate::streams::Notes;
+use crate::streams::ErrorStream;
 use certificate_changes::{EntryNames, diff_on};
 use clap::ArgMatches;
 use command_reports::{UsedDevice, clash_of, end, report_clash};
@@ -10,7 +10,11 @@ use command_words::{OLD_SYMBOLS, SYMBOLS};
 use program_names::{NameFiles, ProgramNames};
 
 /// `galcert diff`. The result is the exit status.
-pub fn diff_files<'a>(rt: &'a HostRuntime, matches: &ArgMatches<'a>, notes: &mut Notes) -> u8 {
+pub fn diff_files<'a>(
+    rt: &'a HostRuntime,
+    matches: &ArgMatches<'a>,
+    notes: &mut ErrorStream,
+) -> u8 {
     if let Some(clash) = clash_of(rt, matches, &["OLD", "NEW", OLD_SYMBOLS, SYMBOLS], None) {
         return report_clash(notes, &clash);
     }
@@ -43,7 +47,7 @@ fn names_of<'m>(
     rt: &'m HostRuntime,
     matches: &ArgMatches<'m>,
     option: &str,
-    notes: &mut Notes,
+    notes: &mut ErrorStream,
 ) -> Result<ProgramNames<'m>, u8> {
     let files = NameFiles {
         symbols: matches.get_str(option),

@@ -6,7 +6,7 @@ use command_words::word;
 use file_devices::{FileSource, Output};
 
 /// A file or standard input.
-pub type Input<'a> = FileSource<'a, HostRuntime>;
+pub type InputFile<'a> = FileSource<'a, HostRuntime>;
 
 /// A file, a standard stream, or nothing.
 pub type Out<'a> = Output<'a, HostRuntime>;
@@ -15,17 +15,17 @@ pub type Out<'a> = Output<'a, HostRuntime>;
 const STANDARD: &str = "-";
 
 /// The input that an argument names; `-` is standard input.
-pub fn input<'a>(rt: &'a HostRuntime, matches: &ArgMatches<'a>, argument: &str) -> Input<'a> {
+pub fn input<'a>(rt: &'a HostRuntime, matches: &ArgMatches<'a>, argument: &str) -> InputFile<'a> {
     input_of(rt, word(matches, argument))
 }
 
 /// The input with this name; `-` is standard input.
-pub fn input_of<'a>(rt: &'a HostRuntime, name: &'a str) -> Input<'a> {
+pub fn input_of<'a>(rt: &'a HostRuntime, name: &'a str) -> InputFile<'a> {
     FileSource::of_word(rt, rt.stdin(), name)
 }
 
 /// The input with this name; one without bytes if there is no name.
-pub fn optional<'a>(rt: &'a HostRuntime, name: Option<&'a str>) -> Input<'a> {
+pub fn optional<'a>(rt: &'a HostRuntime, name: Option<&'a str>) -> InputFile<'a> {
     let Some(name) = name else {
         return FileSource::empty(rt);
     };

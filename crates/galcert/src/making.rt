@@ -1,8 +1,8 @@
 // The commands that make a certificate, and find annotations for one.
 
-use crate::devices::{Input, Out, input, optional, output, searching, stderr, stdout};
+use crate::devices::{InputFile, Out, input, optional, output, searching, stderr, stdout};
 use crate::naming::{has_names, has_reports, names, symbols_of, tell_refused};
-use crate::streams::{Answer, Notes, answer};
+use crate::streams::{Answer, ErrorStream, answer};
 use clap::ArgMatches;
 use command_parts::ExitStatus;
 use command_reports::{
@@ -31,7 +31,7 @@ const INPUTS: [&str; 4] = ["ROM", "ANNOT", SYMBOLS, LISTING];
 
 /// What a command is asked for.
 #[derive(Clone, Copy)]
-struct Asked<'r, 'm> {
+struct MakeRequest<'r, 'm> {
     rt: &'m HostRuntime,
     matches: &'r ArgMatches<'m>,
     /// The most trials of a search.
@@ -40,7 +40,11 @@ struct Asked<'r, 'm> {
 }
 
 /// `galcert check`, with and without `--infer`. The result is the exit status.
-pub fn check_files<'a>(rt: &'a HostRuntime, matches: &ArgMatches<'a>, notes: &mut Notes) -> u8 {
+pub fn check_files<'a>(
+    rt: &'a HostRuntime,
+    matches: &ArgMatches<'a>,
+    notes: &mut ErrorStream,
+) -> u8 {
     let infers = matches.get_flag(INFER);
     if !infers && matches.get_str("ANNOT").is_none() && matches.get_str(LISTING).is_none() {
         report(
@@ -62,7 +66,7 @@ pub fn check_files<'a>(rt: &'a HostRuntime, matches: &ArgMatches<'a>, notes: &mu
     let mut keep = SharedOutput::new(&kept);
     let table = AfterOutput::new(&kept, table_output(rt, matches));
     let out = answer(rt, matches, table);
-    let asked = Asked {
+    let asked = MakeRequest {
         rt,
         matches,
         trials,
@@ -95,14 +99,14 @@ pub fn check_files<'a>(rt: &'a HostRuntime, matches: &ArgMatches<'a>, notes: &mu
 ///
 /// The status where a symbol file or a listing cannot be read; standard error says why.
 fn judge_files<K: Sink, W: Sink + Drop>(
-    asked: Asked<'_, '_>,
-    rom: &mut Input<'_>,
-    annot: &mut Input<'_>,
+    asked: MakeRequest<'_, '_>,
+    rom: &mut InputFile<'_>,
+    annot: &mut InputFile<'_>,
     keep: &mut K,
     out: Printed<W>,
-    notes: &mut Notes,
+    notes: &mut ErrorStream,
 ) -> Result<(u8, Printed<W>), u8> {
-    let Asked {
+    let MakeRequest {
         rt,
         matches,
         limits,
@@ -132,15 +136,15 @@ fn judge_files<K: Sink, W: Sink + Drop>(
 
 /// Checks with names for addresses. The result is the exit status.
 fn check_by_names<K: Sink, W: Sink>(
-    asked: Asked<'_, '_>,
+    asked: MakeRequest<'_, '_>,
     names: &ProgramNames<'_>,
-    rom: &mut Input<'_>,
-    annot: &mut Input<'_>,
+    rom: &mut InputFile<'_>,
+    annot: &mut InputFile<'_>,
     keep: &mut K,
     out: &mut W,
-    notes: &mut Notes,
+    notes: &mut ErrorStream,
 ) -> u8 {
-    let Asked {
+    let MakeRequest {
         rt,
         matches,
         trials,
@@ -157,14 +161,14 @@ fn check_by_names<K: Sink, W: Sink>(
 
 /// Checks without names for addresses. The result is the exit status.
 fn check_plain<K: Sink, W: Sink>(
-    asked: Asked<'_, '_>,
-    rom: &mut Input<'_>,
-    annot: &mut Input<'_>,
+    asked: MakeRequest<'_, '_>,
+    rom: &mut InputFile<'_>,
+    annot: &mut InputFile<'_>,
     keep: &mut K,
     out: &mut W,
-    notes: &mut Notes,
+    notes: &mut ErrorStream,
 ) -> u8 {
-    let Asked {
+    let MakeRequest {
         rt,
         matches,
         trials,
@@ -178,7 +182,7 @@ fn check_plain<K: Sink, W: Sink>(
 }
 
 /// The annotations; none if they are not named. Their text is remembered for hints.
-fn annotations<'a>(rt: &'a HostRuntime, matches: &ArgMatches<'a>) -> Input<'a> {
+fn annotations<'a>(rt: &'a HostRuntime, matches: &ArgMatches<'a>) -> InputFile<'a> {
     optional(rt, matches.get_str("ANNOT")).remembering(rt.alloc())
 }
 
@@ -194,12 +198,16 @@ fn table_output<'a>(rt: &'a HostRuntime, matches: &ArgMatches) -> Out<'a> {
 }
 
 /// The number of trials that a command may take. If the word is out of form, it is reported.
-pub fn trials_of(matches: &ArgMatches, notes: &mut Notes) -> Option<u32> {
+pub fn trials_of(matches: &ArgMatches, notes: &mut ErrorStream) -> Option<u32> {
     number_of(notes, matches.get_str(TRIALS), TRIALS, TRIALS_UNSAID)
 }
 
 /// `galcert suggest`. The result is the exit status.
-pub fn suggest_files<'a>(rt: &'a HostRuntime, matches: &ArgMatches<'a>, notes: &mut Notes) -> u8 {
+pub fn suggest_files<'a>(
+    rt: &'a HostRuntime,
+    matches: &ArgMatches<'a>,
+    notes: &mut ErrorStream,
+) -> u8 {
     let Some(trials) = trials_of(matches, notes) else {
         return ExitStatus::Usage.code();
     };
@@ -257,10 +265,10 @@ fn suggest(
     rt: &HostRuntime,
     trials: u32,
     names: Option<&ProgramNames>,
-    rom: &mut Input,
-    annot: &mut Input,
+    rom: &mut InputFile,
+    annot: &mut InputFile,
     out: &mut Answer,
-    notes: &mut Notes,
+    notes: &mut ErrorStream,
 ) -> u8 {
     let progress = &mut searching(rt);
     match names {

@@ -1,8 +1,8 @@
 // `galcert run`.
 
-use crate::devices::{Input, Out, input, output_to};
+use crate::devices::{InputFile, Out, input, output_to};
 use crate::naming::{has_names, names, symbols_of, tell_refused};
-use crate::streams::{Notes, answer};
+use crate::streams::{ErrorStream, answer};
 use clap::ArgMatches;
 use command_parts::ExitStatus;
 use command_reports::{
@@ -28,11 +28,11 @@ const INPUTS: [&str; 5] = ["ROM", "CERT", "INPUT", SYMBOLS, LISTING];
 type Lines<'a> = Watched<Printed<WriterSink<Printer<'a, HostRuntime>>>>;
 
 /// The input of a run, with reports on how far it was read.
-type Played<'a> = MeteredSource<Input<'a>, Reporter<'a, HostRuntime>>;
+type RunInput<'a> = MeteredSource<InputFile<'a>, Reporter<'a, HostRuntime>>;
 
 /// What a run is asked for beside its inputs.
 #[derive(Clone, Copy)]
-struct Asked<'a> {
+struct RunRequest<'a> {
     steps: u32,
     until_nmi: Option<u32>,
     /// The files for RAM.
@@ -40,7 +40,7 @@ struct Asked<'a> {
 }
 
 /// `galcert run`. The result is the exit status.
-pub fn run_files<'a>(rt: &'a HostRuntime, matches: &ArgMatches<'a>, notes: &mut Notes) -> u8 {
+pub fn run_files<'a>(rt: &'a HostRuntime, matches: &ArgMatches<'a>, notes: &mut ErrorStream) -> u8 {
     let asked = match asked_of(matches, notes) {
         Some(asked) => asked,
         None => return ExitStatus::Usage.code(),
@@ -85,9 +85,9 @@ pub fn run_files<'a>(rt: &'a HostRuntime, matches: &ArgMatches<'a>, notes: &mut 
 fn watch_files<'a>(
     rt: &'a HostRuntime,
     matches: &ArgMatches<'a>,
-    asked: Asked<'a>,
+    asked: RunRequest<'a>,
     names: Option<&ProgramNames>,
-    notes: &mut Notes,
+    notes: &mut ErrorStream,
 ) -> u8 {
     let mut rom = input(rt, matches, "ROM");
     let mut cert = input(rt, matches, "CERT");
@@ -138,7 +138,7 @@ fn watch_files<'a>(
 }
 
 /// What is asked for. If a word is out of form, it is reported.
-fn asked_of<'a>(matches: &ArgMatches<'a>, notes: &mut Notes) -> Option<Asked<'a>> {
+fn asked_of<'a>(matches: &ArgMatches<'a>, notes: &mut ErrorStream) -> Option<RunRequest<'a>> {
     let Some(steps) = steps_of(word(matches, "STEPS")) else {
         report(notes, "bad steps");
         let steps = word(matches, "STEPS").escape_debug();
@@ -161,7 +161,7 @@ fn asked_of<'a>(matches: &ArgMatches<'a>, notes: &mut Notes) -> Option<Asked<'a>
         );
         return None;
     };
-    Some(Asked {
+    Some(RunRequest {
         steps,
         until_nmi,
         dumps,
@@ -193,7 +193,7 @@ fn dump_output<'a>(rt: &'a HostRuntime, path: &'a str) -> Out<'a> {
 }
 
 /// The input that is played.
-fn played_input<'a>(rt: &'a HostRuntime, matches: &ArgMatches<'a>) -> Played<'a> {
+fn played_input<'a>(rt: &'a HostRuntime, matches: &ArgMatches<'a>) -> RunInput<'a> {
     let reporter = Reporter::passing(rt, rt.stderr(), "read");
     MeteredSource::new(input(rt, matches, "INPUT"), reporter)
 }
@@ -204,7 +204,13 @@ fn lines_of<'a>(rt: &'a HostRuntime, matches: &ArgMatches<'a>) -> Lines<'a> {
 }
 
 /// After a refusal, says what the files look like.
-pub fn hint_refused(rt: &HostRuntime, status: u8, rom: &Input, cert: &Input, notes: &mut Notes) {
+pub fn hint_refused(
+    rt: &HostRuntime,
+    status: u8,
+    rom: &InputFile,
+    cert: &InputFile,
+    notes: &mut ErrorStream,
+) {
     if status == ExitStatus::Refused.code() {
         hint_rom(rt, rt.alloc(), rom, notes);
         hint_certificate(rt.alloc(), rom, cert, notes);

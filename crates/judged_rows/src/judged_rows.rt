@@ -2,10 +2,10 @@
 
 use abs_state::{AbsState, FlagFact, Mode};
 use analysis::{FlowFault, JudgedRow, MAIN, NMI, ProgramPoint, Task, judged_row};
+use indexmap::IndexMap;
 use intervals::{ByteRange, Pair};
 use std::alloc::Global;
 use std::cell::RefCell;
-use std::collections::BTreeMap;
 use std::rc::Rc;
 use z80_decode::Register8;
 
@@ -13,14 +13,14 @@ use z80_decode::Register8;
 const KEPT: usize = 40_000;
 
 /// The judged rows by their digests.
-type Kept = BTreeMap<u64, Rc<JudgedRow>>;
+type RowsByDigest = IndexMap<u64, Rc<JudgedRow>>;
 
 /// Judged rows by digests of what they depend on: the state, its place, and what a plan says of the whole ROM. Nothing
 /// else may differ between the analyses that share them. Two rows with one digest, of 64 bits, count as the same; what
 /// is found is judged by the checker in the end.
 #[derive(Drop)]
 pub struct JudgedRows {
-    kept: Rc<RefCell<Kept>>,
+    kept: Rc<RefCell<RowsByDigest>>,
     /// The digest of what a plan says of the whole ROM.
     whole: Digest,
 }
@@ -33,7 +33,7 @@ impl JudgedRows {
     /// `NoMemory` where memory was refused.
     pub fn none(alloc: Global) -> Result<JudgedRows, FlowFault> {
         Ok(JudgedRows {
-            kept: Rc::new(alloc, RefCell::new(BTreeMap::new(alloc)))?,
+            kept: Rc::new(alloc, RefCell::new(IndexMap::new(alloc)))?,
             whole: Digest::empty(),
         })
     }
@@ -103,7 +103,7 @@ impl JudgedRows {
     fn keep(&self, alloc: Global, digest: u64, judged: Rc<JudgedRow>) -> Result<(), FlowFault> {
         if let Ok(mut kept) = self.kept.try_borrow_mut() {
             if kept.len() >= KEPT {
-                *kept = BTreeMap::new(alloc);
+                *kept = IndexMap::new(alloc);
             }
             kept.insert(digest, judged)?;
         }

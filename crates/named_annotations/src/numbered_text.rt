@@ -103,8 +103,7 @@ fn add_notes(merging: &mut Merging, rom: &[u8], notes: &SourceNotes) -> Result<(
 /// `Cell` if a note is one of a cell elsewhere.
 fn check_cell(note: &SourceNote) -> Result<(), NamedFault> {
     match note.kind {
-        NoteKind::Cell(_)
-            if !BoardMap::ALL.iter().any(|board| board.is_in_work(note.at)) => {
+        NoteKind::Cell(_) if !BoardMap::ALL.iter().any(|board| board.is_in_work(note.at)) => {
             Err(NamedFault::Cell { line: note.line })
         }
         _ => Ok(()),

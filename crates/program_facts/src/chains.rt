@@ -9,7 +9,7 @@ use std::alloc::{AllocError, Global};
 
 /// A link of the deepest chain: a procedure, the bytes of stack that it has there, and where it calls the next one.
 #[derive(Clone, Copy)]
-pub struct Link {
+pub struct ChainLink {
     pub proc: ProcId,
     /// Bytes on the stack in this procedure, its return address included.
     pub own: u32,
@@ -24,7 +24,7 @@ pub struct Link {
 /// For each procedure, where its stack is deepest.
 #[derive(Drop)]
 pub struct Chains {
-    links: Vec<Option<Link>>,
+    links: Vec<Option<ChainLink>>,
 }
 
 impl Chains {
@@ -47,7 +47,7 @@ impl Chains {
     fn take(&mut self, alloc: Global, subject: &Subject) {
         let base = if subject.row.proc == 0 { 0u32 } else { 2u32 };
         let own = base.saturating_add(u32::from(subject.row.shape.bytes()));
-        let here = Link {
+        let here = ChainLink {
             proc: subject.row.proc,
             own,
             address: subject.row.address,
@@ -62,11 +62,11 @@ impl Chains {
         }
     }
 
-    fn take_next(&mut self, subject: &Subject, base: u32, here: Link, next: &Next) {
+    fn take_next(&mut self, subject: &Subject, base: u32, here: ChainLink, next: &Next) {
         match next.kind {
             NextKind::Jump => {
                 let own = base.saturating_add(u32::from(next.state.shape.bytes()));
-                self.keep(Link {
+                self.keep(ChainLink {
                     own,
                     depth: own,
                     ..here
@@ -74,7 +74,7 @@ impl Chains {
             }
             NextKind::Call => {
                 if let Some(callee) = callee_at(subject.certificate, next.address) {
-                    self.keep(Link {
+                    self.keep(ChainLink {
                         callee: Some(callee.number),
                         depth: here.own.saturating_add(u32::from(callee.proc.depth)),
                         ..here
@@ -86,7 +86,7 @@ impl Chains {
     }
 
     /// Keeps a link if it is deeper than the one before, or a call as deep.
-    fn keep(&mut self, link: Link) {
+    fn keep(&mut self, link: ChainLink) {
         let Some(before) = self.links.get_mut(usize::from(link.proc)) else {
             return;
         };
@@ -105,7 +105,7 @@ impl Chains {
     }
 
     /// The deepest chain from a procedure, down to the one that calls no other there.
-    pub fn from(&self, alloc: Global, proc: ProcId) -> Result<Vec<Link>, AllocError> {
+    pub fn from(&self, alloc: Global, proc: ProcId) -> Result<Vec<ChainLink>, AllocError> {
         let mut chain = Vec::new(alloc);
         let mut at = Some(proc);
         for _ in 0..self.links.len() {

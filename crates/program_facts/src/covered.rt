@@ -5,13 +5,13 @@ use std::alloc::{AllocError, Global};
 
 /// For each address, where the furthest range that begins there ends.
 #[derive(Drop)]
-pub(crate) struct Covered {
+pub(crate) struct RangeEnds {
     ends: Vec<u32>,
 }
 
-impl Covered {
-    pub(crate) fn new(alloc: Global) -> Result<Covered, AllocError> {
-        Ok(Covered {
+impl RangeEnds {
+    pub(crate) fn new(alloc: Global) -> Result<RangeEnds, AllocError> {
+        Ok(RangeEnds {
             ends: vec![in alloc; 0u32; 0x1_0000]?,
         })
     }

@@ -10,7 +10,7 @@ mod runs;
 mod sides;
 
 pub use accesses::{Access, Accesses, WIDE};
-pub use chains::{Chains, Link};
+pub use chains::{ChainLink, Chains};
 pub use ram::{RAMS, RamUse};
 pub use runs::{RamRun, RamRuns};
 pub use sides::{Side, Sides};

@@ -1,7 +1,7 @@
 // Which instructions store and read each byte of RAM.
 
 use crate::accesses::{Access, Accesses, SWEEP, WIDE};
-use crate::covered::Covered;
+use crate::covered::RangeEnds;
 use address_map::{Map, RamKind, WriteUse};
 use intervals::WordRange;
 use listing::View;
@@ -60,7 +60,7 @@ impl RamUse {
         for ram in RAMS {
             rams.push(RamUse::new(alloc, map, ram)?)?;
         }
-        let mut swept = Covered::new(alloc)?;
+        let mut swept = RangeEnds::new(alloc)?;
         for store in &accesses.stores {
             if store.is_sweep() {
                 add_ranges(&mut swept, store, 0x1_0000);
@@ -68,7 +68,7 @@ impl RamUse {
                 add_users(&mut rams, map, store, true)?;
             }
         }
-        let mut read = Covered::new(alloc)?;
+        let mut read = RangeEnds::new(alloc)?;
         for load in &accesses.loads {
             add_ranges(&mut read, load, WIDE);
             if !is_far(load) {
@@ -102,7 +102,7 @@ fn is_far(load: &Access) -> bool {
 }
 
 /// Adds the ranges of an access that have fewer addresses than this.
-fn add_ranges(covered: &mut Covered, access: &Access, limit: u32) {
+fn add_ranges(covered: &mut RangeEnds, access: &Access, limit: u32) {
     for range in &access.ranges {
         let size = u32::from(range.high()).saturating_sub(u32::from(range.low()));
         if size < limit {

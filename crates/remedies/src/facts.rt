@@ -24,21 +24,21 @@ const CHOICES: u8 = 4;
 
 /// The facts that rows of an analysis need.
 #[derive(Drop)]
-pub(crate) struct NeededFacts {
+pub(crate) struct RowNeeds {
     /// The facts by rising address, each once.
     facts: Vec<FactNote>,
     /// The steps between the rows.
     edges: Vec<RowEdge>,
 }
 
-impl NeededFacts {
+impl RowNeeds {
     /// The facts that rows of an explored plan need.
     pub(crate) fn of<P: Progress>(
         alloc: Global,
         search: &Search<P>,
         explored: &ExploredPlan,
-    ) -> Result<NeededFacts, FlowFault> {
-        Ok(NeededFacts {
+    ) -> Result<RowNeeds, FlowFault> {
+        Ok(RowNeeds {
             facts: facts_of(alloc, search, explored)?,
             edges: explored.edges(alloc, search.context)?,
         })
@@ -71,7 +71,7 @@ struct Wanted<'w> {
     address: u16,
     notes: &'w Annotations,
     explored: &'w ExploredPlan,
-    needed: &'w NeededFacts,
+    needed: &'w RowNeeds,
 }
 
 impl<'w> Wanted<'w> {
@@ -138,7 +138,7 @@ pub(crate) fn with_facts(
     refusal: &Refusal,
     notes: &Annotations,
     explored: &ExploredPlan,
-    needed: &NeededFacts,
+    needed: &RowNeeds,
 ) -> Result<Remedy, FlowFault> {
     let wanted = Wanted {
         case,

@@ -1,7 +1,7 @@
 // Remedies: annotations that were tried, and take a refusal away.
 
 use crate::case::Case;
-use crate::facts::{NeededFacts, with_facts};
+use crate::facts::{RowNeeds, with_facts};
 use crate::loops::for_time;
 use crate::moves::helping_on;
 use crate::parts::widened_split;
@@ -53,7 +53,7 @@ pub struct Remedies {
     /// Whether one more was wanted.
     is_spent: bool,
     /// The facts that the rows of the search need, once they are known.
-    needed: Option<NeededFacts>,
+    needed: Option<RowNeeds>,
     /// The annotations with the notes of all remedies so far, where there are any.
     so_far: Option<Annotations>,
     /// The addresses that are not refused with these, rising.
@@ -305,7 +305,7 @@ impl Remedies {
     ) -> Result<Remedy, FlowFault> {
         let needed = match self.needed.take() {
             Some(needed) => needed,
-            None => NeededFacts::of(case.alloc, search, &search.explored)?,
+            None => RowNeeds::of(case.alloc, search, &search.explored)?,
         };
         let none = only_facts(case.alloc, case.said, Vec::new(case.alloc));
         let remedy = with_facts(self, case, refusal, &none, &search.explored, &needed)?;
@@ -343,7 +343,7 @@ impl Remedies {
         if self.is_gone_by(case, &added, refusal.address)? {
             return Ok(Remedy::Notes(added));
         }
-        let needed = NeededFacts::of(case.alloc, search, other)?;
+        let needed = RowNeeds::of(case.alloc, search, other)?;
         let remedy = with_facts(self, case, refusal, &added, other, &needed)?;
         Ok(or_infer(remedy))
     }

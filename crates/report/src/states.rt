@@ -18,7 +18,7 @@ const MOST: u32 = 2_000;
 
 /// What a line tells of a row.
 #[derive(Drop)]
-struct Told {
+struct RowLine {
     /// The registers that differ between the rows of the address.
     names: Vec<Used>,
     has_procs: bool,
@@ -88,7 +88,7 @@ impl Report<'_> {
         instr: &Instr,
         is_head: bool,
     ) -> Result<IndexSet<String>, AllocError> {
-        let told = Told {
+        let told = RowLine {
             names: self.differing(rows, instr, is_head)?,
             has_procs: is_head && self.has_several_procs(rows),
             has_times: is_head && self.has_several_potentials(rows),
@@ -120,7 +120,7 @@ impl Report<'_> {
     }
 
     /// The line of one row; an empty one where nothing distinguishes it.
-    fn way_line(&self, one: &[RowAt], told: &Told) -> Result<String, AllocError> {
+    fn way_line(&self, one: &[RowAt], told: &RowLine) -> Result<String, AllocError> {
         let mut line = String::new(self.shown.alloc);
         let Some(at) = one.first() else {
             return Ok(line);

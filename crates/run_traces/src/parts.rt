@@ -57,14 +57,14 @@ fn is_name(word: &str) -> bool {
 
 /// The sinks of each RAM, and how many bytes they took.
 #[derive(Drop)]
-struct Parts<K: Sink> {
+struct MemorySinks<K: Sink> {
     work: K,
     video: K,
     object: K,
     taken: usize,
 }
 
-impl<K: Sink> Parts<K> {
+impl<K: Sink> MemorySinks<K> {
     /// Writes to the sink of the RAM whose bytes come next.
     fn write(&mut self, bytes: &[u8]) -> Result<usize, DeviceFault> {
         if self.taken < WORK {
@@ -87,14 +87,14 @@ fn beginning(bytes: &[u8], most: usize) -> &[u8] {
 /// A sink for the bytes of work, video and object RAM, one after another: each RAM goes to a sink of its own.
 #[derive(Drop)]
 pub struct RamParts<K: Sink> {
-    parts: Parts<K>,
+    parts: MemorySinks<K>,
     failures: u64,
 }
 
 impl<K: Sink> RamParts<K> {
     pub fn new(work: K, video: K, object: K) -> RamParts<K> {
         RamParts {
-            parts: Parts {
+            parts: MemorySinks {
                 work,
                 video,
                 object,

@@ -15,7 +15,7 @@ pub(crate) struct FileLine<'a> {
 
 /// What a line of z80asm's listing is for the count.
 #[derive(Clone, Copy)]
-enum Counted<'a> {
+enum CountedLine<'a> {
     /// A line of source.
     Source,
     /// A line of source after which an included file begins.
@@ -32,7 +32,7 @@ enum Counted<'a> {
 
 /// What ends at a line of z80asm's listing.
 #[derive(Clone, Copy)]
-enum Ended<'a> {
+enum EndedPart<'a> {
     Macro(&'a [u8]),
     File(&'a [u8]),
 }
@@ -56,25 +56,28 @@ fn z80asm_lines(alloc: Global, listing: &[u8]) -> Result<Vec<Option<FileLine<'_>
     let mut places = Vec::new(alloc);
     let mut files: Vec<FileLine<'_>> = Vec::new(alloc);
     for counted in counted_lines(alloc, listing)? {
-        if let (Counted::Source | Counted::Includes(_), Some(file)) = (counted, files.last_mut()) {
+        if let (CountedLine::Source | CountedLine::Includes(_), Some(file)) = (
+            counted,
+            files.last_mut(),
+        ) {
             file.line = file.line.saturating_add(1);
         }
         places.push(files.last().copied())?;
         match counted {
-            Counted::Begins(file) | Counted::Includes(file) => {
+            CountedLine::Begins(file) | CountedLine::Includes(file) => {
                 files.push(FileLine { file, line: 0 })?;
             }
-            Counted::Ends => {
+            CountedLine::Ends => {
                 files.pop();
             }
-            Counted::Source | Counted::Expanded | Counted::Nothing => {}
+            CountedLine::Source | CountedLine::Expanded | CountedLine::Nothing => {}
         }
     }
     Ok(places)
 }
 
 /// What the lines of z80asm's listing are. They are read from the last to the first, since only their ends are marked.
-fn counted_lines(alloc: Global, listing: &[u8]) -> Result<Vec<Counted<'_>>, AllocError> {
+fn counted_lines(alloc: Global, listing: &[u8]) -> Result<Vec<CountedLine<'_>>, AllocError> {
     let mut open = Vec::new(alloc);
     let mut counted = Vec::new(alloc);
     for line in listing.rsplit(|byte| *byte == b'\n') {
@@ -85,42 +88,48 @@ fn counted_lines(alloc: Global, listing: &[u8]) -> Result<Vec<Counted<'_>>, Allo
 }
 
 /// What a line of z80asm's listing is. `open` has what ends at the lines after it and has not begun there.
-fn counted_line<'a>(open: &mut Vec<Ended<'a>>, line: &'a [u8]) -> Result<Counted<'a>, AllocError> {
+fn counted_line<'a>(
+    open: &mut Vec<EndedPart<'a>>,
+    line: &'a [u8],
+) -> Result<CountedLine<'a>, AllocError> {
     let mark = line.trim_ascii_end();
     if let Some(name) = mark.strip_prefix(b"# End of macro ") {
-        open.push(Ended::Macro(name))?;
-        return Ok(Counted::Nothing);
+        open.push(EndedPart::Macro(name))?;
+        return Ok(CountedLine::Nothing);
     }
     if let Some(name) = mark.strip_prefix(b"# End of file ") {
-        open.push(Ended::File(name))?;
-        return Ok(Counted::Ends);
+        open.push(EndedPart::File(name))?;
+        return Ok(CountedLine::Ends);
     }
     if let Some(name) = mark.strip_prefix(b"# File ") {
         open.pop();
-        return Ok(Counted::Begins(str::from_utf8(name).unwrap_or("")));
+        return Ok(CountedLine::Begins(str::from_utf8(name).unwrap_or("")));
     }
     // A blank line of the source shows an address and tabs alone.
     let Some(shown) = Layout::Z80asm.shown(line) else {
-        return Ok(Counted::Nothing);
+        return Ok(CountedLine::Nothing);
     };
     let text = SourceText::of(Layout::Z80asm, shown.source);
     let ended = open.last().copied();
     let begins = match ended {
-        Some(Ended::Macro(name)) => text.mnemonic() == name,
-        Some(Ended::File(name)) => text.included() == Some(name),
+        Some(EndedPart::Macro(name)) => text.mnemonic() == name,
+        Some(EndedPart::File(name)) => text.included() == Some(name),
         None => false,
     };
     if begins {
         open.pop();
     }
-    if open.iter().any(|ended| matches!(ended, Ended::Macro(_))) {
-        return Ok(Counted::Expanded);
+    if open
+        .iter()
+        .any(|ended| matches!(ended, EndedPart::Macro(_)))
+    {
+        return Ok(CountedLine::Expanded);
     }
     match ended {
-        Some(Ended::File(name)) if begins => {
-            Ok(Counted::Includes(str::from_utf8(name).unwrap_or("")))
+        Some(EndedPart::File(name)) if begins => {
+            Ok(CountedLine::Includes(str::from_utf8(name).unwrap_or("")))
         }
-        _ => Ok(Counted::Source),
+        _ => Ok(CountedLine::Source),
     }
 }
 

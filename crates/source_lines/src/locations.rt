@@ -28,7 +28,7 @@ impl fmt::Display for Location<'_> {
 
 /// A line that shows bytes.
 #[derive(Clone, Copy)]
-struct Placed {
+struct PlacedLine {
     /// Of its first byte.
     address: u16,
     /// The place of its file in the list of files.
@@ -41,7 +41,7 @@ struct Placed {
 pub struct Locations {
     files: Vec<String>,
     /// By address; those of one address in the order of the listing.
-    placed: Vec<Placed>,
+    placed: Vec<PlacedLine>,
 }
 
 impl Locations {
@@ -113,7 +113,7 @@ fn located(alloc: Global, listing: &SourceLines<'_>, name: &str) -> Result<Locat
             Some(Some(place)) if is_printable(place.file) => (place.file, place.line),
             _ => (name, line.number),
         };
-        let placed = Placed {
+        let placed = PlacedLine {
             address,
             file: locations.file(alloc, file)?,
             line: number,

@@ -1,6 +1,6 @@
 // The comments above entries: the instruction there, and what the ROM shows.
 
-use crate::entries::{Entry, finding_of};
+use crate::entries::{FileEntry, finding_of};
 use crate::evidence::Evidence;
 use crate::sums::equation;
 use abs_state::KeptCell;
@@ -10,7 +10,7 @@ use named_annotations::{register_name, variable_name};
 
 impl<'c, 'e> Evidence<'c, 'e> {
     /// The comment above an entry, with its line feed.
-    pub(crate) fn comment(&self, entry: &Entry) -> Result<String, FlowFault> {
+    pub(crate) fn comment(&self, entry: &FileEntry) -> Result<String, FlowFault> {
         let alloc = self.alloc;
         let here = self.shown(entry.at())?;
         let wanted = match finding_of(&self.found.explored.plan, entry) {
@@ -18,22 +18,22 @@ impl<'c, 'e> Evidence<'c, 'e> {
             None => None,
         };
         Ok(match (entry, wanted) {
-            (Entry::Cell(cell), _) => self.cell_comment(cell)?,
-            (Entry::Fact(note), _) => self.fact_comment(note)?,
-            (Entry::Inline(_), Some(wanted)) => {
+            (FileEntry::Cell(cell), _) => self.cell_comment(cell)?,
+            (FileEntry::Fact(note), _) => self.fact_comment(note)?,
+            (FileEntry::Inline(_), Some(wanted)) => {
                 format!(in alloc;
                     "# {here}: the callee's rows are this call's own, for {wanted}\n"
                 )?
             }
-            (Entry::Context(_), Some(wanted)) => {
+            (FileEntry::Context(_), Some(wanted)) => {
                 format!(in alloc; "# {here}: the callee has rows for this call, for {wanted}\n")?
             }
-            (Entry::Turns(note), Some(wanted)) => format!(in alloc;
+            (FileEntry::Turns(note), Some(wanted)) => format!(in alloc;
                 "# {here}: the first {} turns of this loop are distinguished, for {wanted}\n",
                 note.turns
             )?,
-            (Entry::Split(split), Some(wanted)) => self.split_comment(&here, split, &wanted)?,
-            (Entry::Loop(note), _) => self.loop_comment(&here, note)?,
+            (FileEntry::Split(split), Some(wanted)) => self.split_comment(&here, split, &wanted)?,
+            (FileEntry::Loop(note), _) => self.loop_comment(&here, note)?,
             _ => format!(in alloc; "# {here}\n")?,
         })
     }

@@ -8,7 +8,7 @@ use std::alloc::{AllocFailed, Global};
 
 /// One entry of an annotation file.
 #[derive(Clone, Copy)]
-pub(crate) enum Entry<'a> {
+pub(crate) enum FileEntry<'a> {
     Inline(u16),
     Context(u16),
     Turns(&'a TurnNote),
@@ -20,19 +20,19 @@ pub(crate) enum Entry<'a> {
 }
 
 /// Entries, or refused memory.
-type Entries<'a> = Result<Vec<Entry<'a>>, AllocFailed<Entry<'a>>>;
+type Entries<'a> = Result<Vec<FileEntry<'a>>, AllocFailed<FileEntry<'a>>>;
 
-impl<'a> Entry<'a> {
+impl<'a> FileEntry<'a> {
     /// The address of the entry.
     pub(crate) fn at(&self) -> u16 {
         match self {
-            Entry::Inline(at) | Entry::Context(at) => *at,
-            Entry::Turns(note) => note.head,
-            Entry::Split(split) => split.at,
-            Entry::Range(note) => note.at,
-            Entry::Fact(fact) => fact.at,
-            Entry::Loop(note) => note.at,
-            Entry::Cell(cell) => cell.at,
+            FileEntry::Inline(at) | FileEntry::Context(at) => *at,
+            FileEntry::Turns(note) => note.head,
+            FileEntry::Split(split) => split.at,
+            FileEntry::Range(note) => note.at,
+            FileEntry::Fact(fact) => fact.at,
+            FileEntry::Loop(note) => note.at,
+            FileEntry::Cell(cell) => cell.at,
         }
     }
 }
@@ -43,7 +43,7 @@ pub(crate) fn entries_of<'a>(alloc: Global, said: &'a Annotations) -> Entries<'a
     let mut entries = Vec::new(alloc);
     add_notes(&mut entries, said)?;
     for fact in said.facts() {
-        entries.push(Entry::Fact(fact))?;
+        entries.push(FileEntry::Fact(fact))?;
     }
     Ok(entries)
 }
@@ -57,46 +57,48 @@ pub(crate) fn guided_entries<'a>(
 ) -> Entries<'a> {
     let mut entries = entries_of(alloc, said)?;
     for at in guide.calls.as_slice() {
-        entries.push(Entry::Context(*at))?;
+        entries.push(FileEntry::Context(*at))?;
     }
     for note in guide.turns.as_slice() {
-        entries.push(Entry::Turns(note))?;
+        entries.push(FileEntry::Turns(note))?;
     }
     for note in guide.ranges.as_slice() {
-        entries.push(Entry::Range(note))?;
+        entries.push(FileEntry::Range(note))?;
     }
     Ok(entries)
 }
 
 /// Adds the entries that are no facts.
 fn add_notes<'a>(
-    entries: &mut Vec<Entry<'a>>,
+    entries: &mut Vec<FileEntry<'a>>,
     said: &'a Annotations,
-) -> Result<(), AllocFailed<Entry<'a>>> {
+) -> Result<(), AllocFailed<FileEntry<'a>>> {
     for at in said.inlines() {
-        entries.push(Entry::Inline(*at))?;
+        entries.push(FileEntry::Inline(*at))?;
     }
     for split in said.splits() {
-        entries.push(Entry::Split(split))?;
+        entries.push(FileEntry::Split(split))?;
     }
     for note in said.loops() {
-        entries.push(Entry::Loop(note))?;
+        entries.push(FileEntry::Loop(note))?;
     }
     for cell in said.cells() {
-        entries.push(Entry::Cell(cell))?;
+        entries.push(FileEntry::Cell(cell))?;
     }
     Ok(())
 }
 
 /// What a search found that has an entry; None where the entry was given, or is a fact.
-pub(crate) fn finding_of<'p>(plan: &'p Plan, entry: &Entry) -> Option<&'p Finding> {
+pub(crate) fn finding_of<'p>(plan: &'p Plan, entry: &FileEntry) -> Option<&'p Finding> {
     plan.findings.iter().find(|finding| match (&finding.family, entry) {
-        (Family::Inlines(sites), Entry::Inline(at)) => sites.contains(at),
-        (Family::Calls(sites), Entry::Context(at)) => sites.contains(at),
-        (Family::Turns(note), Entry::Turns(other)) => note.head == other.head,
-        (Family::Split(split), Entry::Split(note)) => split.at == note.at,
-        (Family::Loop(other), Entry::Loop(note)) => other.at == note.at,
-        (Family::Cells(cells), Entry::Cell(cell)) => cells.iter().any(|other| other.at == cell.at),
+        (Family::Inlines(sites), FileEntry::Inline(at)) => sites.contains(at),
+        (Family::Calls(sites), FileEntry::Context(at)) => sites.contains(at),
+        (Family::Turns(note), FileEntry::Turns(other)) => note.head == other.head,
+        (Family::Split(split), FileEntry::Split(note)) => split.at == note.at,
+        (Family::Loop(other), FileEntry::Loop(note)) => other.at == note.at,
+        (Family::Cells(cells), FileEntry::Cell(cell)) => cells
+            .iter()
+            .any(|other| other.at == cell.at),
         _ => false,
     })
 }

@@ -1,6 +1,6 @@
 // Annotations that were given, with what was found added: their comments and their order stay.
 
-use crate::entries::Entry;
+use crate::entries::FileEntry;
 use annotations::Given;
 use std::alloc::{AllocError, Global};
 use toml_places::{NodeKind, Places};
@@ -16,27 +16,27 @@ pub(crate) enum Standing {
 }
 
 /// How an entry stands to what was given.
-pub(crate) fn standing_of(entry: &Entry, given: &Given) -> Standing {
+pub(crate) fn standing_of(entry: &FileEntry, given: &Given) -> Standing {
     match entry {
-        Entry::Inline(at) => given_if(given.inlines.contains(at)),
-        Entry::Context(at) => given_if(given.contexts.contains(at)),
-        Entry::Turns(note) => given_if(given.turns.iter().any(|other| other.head == note.head)),
-        Entry::Fact(note) => given_if(
+        FileEntry::Inline(at) => given_if(given.inlines.contains(at)),
+        FileEntry::Context(at) => given_if(given.contexts.contains(at)),
+        FileEntry::Turns(note) => given_if(given.turns.iter().any(|other| other.head == note.head)),
+        FileEntry::Fact(note) => given_if(
             given
                 .facts
                 .iter()
                 .any(|other| other.at == note.at && other.fact == note.fact),
         ),
-        Entry::Range(note) => given_if(
+        FileEntry::Range(note) => given_if(
             given.ranges.iter().any(|other| other.at == note.at && other.variable == note.variable),
         ),
-        Entry::Loop(note) => given_if(given.loops.iter().any(|other| other.at == note.at)),
-        Entry::Split(split) => match given.splits.iter().find(|other| other.at == split.at) {
+        FileEntry::Loop(note) => given_if(given.loops.iter().any(|other| other.at == note.at)),
+        FileEntry::Split(split) => match given.splits.iter().find(|other| other.at == split.at) {
             Some(other) if other.parts.as_slice() == split.parts.as_slice() => Standing::Given,
             Some(_) => Standing::Changed,
             None => Standing::New,
         },
-        Entry::Cell(cell) => match given.cells.iter().find(|other| other.at == cell.at) {
+        FileEntry::Cell(cell) => match given.cells.iter().find(|other| other.at == cell.at) {
             Some(other) if other.range == cell.range => Standing::Given,
             Some(_) => Standing::Changed,
             None => Standing::New,

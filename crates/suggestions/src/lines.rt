@@ -1,6 +1,6 @@
 // The lines of entries, as TOML.
 
-use crate::entries::Entry;
+use crate::entries::FileEntry;
 use crate::sums::sum_pairs;
 use annotations::{FactNote, LoopNote, RangeNote, SplitNote};
 use named_annotations::{register_name, variable_name};
@@ -35,24 +35,24 @@ impl Lines<'_> {
     }
 
     /// The lines of an entry.
-    pub(crate) fn entry(self, entry: &Entry) -> Result<String, AllocError> {
+    pub(crate) fn entry(self, entry: &FileEntry) -> Result<String, AllocError> {
         let alloc = self.alloc;
         let at = self.address(entry.at())?;
         match entry {
-            Entry::Inline(_) => format!(in alloc; "[[inline]]\nat = {at}\n"),
-            Entry::Context(_) => format!(in alloc; "[[context]]\nat = {at}\n"),
-            Entry::Turns(note) => {
+            FileEntry::Inline(_) => format!(in alloc; "[[inline]]\nat = {at}\n"),
+            FileEntry::Context(_) => format!(in alloc; "[[context]]\nat = {at}\n"),
+            FileEntry::Turns(note) => {
                 let until = self.address(note.until)?;
                 format!(in alloc;
                     "[[turns]]\nat = {at}\ncount = {}\nuntil = {until}\n",
                     note.turns
                 )
             }
-            Entry::Split(split) => self.split(&at, split),
-            Entry::Range(note) => self.range(&at, note),
-            Entry::Fact(note) => self.fact(&at, note),
-            Entry::Loop(note) => self.counter(&at, note),
-            Entry::Cell(cell) => format!(in alloc;
+            FileEntry::Split(split) => self.split(&at, split),
+            FileEntry::Range(note) => self.range(&at, note),
+            FileEntry::Fact(note) => self.fact(&at, note),
+            FileEntry::Loop(note) => self.counter(&at, note),
+            FileEntry::Cell(cell) => format!(in alloc;
                 "[[cell]]\nat = {at}\nlo = {}\nhi = {}\n",
                 cell.range.low(),
                 cell.range.high()

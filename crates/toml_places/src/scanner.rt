@@ -5,7 +5,7 @@ use std::alloc::{AllocError, Global};
 
 /// Bytes that are passed over together.
 #[derive(Clone, Copy)]
-enum Class {
+enum ByteClass {
     /// Blanks and tabs.
     Space,
     /// These and line ends.
@@ -21,16 +21,18 @@ enum Class {
     Only(u8),
 }
 
-impl Class {
+impl ByteClass {
     fn has(self, byte: u8) -> bool {
         match self {
-            Class::Space => matches!(byte, b' ' | b'\t'),
-            Class::Blank => matches!(byte, b' ' | b'\t' | b'\r' | b'\n'),
-            Class::Line => byte != b'\n',
-            Class::Word => byte.is_ascii_alphanumeric() || byte == b'_' || byte == b'-',
-            Class::AfterKey => !matches!(byte, b'=' | b']' | b'\n' | b',' | b'}'),
-            Class::Unquoted => { !matches!(byte, b',' | b']' | b'}' | b'#' | b'\n' | b'\r' | b' ') }
-            Class::Only(only) => byte == only,
+            ByteClass::Space => matches!(byte, b' ' | b'\t'),
+            ByteClass::Blank => matches!(byte, b' ' | b'\t' | b'\r' | b'\n'),
+            ByteClass::Line => byte != b'\n',
+            ByteClass::Word => byte.is_ascii_alphanumeric() || byte == b'_' || byte == b'-',
+            ByteClass::AfterKey => !matches!(byte, b'=' | b']' | b'\n' | b',' | b'}'),
+            ByteClass::Unquoted => {
+                !matches!(byte, b',' | b']' | b'}' | b'#' | b'\n' | b'\r' | b' ')
+            }
+            ByteClass::Only(only) => byte == only,
         }
     }
 }
@@ -76,7 +78,7 @@ impl<'t> Scanner<'t> {
     }
 
     /// Goes on over the bytes of a class.
-    fn skip(&mut self, class: Class) {
+    fn skip(&mut self, class: ByteClass) {
         let rest = self.text.get(self.at..).unwrap_or(b"");
         let count = rest
             .iter()
@@ -87,13 +89,13 @@ impl<'t> Scanner<'t> {
 
     /// Goes to the end of the line.
     fn skip_line(&mut self) {
-        self.skip(Class::Line);
+        self.skip(ByteClass::Line);
     }
 
     /// Goes over blanks, line ends and comments.
     fn skip_blank(&mut self) {
         for _ in 0..self.text.len() {
-            self.skip(Class::Blank);
+            self.skip(ByteClass::Blank);
             if self.byte(0) != b'#' {
                 return;
             }
@@ -102,7 +104,7 @@ impl<'t> Scanner<'t> {
     }
 
     fn skip_spaces(&mut self) {
-        self.skip(Class::Space);
+        self.skip(ByteClass::Space);
     }
 
     /// Reads a string, which begins here. The span is what stands between the quotes.
@@ -123,7 +125,7 @@ impl<'t> Scanner<'t> {
                 self.go(width);
                 // A long string may end in up to two quotes of its own.
                 if is_long {
-                    self.skip(Class::Only(quote));
+                    self.skip(ByteClass::Only(quote));
                 }
                 return Span { start, end };
             }
@@ -142,13 +144,13 @@ impl<'t> Scanner<'t> {
             self.string()
         } else {
             let start = self.at;
-            self.skip(Class::Word);
+            self.skip(ByteClass::Word);
             Span {
                 start,
                 end: self.at,
             }
         };
-        self.skip(Class::AfterKey);
+        self.skip(ByteClass::AfterKey);
         span
     }
 
@@ -189,7 +191,7 @@ impl<'t> Scanner<'t> {
         self.go(if is_listed { 2 } else { 1 });
         self.skip_spaces();
         let key = self.key();
-        self.skip(Class::Only(b']'));
+        self.skip(ByteClass::Only(b']'));
         self.add(Node {
             parent: None,
             kind: if is_listed {
@@ -295,7 +297,7 @@ impl<'t> Scanner<'t> {
             self.string();
         } else {
             self.go(1);
-            self.skip(Class::Unquoted);
+            self.skip(ByteClass::Unquoted);
         }
         self.add(Node {
             parent,

@@ -53,7 +53,7 @@ pub struct TrialGoal<'a> {
 
 /// What an analysis that goes on after refusals shows of annotations.
 #[derive(Drop)]
-struct Seen {
+struct ShownNotes {
     /// The addresses that are not refused, rising.
     clean: Vec<u16>,
     /// Whether each annotated fact follows at each step to its address.
@@ -109,7 +109,7 @@ fn seen_with(
     task: &Task,
     said: &Annotations,
     asked: TrialGoal,
-) -> Result<Option<Seen>, FlowFault> {
+) -> Result<Option<ShownNotes>, FlowFault> {
     let guide = Guide::none(alloc);
     let setting = plain_setting(task, &guide);
     let list = match found_rows(alloc, setting, asked.visits) {
@@ -122,7 +122,7 @@ fn seen_with(
     }
     if said.facts().is_empty() {
         let clean = clean_addresses(alloc, &list, &[])?;
-        return Ok(Some(Seen {
+        return Ok(Some(ShownNotes {
             clean,
             is_shown: true,
         }));
@@ -141,14 +141,14 @@ fn seen_on(
     steps: RowSteps,
     said: &Annotations,
     before: &[FactNote],
-) -> Result<Option<Seen>, FlowFault> {
+) -> Result<Option<ShownNotes>, FlowFault> {
     let added = added_facts(alloc, said, before)?;
     if !unshown_rows(alloc, steps, said.facts(), &added)?.is_empty() {
         return Ok(None);
     }
     let unshown = unshown_rows(alloc, steps, said.facts(), said.facts())?;
     let clean = clean_addresses(alloc, steps.list, &unshown)?;
-    Ok(Some(Seen {
+    Ok(Some(ShownNotes {
         clean,
         is_shown: unshown.is_empty(),
     }))

@@ -12,7 +12,7 @@ use texts::put;
 
 /// What is asked for.
 #[derive(Clone, Copy)]
-pub(crate) enum Asked<'a> {
+pub(crate) enum ViewRequest<'a> {
     /// The listing.
     List,
     /// Where the T-states of a procedure go: of the one with this name or entry, or of the NMI routine. The second
@@ -41,15 +41,15 @@ impl<'a> Shown<'a> {
     /// What is asked for of an accepted program.
     pub(crate) fn of(
         alloc: Global,
-        asked: Asked<'a>,
+        asked: ViewRequest<'a>,
         accepted: &'a Accepted<'a>,
         symbols: &'a Symbols,
     ) -> Result<Shown<'a>, AllocError> {
         let view = View::of(alloc, accepted, symbols)?;
         match asked {
-            Asked::List => Ok(Shown::List(Listing::of(view))),
-            Asked::Longest(entry, by_rows) => longest_of(alloc, view, entry, by_rows),
-            Asked::Report(names) => Ok(Shown::Report(Report::of(alloc, view, names)?)),
+            ViewRequest::List => Ok(Shown::List(Listing::of(view))),
+            ViewRequest::Longest(entry, by_rows) => longest_of(alloc, view, entry, by_rows),
+            ViewRequest::Report(names) => Ok(Shown::Report(Report::of(alloc, view, names)?)),
         }
     }
 

@@ -8,7 +8,7 @@ ghost use Rattle.texts.specs.Device.{FailsAmid, HasFailed, CountsNoFailure, Take
 ghost use Rattle.view_commands.specs.Viewing.{IsViewStatus};
 
 use crate::documents::write_document;
-use crate::showing::{Asked, Shown};
+use crate::showing::{Shown, ViewRequest};
 use cert_checker::Accepted;
 use command_parts::{ExitStatus, Stop, judge, read_rom};
 use report::FileNames;
@@ -59,7 +59,7 @@ pub fn list_on<A: Source, B: Source, W: Sink>(
     ensures rom_limit { HasFailed (A.state rom.old) (A.state rom.new)
         ⊎ GivesUpTo 16385 (A.state rom.old) (A.state rom.new) }
 {
-    let shown = view_on(alloc, rom, cert, symbols, Asked::List, out);
+    let shown = view_on(alloc, rom, cert, symbols, ViewRequest::List, out);
     match shown {
         Ok(_) => ExitStatus::Done.code(),
         Err(stop) => stop.status(),
@@ -117,7 +117,7 @@ pub fn longest_on<A: Source, B: Source, W: Sink, N: Sink>(
     ensures rom_limit { HasFailed (A.state rom.old) (A.state rom.new)
         ⊎ GivesUpTo 16385 (A.state rom.old) (A.state rom.new) }
 {
-    let asked = Asked::Longest(entry, by_rows);
+    let asked = ViewRequest::Longest(entry, by_rows);
     match view_on(alloc, rom, cert, symbols, asked, out) {
         Ok(true) => ExitStatus::Done.code(),
         Ok(false) => {
@@ -171,7 +171,7 @@ pub fn report_on<A: Source, B: Source, W: Sink>(
     ensures rom_limit { HasFailed (A.state rom.old) (A.state rom.new)
         ⊎ GivesUpTo 16385 (A.state rom.old) (A.state rom.new) }
 {
-    let shown = view_on(alloc, rom, cert, symbols, Asked::Report(files), out);
+    let shown = view_on(alloc, rom, cert, symbols, ViewRequest::Report(files), out);
     match shown {
         Ok(_) => ExitStatus::Done.code(),
         Err(stop) => stop.status(),
@@ -185,7 +185,7 @@ fn view_on<A: Source, B: Source, W: Sink>(
     rom: &mut A,
     cert: &mut B,
     symbols: &Symbols,
-    asked: Asked,
+    asked: ViewRequest,
     out: &mut W,
 ) -> Result<bool, Stop>
     // What each result means, and for which bytes.
@@ -232,7 +232,7 @@ fn view_on<A: Source, B: Source, W: Sink>(
 /// Writes what is asked for of an accepted program. The result is whether there is such a procedure.
 fn show<W: Sink>(
     alloc: Global,
-    asked: Asked,
+    asked: ViewRequest,
     accepted: &Accepted,
     symbols: &Symbols,
     out: &mut W,

@@ -102,12 +102,12 @@ pub(crate) fn terms_before(linear: &Linear, effect: &Effect) -> Option<Linear> {
 
 /// A sum over the variables before a step: its constant and its terms.
 #[derive(Drop)]
-struct Before {
+struct SumBefore {
     constant: i128,
     terms: [Option<Term>; 6],
 }
 
-impl Before {
+impl SumBefore {
     /// Adds a term over a variable after the step, rewritten by the effect. For an unknown variable that is the term's
     /// least value over the target's range.
     fn add_after(&mut self, term: Term, effect: &Effect, target: &AbsState) {
@@ -159,7 +159,7 @@ pub(crate) fn least_left(
     source: &AbsState,
     target: &AbsState,
 ) -> i128 {
-    let mut left = Before {
+    let mut left = SumBefore {
         constant: i128::from(to.constant()).saturating_neg(),
         terms: [None; 6],
     };

@@ -2,7 +2,7 @@ use Rattle.std.proofs.Common.{rules, length-append, ◌^◌, ◌≡◌, ◌≢�
 use Rattle.std.proofs.lemmas.Bool.{cases_eq}
 use Rattle.std.proofs.Math.ListN.{get_or-append}
 use Rattle.std.proofs.Math.Seq.{get_or-append_seam}
-use Rattle.call_graph.specs.declared.cycle.Step.{Step}
+use Rattle.call_graph.specs.declared.cycle.SearchStep.{SearchStep}
 use Rattle.call_graph.specs.Walk.{caller_at, callee_of_edge}
 use Rattle.call_graph.specs.Cycle.{PlaceInCycle, step_proc, step_from, step_far, seen_at}
 use Rattle.call_graph.proofs.CallLemmas.{calls_at}
@@ -58,7 +58,7 @@ loop-number-preserved c =
     elim c.if-not-seen-from.branch [
       | then-not-seen-from+in_ok-push w ↦
           let far_is : c.index-step.result.now.far ≡ step_far old at = sym kept.far_is in
-          let s : Step = record { proc = p; from = at; far = step_far old at + 1 } in
+          let s : SearchStep = record { proc = p; from = at; far = step_far old at + 1 } in
           let items : c.if-not-seen-from.steps.items ≡ old ++ s ∷ [] =
           ap (λ v. v.items) w.steps-is ∙ (w.in_ok-push.ensures.items ∙ ap (λ f. old ++ (record { proc = p; from = at; far = f + 1 }) ∷ []) far_is) in
           let wrote : c.if-not-seen-from.seen ≡ set seen p true = w.seen-is ∙ ap (λ k. set seen k true) w.from-then-not-seen-from.ensures in
