@@ -1,14 +1,13 @@
 -- A linear after a step over which one variable becomes a linear, and a choice of two ways.
-use Rattle.std.proofs.Common.{◌≡◌, ◌≢◌, ℕ, Bool, true, false, List, get_or, ℤ, pos, ◌+ℤ◌, ◌-ℤ◌, ◌*ℤ◌, ◌≤ℤ◌, Option, Some, None, refl, sym, subst, ap, ◌∙◌, arith, All, IsTrue, inl, inr, ◌⊎◌}
+use Rattle.std.proofs.Common.{◌≡◌, ◌≢◌, ℕ, Bool, true, false, get_or, ℤ, ◌+ℤ◌, ◌*ℤ◌, Some, None, refl, sym, ap, arith, All, IsTrue, inl, inr, ◌⊎◌}
 use Rattle.std.proofs.lemmas.Int.{ints}
 use Rattle.linear_sums.specs.declared.rewriting.LinearChange.{LinearChange}
 use Rattle.loop_bounds.specs.declared.effect.Effect.{Effect}
-use Rattle.loop_bounds.specs.declared.linear.Term.{Term}
 use Rattle.loop_bounds.specs.declared.variable.Variable.{Variable}
 use Rattle.loop_bounds.specs.Bounds.{Decreases, DecreasesBeside}
 use Rattle.loop_bounds.specs.Effect.{Valuation, after, whole}
 use Rattle.loop_bounds.specs.Linear.{LinearView, total, value}
-use Rattle.loop_bounds.specs.Ranges.{Box, LiesIn}
+use Rattle.loop_bounds.specs.Ranges.{Box}
 use Rattle.loop_bounds.proofs.Boxes.{total_agree}
 use Rattle.loop_bounds.proofs.VariableLemmas.{choice_same, choice_other}
 use Rattle.check_claims.specs.declared.rewritings.Rewriting.{Rewriting}

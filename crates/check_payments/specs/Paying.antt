@@ -1,5 +1,5 @@
 -- What a potential pays over a step in version 3 (docs/CHECKER.md, "Paying").
-use Rattle.std.specs.Prelude.{ℕ, ◌==◌, ◌⊎◌, List, [], ◌∷◌, Option, Some, None, if◌then◌else◌, ℤ, pos, ◌+ℤ◌, ◌-ℤ◌, ◌*ℤ◌, ◌≤ℤ◌}
+use Rattle.std.specs.Prelude.{ℕ, ◌==◌, ◌⊎◌, Option, Some, None, if◌then◌else◌, ℤ, pos, ◌-ℤ◌, ◌≤ℤ◌}
 use Rattle.linear_effects.specs.declared.variable_effect.LinearEffect.{LinearEffect}
 use Rattle.linear_sums.specs.declared.rewriting.LinearChange.{LinearChange}
 use Rattle.loop_bounds.specs.Effect.{Valuation, after, whole}
