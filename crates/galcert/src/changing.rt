@@ -2,7 +2,7 @@
 
 use crate::devices::{input, stdout};
 use crate::naming::read_files;
-use crate::streams::ErrorStream;
+use crate::streams::Remarks;
 use certificate_changes::{EntryNames, diff_on};
 use clap::ArgMatches;
 use command_reports::{UsedDevice, clash_of, end, report_clash};
@@ -10,11 +10,7 @@ use command_words::{OLD_SYMBOLS, SYMBOLS};
 use program_names::{NameFiles, ProgramNames};
 
 /// `galcert diff`. The result is the exit status.
-pub fn diff_files<'a>(
-    rt: &'a HostRuntime,
-    matches: &ArgMatches<'a>,
-    notes: &mut ErrorStream,
-) -> u8 {
+pub fn diff_files<'a>(rt: &'a HostRuntime, matches: &ArgMatches<'a>, notes: &mut Remarks) -> u8 {
     if let Some(clash) = clash_of(rt, matches, &["OLD", "NEW", OLD_SYMBOLS, SYMBOLS], None) {
         return report_clash(notes, &clash);
     }
@@ -47,7 +43,7 @@ fn names_of<'m>(
     rt: &'m HostRuntime,
     matches: &ArgMatches<'m>,
     option: &str,
-    notes: &mut ErrorStream,
+    notes: &mut Remarks,
 ) -> Result<ProgramNames<'m>, u8> {
     let files = NameFiles {
         symbols: matches.get_str(option),

@@ -3,7 +3,7 @@
 use crate::devices::{InputFile, input, optional, searching, stdout};
 use crate::making::trials_of;
 use crate::naming::read;
-use crate::streams::{Answer, ErrorStream, answer};
+use crate::streams::{Answer, Remarks, answer};
 use clap::ArgMatches;
 use command_parts::ExitStatus;
 use command_reports::{UsedDevice, clash_of, end, number_of, report, report_clash};
@@ -22,11 +22,7 @@ const MOST_UNSAID: u32 = 20;
 const INPUTS: [&str; 4] = ["ROM", SECOND, SYMBOLS, LISTING];
 
 /// `galcert explain`. The result is the exit status.
-pub fn explain_files<'a>(
-    rt: &'a HostRuntime,
-    matches: &ArgMatches<'a>,
-    notes: &mut ErrorStream,
-) -> u8 {
+pub fn explain_files<'a>(rt: &'a HostRuntime, matches: &ArgMatches<'a>, notes: &mut Remarks) -> u8 {
     let second = matches.get_str(SECOND);
     if second.is_none() {
         if let Some(number) = page_number(word(matches, "ROM")) {
@@ -58,7 +54,7 @@ fn explain_rom<'a>(
     matches: &ArgMatches<'a>,
     trials: u32,
     most: usize,
-    notes: &mut ErrorStream,
+    notes: &mut Remarks,
 ) -> u8 {
     let names = match read(rt, matches, notes) {
         Ok(names) => names,
@@ -109,7 +105,7 @@ fn hint_explained(
     second: &InputFile,
     names: &ProgramNames,
     infers: bool,
-    notes: &mut ErrorStream,
+    notes: &mut Remarks,
 ) {
     hint_rom(rt, rt.alloc(), rom, notes);
     match Likeness::of(second.head()) {
@@ -119,12 +115,7 @@ fn hint_explained(
 }
 
 /// Reports a note in the source that is bad. The result is the exit status.
-fn bad_note(
-    rt: &HostRuntime,
-    names: &ProgramNames,
-    out: &mut Answer,
-    notes: &mut ErrorStream,
-) -> u8 {
+fn bad_note(rt: &HostRuntime, names: &ProgramNames, out: &mut Answer, notes: &mut Remarks) -> u8 {
     let Some(Err(fault)) = &names.notes else {
         return ExitStatus::Refused.code();
     };
@@ -142,7 +133,7 @@ fn bad_note(
 }
 
 /// `galcert explain NUMBER`. The result is the exit status.
-fn show_page(rt: &HostRuntime, number: u8, notes: &mut ErrorStream) -> u8 {
+fn show_page(rt: &HostRuntime, number: u8, notes: &mut Remarks) -> u8 {
     let mut out = stdout(rt);
     let status = page_on(number, &mut out);
     if status == ExitStatus::Usage.code() {

@@ -2,7 +2,7 @@
 
 use crate::devices::{InputFile, Out, input, optional, output, searching, stderr, stdout};
 use crate::naming::{has_names, has_reports, names, symbols_of, tell_refused};
-use crate::streams::{Answer, ErrorStream, answer};
+use crate::streams::{Answer, Remarks, answer};
 use clap::ArgMatches;
 use command_parts::ExitStatus;
 use command_reports::{
@@ -40,11 +40,7 @@ struct MakeRequest<'r, 'm> {
 }
 
 /// `galcert check`, with and without `--infer`. The result is the exit status.
-pub fn check_files<'a>(
-    rt: &'a HostRuntime,
-    matches: &ArgMatches<'a>,
-    notes: &mut ErrorStream,
-) -> u8 {
+pub fn check_files<'a>(rt: &'a HostRuntime, matches: &ArgMatches<'a>, notes: &mut Remarks) -> u8 {
     let infers = matches.get_flag(INFER);
     if !infers && matches.get_str("ANNOT").is_none() && matches.get_str(LISTING).is_none() {
         report(
@@ -104,7 +100,7 @@ fn judge_files<K: Sink, W: Sink + Drop>(
     annot: &mut InputFile<'_>,
     keep: &mut K,
     out: Printed<W>,
-    notes: &mut ErrorStream,
+    notes: &mut Remarks,
 ) -> Result<(u8, Printed<W>), u8> {
     let MakeRequest {
         rt,
@@ -142,7 +138,7 @@ fn check_by_names<K: Sink, W: Sink>(
     annot: &mut InputFile<'_>,
     keep: &mut K,
     out: &mut W,
-    notes: &mut ErrorStream,
+    notes: &mut Remarks,
 ) -> u8 {
     let MakeRequest {
         rt,
@@ -166,7 +162,7 @@ fn check_plain<K: Sink, W: Sink>(
     annot: &mut InputFile<'_>,
     keep: &mut K,
     out: &mut W,
-    notes: &mut ErrorStream,
+    notes: &mut Remarks,
 ) -> u8 {
     let MakeRequest {
         rt,
@@ -198,16 +194,12 @@ fn table_output<'a>(rt: &'a HostRuntime, matches: &ArgMatches) -> Out<'a> {
 }
 
 /// The number of trials that a command may take. If the word is out of form, it is reported.
-pub fn trials_of(matches: &ArgMatches, notes: &mut ErrorStream) -> Option<u32> {
+pub fn trials_of(matches: &ArgMatches, notes: &mut Remarks) -> Option<u32> {
     number_of(notes, matches.get_str(TRIALS), TRIALS, TRIALS_UNSAID)
 }
 
 /// `galcert suggest`. The result is the exit status.
-pub fn suggest_files<'a>(
-    rt: &'a HostRuntime,
-    matches: &ArgMatches<'a>,
-    notes: &mut ErrorStream,
-) -> u8 {
+pub fn suggest_files<'a>(rt: &'a HostRuntime, matches: &ArgMatches<'a>, notes: &mut Remarks) -> u8 {
     let Some(trials) = trials_of(matches, notes) else {
         return ExitStatus::Usage.code();
     };
@@ -268,7 +260,7 @@ fn suggest(
     rom: &mut InputFile,
     annot: &mut InputFile,
     out: &mut Answer,
-    notes: &mut ErrorStream,
+    notes: &mut Remarks,
 ) -> u8 {
     let progress = &mut searching(rt);
     match names {

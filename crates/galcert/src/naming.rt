@@ -1,7 +1,7 @@
 // Names for addresses: the options --symbols and --listing, and what standard error says by them.
 
 use crate::devices::optional;
-use crate::streams::ErrorStream;
+use crate::streams::Remarks;
 use clap::ArgMatches;
 use command_parts::ExitStatus;
 use command_reports::{UsedDevice, end};
@@ -26,7 +26,7 @@ pub fn has_reports(matches: &ArgMatches) -> bool {
 pub fn names<'m>(
     rt: &'m HostRuntime,
     matches: &ArgMatches<'m>,
-    notes: &mut ErrorStream,
+    notes: &mut Remarks,
     is_wanted: bool,
 ) -> Result<Option<ProgramNames<'m>>, u8> {
     if !is_wanted {
@@ -39,7 +39,7 @@ pub fn names<'m>(
 pub fn read<'m>(
     rt: &'m HostRuntime,
     matches: &ArgMatches<'m>,
-    notes: &mut ErrorStream,
+    notes: &mut Remarks,
 ) -> Result<ProgramNames<'m>, u8> {
     let files = NameFiles {
         symbols: matches.get_str(SYMBOLS),
@@ -52,7 +52,7 @@ pub fn read<'m>(
 pub fn read_files<'m>(
     rt: &'m HostRuntime,
     files: NameFiles<'m>,
-    notes: &mut ErrorStream,
+    notes: &mut Remarks,
 ) -> Result<ProgramNames<'m>, u8> {
     let mut symbols = optional(rt, files.symbols);
     let mut listing = optional(rt, files.listing);
@@ -76,7 +76,7 @@ pub fn tell_refused<W: Sink>(
     names: Option<&ProgramNames>,
     status: u8,
     out: &Watched<W>,
-    notes: &mut ErrorStream,
+    notes: &mut Remarks,
 ) {
     if status == ExitStatus::Refused.code() {
         if let Some(names) = names {

@@ -2,7 +2,7 @@
 
 use crate::devices::{InputFile, Out, input, output_to};
 use crate::naming::{has_names, names, symbols_of, tell_refused};
-use crate::streams::{ErrorStream, answer};
+use crate::streams::{Remarks, answer};
 use clap::ArgMatches;
 use command_parts::ExitStatus;
 use command_reports::{
@@ -40,7 +40,7 @@ struct RunRequest<'a> {
 }
 
 /// `galcert run`. The result is the exit status.
-pub fn run_files<'a>(rt: &'a HostRuntime, matches: &ArgMatches<'a>, notes: &mut ErrorStream) -> u8 {
+pub fn run_files<'a>(rt: &'a HostRuntime, matches: &ArgMatches<'a>, notes: &mut Remarks) -> u8 {
     let asked = match asked_of(matches, notes) {
         Some(asked) => asked,
         None => return ExitStatus::Usage.code(),
@@ -87,7 +87,7 @@ fn watch_files<'a>(
     matches: &ArgMatches<'a>,
     asked: RunRequest<'a>,
     names: Option<&ProgramNames>,
-    notes: &mut ErrorStream,
+    notes: &mut Remarks,
 ) -> u8 {
     let mut rom = input(rt, matches, "ROM");
     let mut cert = input(rt, matches, "CERT");
@@ -138,7 +138,7 @@ fn watch_files<'a>(
 }
 
 /// What is asked for. If a word is out of form, it is reported.
-fn asked_of<'a>(matches: &ArgMatches<'a>, notes: &mut ErrorStream) -> Option<RunRequest<'a>> {
+fn asked_of<'a>(matches: &ArgMatches<'a>, notes: &mut Remarks) -> Option<RunRequest<'a>> {
     let Some(steps) = steps_of(word(matches, "STEPS")) else {
         report(notes, "bad steps");
         let steps = word(matches, "STEPS").escape_debug();
@@ -209,7 +209,7 @@ pub fn hint_refused(
     status: u8,
     rom: &InputFile,
     cert: &InputFile,
-    notes: &mut ErrorStream,
+    notes: &mut Remarks,
 ) {
     if status == ExitStatus::Refused.code() {
         hint_rom(rt, rt.alloc(), rom, notes);

@@ -10,13 +10,13 @@ use std::io::{IsTerminal, Stderr};
 use texts::Sink;
 
 /// Standard error; in memory as long as a document is to say the same.
-pub type ErrorStream = Printed<ColoredLines<WriterSink<Stderr>>>;
+pub type Remarks = Printed<ColoredLines<WriterSink<Stderr>>>;
 
 /// Standard output or a file; in memory where a document is made of it.
 pub type Answer<'a> = Printed<Out<'a>>;
 
 /// Standard error of a command.
-pub fn notes_of(rt: &HostRuntime, matches: &ArgMatches) -> ErrorStream {
+pub fn notes_of(rt: &HostRuntime, matches: &ArgMatches) -> Remarks {
     let stderr = rt.stderr();
     let colored = is_colored(rt, matches.get_str(COLOR), stderr.is_terminal());
     let lines = ColoredLines::new(WriterSink::new(stderr), colored);
@@ -27,7 +27,7 @@ pub fn notes_of(rt: &HostRuntime, matches: &ArgMatches) -> ErrorStream {
 }
 
 /// Standard error without color.
-pub fn plain_notes(rt: &HostRuntime) -> ErrorStream {
+pub fn plain_notes(rt: &HostRuntime) -> Remarks {
     Printed::at_once(ColoredLines::new(WriterSink::new(rt.stderr()), false))
 }
 

@@ -3,7 +3,7 @@
 use crate::devices::{Out, input, stdout};
 use crate::naming::{has_names, names, symbols_of, tell_refused};
 use crate::running::hint_refused;
-use crate::streams::{Answer, ErrorStream, answer};
+use crate::streams::{Answer, Remarks, answer};
 use clap::ArgMatches;
 use command_parts::ExitStatus;
 use command_reports::{Limits, UsedDevice, clash_of, end, report_clash};
@@ -14,11 +14,7 @@ use json_documents::{Command, conclude};
 use watched_sinks::Watched;
 
 /// `galcert verify`. The result is the exit status.
-pub fn verify_files<'a>(
-    rt: &'a HostRuntime,
-    matches: &ArgMatches<'a>,
-    notes: &mut ErrorStream,
-) -> u8 {
+pub fn verify_files<'a>(rt: &'a HostRuntime, matches: &ArgMatches<'a>, notes: &mut Remarks) -> u8 {
     let Some(limits) = Limits::of(matches, notes) else {
         return ExitStatus::Usage.code();
     };
@@ -68,11 +64,7 @@ fn wanted_output<'a>(rt: &'a HostRuntime, matches: &ArgMatches) -> Out<'a> {
 }
 
 /// `galcert migrate`. The result is the exit status.
-pub fn migrate_file<'a>(
-    rt: &'a HostRuntime,
-    matches: &ArgMatches<'a>,
-    notes: &mut ErrorStream,
-) -> u8 {
+pub fn migrate_file<'a>(rt: &'a HostRuntime, matches: &ArgMatches<'a>, notes: &mut Remarks) -> u8 {
     let mut cert = input(rt, matches, "CERT");
     let mut out = stdout(rt);
     let status = migrate_on(rt.alloc(), &mut cert, &mut out);

@@ -3,7 +3,7 @@
 use crate::devices::input;
 use crate::naming::read;
 use crate::running::hint_refused;
-use crate::streams::{ErrorStream, answer};
+use crate::streams::{Remarks, answer};
 use clap::ArgMatches;
 use command_reports::{Reporter, UsedDevice, clash_of, end, is_closed_pipe, report_clash};
 use command_streams::MeteredSink;
@@ -22,29 +22,17 @@ enum Shows {
 }
 
 /// `galcert list`. The result is the exit status.
-pub fn list_files<'a>(
-    rt: &'a HostRuntime,
-    matches: &ArgMatches<'a>,
-    notes: &mut ErrorStream,
-) -> u8 {
+pub fn list_files<'a>(rt: &'a HostRuntime, matches: &ArgMatches<'a>, notes: &mut Remarks) -> u8 {
     view_files(rt, matches, Shows::List, notes)
 }
 
 /// `galcert longest`. The result is the exit status.
-pub fn longest_files<'a>(
-    rt: &'a HostRuntime,
-    matches: &ArgMatches<'a>,
-    notes: &mut ErrorStream,
-) -> u8 {
+pub fn longest_files<'a>(rt: &'a HostRuntime, matches: &ArgMatches<'a>, notes: &mut Remarks) -> u8 {
     view_files(rt, matches, Shows::Longest, notes)
 }
 
 /// `galcert report`. The result is the exit status.
-pub fn report_files<'a>(
-    rt: &'a HostRuntime,
-    matches: &ArgMatches<'a>,
-    notes: &mut ErrorStream,
-) -> u8 {
+pub fn report_files<'a>(rt: &'a HostRuntime, matches: &ArgMatches<'a>, notes: &mut Remarks) -> u8 {
     view_files(rt, matches, Shows::Report, notes)
 }
 
@@ -60,7 +48,7 @@ fn view_files<'a>(
     rt: &'a HostRuntime,
     matches: &ArgMatches<'a>,
     shows: Shows,
-    notes: &mut ErrorStream,
+    notes: &mut Remarks,
 ) -> u8 {
     if let Some(clash) = clash_of(rt, matches, &["ROM", "CERT", SYMBOLS, LISTING], None) {
         return report_clash(notes, &clash);
