@@ -19,4 +19,4 @@ pub use joining::{joined, widest};
 pub use noted::Noted;
 pub use program_point::{MAIN, NMI, ProgramPoint, sub_of};
 pub use task::Task;
-pub use ways::{JudgedRow, judged_row};
+pub use ways::{JudgedRow, judged_row, told_at};

@@ -5,6 +5,7 @@ use crate::joining::{grown, joined, widest};
 use abs_state::AbsState;
 use abs_step::Reason;
 use annotations::FactNote;
+use flag_letters::FlagParts;
 
 /// After how many joins that changed a row its bounds are widened.
 const JOINS: u16 = 8;
@@ -22,6 +23,8 @@ pub struct Noted {
     pub reason: Option<Reason>,
     /// The most bytes of slots on the stack at the row and its successors, 0 to 128; the return address is not counted.
     pub bytes: u16,
+    /// What is known of the flags at the row; nothing before version 3.
+    pub parts: FlagParts,
     joins: u16,
 }
 
@@ -35,22 +38,25 @@ impl Noted {
             exit: None,
             reason: None,
             bytes: 0,
+            parts: FlagParts::empty(),
             joins: 0,
         }
     }
 
-    /// A row with this state, exit, reason and number of bytes, as another analysis found it.
+    /// A row with this state, exit, reason, number of bytes and flag parts, as another analysis found it.
     pub fn of(
         state: AbsState,
         exit: Option<AbsState>,
         reason: Option<Reason>,
         bytes: u16,
+        parts: FlagParts,
     ) -> Noted {
         Noted {
             state,
             exit,
             reason,
             bytes,
+            parts,
             joins: 0,
         }
     }

@@ -6,6 +6,7 @@ use crate::task::Task;
 use abs_draft::DataWrite;
 use abs_state::{AbsState, Mode};
 use abs_step::{Next, Reason, Saved};
+use cert_lines::Version;
 use check_rules::{
     all_keep, all_miss_region, all_miss_rom, all_miss_unmapped, find_armed, lost_at, none_enables,
     sets_sp, sets_top,
@@ -88,10 +89,21 @@ fn instruction_reason(
     if timed && matches!(instr, Instr::Halt) {
         return Some(Reason::HaltInNmi);
     }
-    if sets_sp(instr) && !sets_top(place.proc == MAIN, task.said().region(), instr) {
+    let is_top = sets_top(place.proc == MAIN, task.said().region(), instr);
+    if sets_sp(instr) && !is_top && !restarts(task, place, timed, instr) {
         return Some(Reason::SpWrite);
     }
     None
+}
+
+/// Whether an instruction is a restart: in version 3, LD SP,nn with the region's top in a called procedure without a
+/// time (docs/CHECKER.md, "Restarts").
+pub(crate) fn restarts(task: &Task, place: ProgramPoint, timed: bool, instr: &Instr) -> bool {
+    let is_sub = place.proc != MAIN && place.proc != NMI;
+    match task.version() {
+        Version::One | Version::Two => false,
+        Version::Three => is_sub && !timed && sets_top(true, task.said().region(), instr),
+    }
 }
 
 /// Reasons 21 and 22.

@@ -7,6 +7,7 @@ use abs_state::{AbsState, KeptCell};
 use address_map::{Map, Rom};
 use annotations::{Annotations, SplitNote};
 use cert_form::CELL_LIMIT;
+use cert_lines::Version;
 use std::marker::Model;
 
 /// A ROM, its map and its annotations.
@@ -16,6 +17,7 @@ pub struct Task<'a> {
     map: &'a Map,
     said: &'a Annotations,
     cells: &'a [KeptCell],
+    version: Version,
 }
 
 impl<'a> Model for Task<'a> {
@@ -30,7 +32,8 @@ impl<'a> Model for Task<'a> {
 }
 
 impl<'a> Task<'a> {
-    /// The task for a ROM, a map for a ROM of this length, and annotations; None if these have more than 256 cells.
+    /// The task for a ROM, a map for a ROM of this length, and annotations, by the rules of version 2; None if the
+    /// annotations have more than 256 cells.
     pub fn of(rom: &'a Rom<'a>, map: &'a Map, said: &'a Annotations) -> Option<Task<'a>>
         requires { map.now.rom_len ≡ length rom.now }
     {
@@ -43,7 +46,20 @@ impl<'a> Task<'a> {
             map,
             said,
             cells,
+            version: Version::Two,
         })
+    }
+
+    /// The same task by the rules of another version.
+    pub fn with_version(self, version: Version) -> Task<'a>
+        ensures { result ≡ self }
+    {
+        Task { version, ..self }
+    }
+
+    /// By the rules of which version rows are judged. Those of versions 1 and 2 are the same.
+    pub fn version(&self) -> Version {
+        self.version
     }
 
     pub fn rom(&self) -> &'a Rom<'a>

@@ -1,12 +1,23 @@
 // The successors of a row, and why it leads nowhere.
 
+ghost use Rattle.std.specs.Prelude.{◌≡◌, length};
+ghost use Rattle.z80_decode.specs.Spelling.{spelling};
+
 use crate::program_point::{MAIN, ProgramPoint};
-use crate::reasons::{later_reason, place_reason};
+use crate::reasons::{later_reason, place_reason, restarts};
 use crate::task::Task;
 use abs_draft::DataWrite;
 use abs_state::AbsState;
 use abs_step::{Nexts, Reason, RowStep, row_step};
 use board_fetch::fetch;
+use cert_lines::Version;
+use check_steps::StepTold;
+use flag_conditions::conditions;
+use flag_letters::FlagParts;
+use flag_parts::known_carry;
+use intervals::ByteRange;
+use linear_effects::linear_effect;
+use refined_step::{RefinedStep, refined_step};
 use smallvec::SmallVec;
 use std::alloc::Global;
 use z80_decode::Instr;
@@ -19,15 +30,21 @@ pub struct JudgedRow {
     /// The successors; None where the step itself refuses the row, for one of the reasons 4, 5, 9, 10 and 12.
     pub nexts: Option<Nexts>,
     pub reason: Option<Reason>,
+    /// The range of the byte in work at the end of the instruction; full where it has a test.
+    pub operand: ByteRange,
+    /// Whether the row is a restart: what it leads to is in main, without words on the stack.
+    pub restarts: bool,
 }
 
-/// Judges a state at a place. `timed` says whether the place's procedure is timed.
+/// Judges a state with flag parts at a place, by the rules of the task's version; before version 3 the parts say nothing.
+/// `timed` says whether the place's procedure is timed.
 pub fn judged_row(
     alloc: Global,
     task: &Task,
     place: ProgramPoint,
     timed: bool,
     state: &AbsState,
+    parts: &FlagParts,
 ) -> JudgedRow {
     let (instr, len) = match fetch(task.rom(), place.address) {
         Ok(found) => found,
@@ -36,19 +53,16 @@ pub fn judged_row(
                 writes: SmallVec::new(alloc),
                 nexts: None,
                 reason: Some(Reason::Decode(fault)),
+                operand: ByteRange::full(),
+                restarts: false,
             };
         }
     };
-    let RowStep { writes, answer, .. } = row_step(
-        alloc,
-        &task.ground(),
-        place.address,
-        place.proc == MAIN,
-        task.is_inline(place.address),
-        &instr,
-        len,
-        state,
-    );
+    let RowStep {
+        writes,
+        answer,
+        operand,
+    } = step_at(alloc, task, place, &instr, len, state, parts);
     match answer {
         Ok(nexts) => {
             let reason = reason_of(task, place, timed, &instr, state, writes.as_slice(), &nexts);
@@ -56,6 +70,8 @@ pub fn judged_row(
                 writes,
                 nexts: Some(nexts),
                 reason,
+                operand,
+                restarts: restarts(task, place, timed, &instr),
             }
         }
         Err(refusal) => {
@@ -68,8 +84,83 @@ pub fn judged_row(
                 writes,
                 nexts: None,
                 reason: Some(reason),
+                operand,
+                restarts: false,
             }
         }
+    }
+}
+
+/// The step of a row by the rules of the task's version.
+fn step_at(
+    alloc: Global,
+    task: &Task,
+    place: ProgramPoint,
+    instr: &Instr,
+    len: u8,
+    state: &AbsState,
+    parts: &FlagParts,
+) -> RowStep
+    requires len { len ≡ length (spelling instr.now) }
+{
+    let ground = task.ground();
+    let main = place.proc == MAIN;
+    let inline = task.is_inline(place.address);
+    match task.version() {
+        Version::One | Version::Two => row_step(
+            alloc,
+            &ground,
+            place.address,
+            main,
+            inline,
+            instr,
+            len,
+            state,
+        ),
+        Version::Three => {
+            let RefinedStep {
+                writes,
+                answer,
+                operand,
+                ..
+            } = refined_step(
+                alloc,
+                &ground,
+                place.address,
+                main,
+                inline,
+                instr,
+                len,
+                state,
+                parts,
+            );
+            RowStep {
+                writes,
+                answer,
+                operand,
+            }
+        }
+    }
+}
+
+/// What the refined step of a row says beside its successors; nothing before version 3. `operand` is the range of the
+/// byte in work at the end of the row's instruction.
+pub fn told_at(
+    task: &Task,
+    address: u16,
+    operand: ByteRange,
+    state: &AbsState,
+    parts: &FlagParts,
+) -> StepTold {
+    match (task.version(), fetch(task.rom(), address)) {
+        (Version::Three, Ok((instr, _))) => {
+            let carry = known_carry(parts, state);
+            StepTold {
+                linear: linear_effect(&instr, &state.pairs, operand, carry),
+                conditions: conditions(&instr, operand, parts, carry),
+            }
+        }
+        _ => StepTold::none(),
     }
 }
 
@@ -97,7 +188,7 @@ pub(crate) fn ways_on(
     timed: bool,
     state: &AbsState,
 ) -> Result<Nexts, Reason> {
-    let judged = judged_row(alloc, task, place, timed, state);
+    let judged = judged_row(alloc, task, place, timed, state, &FlagParts::empty());
     match (judged.reason, judged.nexts) {
         (None, Some(nexts)) => Ok(nexts),
         (Some(reason), _) => Err(reason),

@@ -281,6 +281,7 @@ fn refined(step: RefinedStep) -> SubjectStep
         answer,
         conditions,
         linear,
+        ..
     } = step;
     SubjectStep {
         writes,

@@ -158,7 +158,7 @@ fn add_row(
     row: u32,
 ) -> Result<(), FlowFault> {
     let alloc = with.alloc;
-    let Some(state) = certificate.state(row) else {
+    let (Some(state), Some(told)) = (certificate.state(row), certificate.row(row)) else {
         return Ok(());
     };
     let said = said_by(alloc, certificate)?;
@@ -175,7 +175,8 @@ fn add_row(
         Some(id) => certificate.time(id).unwrap_or(None).is_some(),
         None => false,
     };
-    let situation = Situation::of(alloc, &task, place, timed, state);
+    let task = task.with_version(certificate.version());
+    let situation = Situation::of(alloc, &task, place, timed, state, told.parts);
     match refused.reason {
         Reason::NotCovered => add_not_covered(text, with, certificate, &situation, row),
         Reason::Rank => add_rank(text, with, certificate, &situation, row),

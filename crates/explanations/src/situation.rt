@@ -3,6 +3,7 @@
 use crate::explored::Explored;
 use abs_state::AbsState;
 use analysis::{FlowFault, JudgedRow, ProgramPoint, Task, judged_row};
+use flag_letters::FlagParts;
 use inferred_rows::ContextPoint;
 use intervals::RegPair;
 use loop_bounds::{Effect, Linear, becomes, vanishes};
@@ -19,15 +20,16 @@ pub struct Situation<'s> {
 }
 
 impl<'s> Situation<'s> {
-    /// A state at a place. `timed` says whether the procedure is timed.
+    /// A state with flag parts at a place. `timed` says whether the procedure is timed.
     pub fn of(
         alloc: Global,
         task: &'s Task<'s>,
         place: ProgramPoint,
         timed: bool,
         state: AbsState,
+        parts: &FlagParts,
     ) -> Situation<'s> {
-        let judged = judged_row(alloc, task, place, timed, &state);
+        let judged = judged_row(alloc, task, place, timed, &state, parts);
         Situation {
             task,
             place,
@@ -40,9 +42,16 @@ impl<'s> Situation<'s> {
     /// A row of an exploring analysis; None if there is no such row.
     pub fn at(alloc: Global, explored: &Explored<'s>, number: u64) -> Option<Situation<'s>> {
         let point = ContextPoint::of(number);
-        let state = explored.state(number)?;
+        let row = explored.list.row(number)?;
         let timed = explored.list.is_timed(point.proc);
-        Some(Situation::of(alloc, explored.task, point.plain(), timed, state))
+        Some(Situation::of(
+            alloc,
+            explored.task,
+            point.plain(),
+            timed,
+            row.state.copied(),
+            &row.parts,
+        ))
     }
 }
 

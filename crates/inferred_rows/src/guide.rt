@@ -3,6 +3,7 @@
 use analysis::FlowFault;
 use annotations::{RangeNote, TurnNote};
 use cert_fields::Facts;
+use flag_letters::FlagParts;
 use loop_bounds::Linear;
 use std::alloc::Global;
 use std::collections::BTreeMap;
@@ -16,11 +17,13 @@ pub struct Manner {
     pub relates: bool,
 }
 
-/// What guides an inferring analysis: the facts of rows, and which states are distinguished.
+/// What guides an inferring analysis: the facts and flag parts of rows, and which states are distinguished.
 #[derive(Drop)]
 pub struct Guide {
     /// The facts of rows, by the numbers of their places.
     pub facts: BTreeMap<u64, Facts>,
+    /// The flag parts of rows, by the numbers of their places.
+    pub parts: BTreeMap<u64, FlagParts>,
     /// The addresses of calls whose states are distinguished in the callee, rising.
     pub calls: Vec<u16>,
     /// Loops whose turns are distinguished, by rising head.
@@ -34,6 +37,7 @@ impl Guide {
     pub fn none(alloc: Global) -> Guide {
         Guide {
             facts: BTreeMap::new(alloc),
+            parts: BTreeMap::new(alloc),
             calls: Vec::new(alloc),
             turns: Vec::new(alloc),
             ranges: Vec::new(alloc),
@@ -50,6 +54,10 @@ impl Guide {
         for (row, own) in self.facts.iter() {
             facts.insert(*row, own.copied())?;
         }
+        let mut parts = BTreeMap::new(alloc);
+        for (row, own) in self.parts.iter() {
+            parts.insert(*row, own.copied())?;
+        }
         let mut calls = Vec::new(alloc);
         for call in self.calls.as_slice() {
             calls.push(*call)?;
@@ -64,6 +72,7 @@ impl Guide {
         }
         Ok(Guide {
             facts,
+            parts,
             calls,
             turns,
             ranges,
@@ -75,6 +84,14 @@ impl Guide {
         match self.facts.get(&number) {
             Some(facts) => facts.as_slice(),
             None => &[],
+        }
+    }
+
+    /// The flag parts of the row at the place with this number.
+    pub fn parts_of(&self, number: u64) -> FlagParts {
+        match self.parts.get(&number) {
+            Some(parts) => parts.copied(),
+            None => FlagParts::empty(),
         }
     }
 

@@ -8,6 +8,8 @@ use abs_step::Reason;
 use affine::Space;
 use analysis::{FlowFault, joined, names_slots_below, widest};
 use annotations::{FactNote, RangeNote};
+use derived_parts::common_parts;
+use flag_letters::FlagParts;
 use loop_bounds::{Linear, Ranges, Term, Variable};
 use std::alloc::Global;
 use std::mem::swap;
@@ -18,6 +20,27 @@ const TIGHTENED: u16 = 300;
 /// After how many changes of a row its ranges become full.
 const CHANGES: u16 = 2_000;
 
+/// The number of no row.
+pub const NO_ROW: u64 = u64::MAX;
+
+/// What a state that comes to a row says of the flags there.
+#[derive(Drop)]
+pub struct ArrivingParts {
+    pub parts: FlagParts,
+    /// The row from which the state comes; `NO_ROW` at an entry.
+    pub from: u64,
+}
+
+impl ArrivingParts {
+    /// Nothing is known of the flags, wherever the state comes from.
+    pub fn none() -> ArrivingParts {
+        ArrivingParts {
+            parts: FlagParts::empty(),
+            from: NO_ROW,
+        }
+    }
+}
+
 /// A row as an inferring analysis knows it.
 #[derive(Drop)]
 pub struct InferredRow {
@@ -26,6 +49,10 @@ pub struct InferredRow {
     pub space: Space,
     /// The equalities of two or three variables that hold there. They name only slots that the row has.
     pub relations: Vec<Linear>,
+    /// What is known of the flags there; nothing before version 3.
+    pub parts: FlagParts,
+    /// The row from which all states came so far that told of the flags; `NO_ROW` if there are several, or none.
+    teller: u64,
     /// The lowest reason that is against the row.
     pub reason: Option<Reason>,
     /// Whether a state to which the row leads is in no part of a split, or in no row.
@@ -73,6 +100,7 @@ impl InferredRow {
         alloc: Global,
         state: &AbsState,
         space: &Space,
+        told: &ArrivingParts,
         pointer: Option<Variable>,
         by: &Tightening,
     ) -> Result<InferredRow, FlowFault> {
@@ -80,6 +108,8 @@ impl InferredRow {
             state: state.copied(),
             space: *space,
             relations: Vec::new(alloc),
+            parts: told.parts.copied(),
+            teller: told.from,
             reason: None,
             drops: false,
             bytes: 0,
@@ -104,6 +134,8 @@ impl InferredRow {
             state: self.state.copied(),
             space: self.space,
             relations: Vec::from_slice(alloc, self.relations.as_slice())?,
+            parts: self.parts.copied(),
+            teller: self.teller,
             reason: self.reason,
             drops: self.drops,
             bytes: self.bytes,
@@ -182,18 +214,55 @@ impl InferredRow {
     }
 
     /// Whether a state that comes to the row leaves it as it is.
-    pub fn has_all(&self, state: &AbsState, space: &Space, by: &Tightening) -> bool {
-        if !self.has(state) {
+    pub fn has_all(
+        &self,
+        state: &AbsState,
+        space: &Space,
+        told: &ArrivingParts,
+        by: &Tightening,
+    ) -> bool {
+        if !self.has(state) || self.parts_after(told, by) != self.parts {
             return false;
         }
         let mut both = self.space;
         !(by.relates && both.join(space))
     }
 
-    /// Whether another row has the same state and relations.
+    /// The row's parts once a state came that tells of the flags: what it tells, if the row it comes from told all so far;
+    /// else the parts that both have. An analysis without relations has the parts that its guide gives.
+    fn parts_after(&self, told: &ArrivingParts, by: &Tightening) -> FlagParts {
+        if !by.relates {
+            self.parts.copied()
+        } else if self.is_told_by(told.from) {
+            told.parts.copied()
+        } else {
+            common_parts(&self.parts, &told.parts)
+        }
+    }
+
+    /// Whether a row alone told of the flags so far.
+    fn is_told_by(&self, from: u64) -> bool {
+        self.teller == from && from != NO_ROW
+    }
+
+    /// Takes what a state that comes to the row tells of the flags. The result is whether the row's parts changed.
+    fn hear(&mut self, told: &ArrivingParts, by: &Tightening) -> bool {
+        let parts = self.parts_after(told, by);
+        if !self.is_told_by(told.from) {
+            self.teller = NO_ROW;
+        }
+        if parts == self.parts {
+            return false;
+        }
+        self.parts = parts;
+        true
+    }
+
+    /// Whether another row has the same state, relations and flag parts.
     pub fn is_like(&self, other: &InferredRow) -> bool {
         self.has(&other.state)
             && other.has(&self.state)
+            && self.parts == other.parts
             && are_same(self.relations.as_slice(), other.relations.as_slice())
     }
 
@@ -202,13 +271,19 @@ impl InferredRow {
         &mut self,
         state: &AbsState,
         space: &Space,
+        told: &ArrivingParts,
         by: &Tightening,
     ) -> Result<JoinOutcome, FlowFault> {
         if !self.has(state) {
-            return self.take_new(state, space, by);
+            return self.take_new(state, space, told, by);
         }
+        let heard = self.hear(told, by);
         if !(by.relates && self.space.join(space)) {
-            return Ok(JoinOutcome::Same);
+            return Ok(if heard {
+                JoinOutcome::Changed
+            } else {
+                JoinOutcome::Same
+            });
         }
         self.relate()?;
         let mut state = self.state.copied();
@@ -225,22 +300,28 @@ impl InferredRow {
         &mut self,
         state: &AbsState,
         space: &Space,
+        told: &ArrivingParts,
         by: &Tightening,
     ) -> Result<JoinOutcome, FlowFault> {
         let Some(mut both) = join_of(&self.state, state, by.cells) else {
             return Ok(JoinOutcome::Unjoined);
         };
+        let heard = self.hear(told, by);
         let grew = by.relates && self.space.join(space);
         if grew {
             self.relate()?;
         }
         if !grew && self.state.covers(&both) {
-            return Ok(JoinOutcome::Same);
+            return Ok(if heard {
+                JoinOutcome::Changed
+            } else {
+                JoinOutcome::Same
+            });
         }
-        Ok(self.grow(&mut both, grew, by))
+        Ok(self.grow(&mut both, grew || heard, by))
     }
 
-    /// Goes on with a join, which is lost. `grew` says whether the row's relations changed.
+    /// Goes on with a join, which is lost. `grew` says whether the row's relations or flag parts changed.
     fn grow(&mut self, both: &mut AbsState, grew: bool, by: &Tightening) -> JoinOutcome {
         self.change(both, by);
         if self.state.covers(both) && both.covers(&self.state) {
@@ -260,6 +341,7 @@ impl InferredRow {
         &mut self,
         state: &AbsState,
         space: &Space,
+        told: &ArrivingParts,
         by: &Tightening,
     ) -> Result<JoinOutcome, FlowFault> {
         if !self.has(state) {
@@ -268,6 +350,7 @@ impl InferredRow {
             };
             self.state = both;
         }
+        let _heard = self.hear(told, by);
         if by.relates && self.space.join(space) {
             self.relate()?;
         }

@@ -13,6 +13,8 @@ mod thresholds;
 
 pub use context_point::{CLASSES, CONTEXT_LIMIT, ContextPoint};
 pub use guide::{Guide, Manner};
-pub use inferred::{InferredRow, JoinOutcome, Tightening, are_joined, speaks_of};
+pub use inferred::{
+    ArrivingParts, InferredRow, JoinOutcome, NO_ROW, Tightening, are_joined, speaks_of,
+};
 pub use operands::pointer_of;
 pub use thresholds::Thresholds;

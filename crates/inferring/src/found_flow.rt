@@ -74,5 +74,11 @@ fn noted_of(row: &InferredRow, exit: Option<&AbsState>) -> Noted {
         Some(exit) => Some(exit.copied()),
         None => None,
     };
-    Noted::of(row.state.copied(), exit, row.reason, row.bytes)
+    Noted::of(
+        row.state.copied(),
+        exit,
+        row.reason,
+        row.bytes,
+        row.parts.copied(),
+    )
 }

@@ -2,7 +2,7 @@
 
 use analysis::FlowFault;
 use inferred_rows::ContextPoint;
-use row_worklist::{Findings, Setting, Worklist, bytes_of, space_after, state_at_exit};
+use row_worklist::{Findings, Setting, Worklist, bytes_of, parts_told, space_after, state_at_exit};
 use std::alloc::Global;
 use std::collections::BTreeSet;
 use std::rc::Rc;
@@ -135,7 +135,7 @@ fn lowered(
             continue;
         }
         let point = ContextPoint::of(*number);
-        let judged = list.judged_at(alloc, setting.task, point.plain(), &row.state)?;
+        let judged = list.judged_row_at(alloc, setting.task, *number, row.as_ref())?;
         fresh.note_calls(alloc, setting, point, judged.as_ref())?;
         let sent = list.sent_by(alloc, setting, point, judged.as_ref())?;
         for arriving in sent.states.as_slice() {
@@ -143,7 +143,8 @@ fn lowered(
             sendings.push((to, *number))?;
             if is_among(scope.places, to) {
                 let space = space_after(setting.manner, &row.space, arriving);
-                let _taken = fresh.take(alloc, setting, arriving, &space, false)?;
+                let told = parts_told(setting, *number, row.as_ref(), judged.as_ref(), arriving);
+                let _taken = fresh.take(alloc, setting, arriving, &space, &told, false)?;
             }
         }
     }
@@ -212,8 +213,7 @@ fn judge_row(
     let Some(row) = list.rows().get(&number) else {
         return Ok(());
     };
-    let point = ContextPoint::of(number);
-    let judged = list.judged_at(alloc, setting.task, point.plain(), &row.state)?;
+    let judged = list.judged_row_at(alloc, setting.task, number, row.as_ref())?;
     let found = Findings {
         reason: judged.reason,
         bytes: bytes_of(setting.manner, row.as_ref(), judged.as_ref()),
@@ -244,7 +244,7 @@ fn note_drops(
     };
     let (reason, bytes) = (row.reason, row.bytes);
     let point = ContextPoint::of(number);
-    let judged = list.judged_at(alloc, setting.task, point.plain(), &row.state)?;
+    let judged = list.judged_row_at(alloc, setting.task, number, row.as_ref())?;
     let sent = list.sent_by(alloc, setting, point, judged.as_ref())?;
     let mut drops = !sent.lacking.is_empty();
     for arriving in sent.states.as_slice() {

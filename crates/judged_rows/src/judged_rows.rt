@@ -2,6 +2,8 @@
 
 use abs_state::{AbsState, FlagFact, Mode};
 use analysis::{FlowFault, JudgedRow, MAIN, NMI, ProgramPoint, Task, judged_row};
+use cert_lines::Version;
+use flag_letters::{FlagParts, Letter};
 use indexmap::IndexMap;
 use intervals::{ByteRange, Pair};
 use std::alloc::Global;
@@ -50,7 +52,8 @@ impl JudgedRows {
         })
     }
 
-    /// Judges a state at a place, if it was not judged before. `timed` says whether the place's procedure is timed.
+    /// Judges a state with flag parts at a place, if it was not judged before. `timed` says whether the place's procedure is
+    /// timed.
     ///
     /// # Errors
     ///
@@ -62,17 +65,19 @@ impl JudgedRows {
         place: ProgramPoint,
         timed: bool,
         state: &AbsState,
+        parts: &FlagParts,
     ) -> Result<Rc<JudgedRow>, FlowFault> {
         let mut digest = self.whole;
         digest.add_place(place, timed, task.is_inline(place.address));
         digest.add_state(state);
+        digest.add_parts(parts);
         match self.found(digest.value) {
             Some(judged) => Ok(judged),
-            None => self.judged_anew(alloc, task, place, timed, state, digest),
+            None => self.judged_anew(alloc, task, place, timed, state, parts, digest),
         }
     }
 
-    /// Judges a state at a place, and keeps the judged row. A function of its own, since room for a judged row is cleared
+    /// Judges a row, and keeps the judged row. A function of its own, since room for a judged row is cleared
     /// when it begins.
     #[inline(never)]
     fn judged_anew(
@@ -82,9 +87,10 @@ impl JudgedRows {
         place: ProgramPoint,
         timed: bool,
         state: &AbsState,
+        parts: &FlagParts,
         digest: Digest,
     ) -> Result<Rc<JudgedRow>, FlowFault> {
-        let judged = Rc::new(alloc, judged_row(alloc, task, place, timed, state))?;
+        let judged = Rc::new(alloc, judged_row(alloc, task, place, timed, state, parts))?;
         self.keep(alloc, digest.value, judged.clone()?)?;
         Ok(judged)
     }
@@ -173,6 +179,28 @@ impl Digest {
         self.add(number);
     }
 
+    fn add_parts(&mut self, parts: &FlagParts) {
+        for part in parts.parts() {
+            let letter = match part.letter {
+                Letter::Zero => 1,
+                Letter::ZeroIfBelow => 2,
+                Letter::CarryIfBelow => 3,
+                Letter::SignIfBelow => 4,
+            };
+            self.add(letter);
+            self.add_number(part.linear.constant());
+            for term in part.linear.terms() {
+                self.add_number(term.coefficient);
+                self.add(u64::from(term.variable.rank()));
+            }
+        }
+    }
+
+    /// Adds a number that may be below 0.
+    fn add_number(&mut self, number: i32) {
+        self.add(u64::from(number.cast_unsigned()));
+    }
+
     fn add_pair(&mut self, pair: &Pair) {
         let word = u64::from(pair.word.low()) << 16 | u64::from(pair.word.high());
         let bytes = number_of_range(pair.high) << 16 | number_of_range(pair.low);
@@ -202,7 +230,8 @@ fn number_of(register: Register8) -> u64 {
     }
 }
 
-/// The digest of what a task says of the whole ROM: its cells, its stack region, and whether there is an NMI routine.
+/// The digest of what a task says of the whole ROM: its cells, its stack region, whether there is an NMI routine, and the
+/// version of its rules.
 fn digest_of_task(task: &Task) -> Digest {
     let mut digest = Digest::empty();
     for cell in task.cells() {
@@ -213,5 +242,6 @@ fn digest_of_task(task: &Task) -> Digest {
     digest.add(u64::from(region.low));
     digest.add(u64::from(region.top));
     digest.add(u64::from(task.has_routine()));
+    digest.add(u64::from(task.version() == Version::Three));
     digest
 }

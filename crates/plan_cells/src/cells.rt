@@ -313,10 +313,9 @@ fn writes_of<P: Progress>(
         return Ok(writes);
     };
     if let Some(row) = explored.list.row(number) {
-        let point = ContextPoint::of(number);
         let judged = explored
             .list
-            .judged_at(search.alloc, &task, point.plain(), &row.state)?;
+            .judged_row_at(search.alloc, &task, number, row)?;
         for write in judged.as_ref().writes.as_slice() {
             writes.push(*write)?;
         }

@@ -181,7 +181,7 @@ fn enables_nmis(alloc: Global, rom: &Rom, base: &Base) -> Result<bool, FlowFault
     let ground = task.ground();
     for (number, row) in explored.list.rows().iter() {
         let place = ContextPoint::of(*number).plain();
-        let judged = judged_row(alloc, &task, place, false, &row.state);
+        let judged = judged_row(alloc, &task, place, false, &row.state, &row.parts);
         for write in judged.writes.as_slice() {
             if write.at.value().is_some() && ground.may_enable(write) {
                 return Ok(true);

@@ -3,7 +3,7 @@ ghost use Rattle.std.specs.Prelude.{◌≡◌, ◌≤◌, [], length, map, optio
 ghost use Rattle.board_fetch.specs.Decoded.{StandsAt};
 ghost use Rattle.z80_decode.specs.Spelling.{spelling};
 ghost use Rattle.z80_decode.specs.declared.kinds.Condition.{Condition as ConditionKind};
-ghost use Rattle.abs_step.specs.Successors.{answer_of, nexts_of, writes_of};
+ghost use Rattle.abs_step.specs.Successors.{answer_of, nexts_of, operand_of, writes_of};
 ghost use Rattle.linear_effects.specs.Effects.{HasSlightTerms};
 ghost use Rattle.refined_step.specs.Conditionals.{tested_condition, NarrowsSoundly};
 ghost use Rattle.refined_step.specs.Kept.{KeepsRefined};
@@ -18,7 +18,7 @@ use abs_step::{DataWrite, Next, Nexts, Reason, RowStep, outcome_next, row_step};
 use flag_conditions::{StepConditions, conditions};
 use flag_letters::FlagParts;
 use flag_parts::known_carry;
-use intervals::WordRange;
+use intervals::{ByteRange, WordRange};
 use linear_effects::{LinearEffect, carried_range, linear_effect};
 use loop_bounds::Variable;
 use smallvec::SmallVec;
@@ -36,6 +36,8 @@ pub struct RefinedStep {
     pub conditions: StepConditions,
     /// The variable that the step makes a linear of the variables before it, if there is one.
     pub linear: Option<LinearEffect>,
+    /// The range of the byte in work at the end of the instruction, as in `RowStep`.
+    pub operand: ByteRange,
 }
 
 impl RefinedStep {
@@ -52,6 +54,7 @@ impl RefinedStep {
             answer: Err(Reason::Decode(fault)),
             conditions: StepConditions::none(),
             linear: None,
+            operand: ByteRange::full(),
         }
     }
 }
@@ -229,6 +232,7 @@ pub fn refined_step(
     ensures linear { result.linear
         ≡ step_effect ground.now address inline instr.now parts.now state.now }
     ensures slight { IfSome result.linear HasSlightTerms }
+    ensures operand { result.operand ≡ operand_of ground.now address inline state.now instr.now }
     ensures ok { IfOk result.answer (λ nexts.
         refined_answer ground.now address main inline instr.now parts.now state.now ≡ Ok nexts.items) }
     ensures err { IfErr result.answer (λ reason.
@@ -254,5 +258,6 @@ pub fn refined_step(
         answer: refined,
         conditions: found,
         linear,
+        operand,
     }
 }

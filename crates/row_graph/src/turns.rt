@@ -107,8 +107,7 @@ fn entering(
     }
     for caller in list.callers_of(alloc, proc)? {
         if let Some(row) = list.row(caller) {
-            let point = ContextPoint::of(caller);
-            let judged = list.judged_at(alloc, task, point.plain(), &row.state)?;
+            let judged = list.judged_row_at(alloc, task, caller, row)?;
             if let Some(nexts) = &judged.as_ref().nexts {
                 for next in nexts.as_slice() {
                     if next.kind == NextKind::Call && next.address == of.head {

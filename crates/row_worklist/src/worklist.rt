@@ -5,12 +5,16 @@ ghost use Rattle.std.specs.Prelude.{◌≡◌, ◌+◌, ◌*◌};
 use abs_state::AbsState;
 use abs_step::{Next, NextKind, Reason};
 use affine::Space;
-use analysis::{FlowFault, JudgedRow, MAIN, NMI, ProgramPoint, Task, facts_at, sub_of};
+use analysis::{FlowFault, JudgedRow, MAIN, NMI, ProgramPoint, Task, facts_at, sub_of, told_at};
 use board_fetch::fetch;
 use cert_form::{PROC_LIMIT, ROW_LIMIT};
+use cert_lines::Version;
+use check_claims::StepSource;
+use derived_parts::parts_after;
+use flag_letters::FlagParts;
 use inferred_rows::{
-    CLASSES, ContextPoint, Guide, InferredRow, JoinOutcome, Manner, Thresholds, Tightening,
-    are_joined, pointer_of,
+    ArrivingParts, CLASSES, ContextPoint, Guide, InferredRow, JoinOutcome, Manner, NO_ROW,
+    Thresholds, Tightening, are_joined, pointer_of,
 };
 use intervals::ByteRange;
 use judged_rows::JudgedRows;
@@ -58,7 +62,10 @@ pub struct RowEdge {
     pub from: u64,
     /// The number of the place that it comes to.
     pub to: u64,
+    /// How each variable comes from those of the row that it leaves; constants have priority.
     pub effect: Effect,
+    /// The same without that priority.
+    pub moved: Effect,
     pub kind: ArrivingKind,
 }
 
@@ -141,12 +148,13 @@ impl Worklist {
     pub fn begin_entries(&mut self, alloc: Global, setting: Setting) -> Result<(), FlowFault> {
         let state = AbsState::of_main();
         let main = entering(ContextPoint::at(MAIN, 0), &state);
-        self.take(alloc, setting, &main, &Space::full(), true)?;
+        let untold = ArrivingParts::none();
+        self.take(alloc, setting, &main, &Space::full(), &untold, true)?;
         if setting.task.has_routine() {
             self.timed.insert(NMI)?;
             let state = setting.task.routine_state();
             let nmi = entering(ContextPoint::at(NMI, NMI_ADDRESS), &state);
-            self.take(alloc, setting, &nmi, &Space::full(), true)?;
+            self.take(alloc, setting, &nmi, &Space::full(), &untold, true)?;
         }
         Ok(())
     }
@@ -223,8 +231,8 @@ impl Worklist {
         Ok(calls)
     }
 
-    /// A state comes to a place. If its row changes, it waits. `widens` says whether a bound that moved often is widened.
-    /// The result is whether some row has the state.
+    /// A state comes to a place, and `told` says what it tells of the flags. If its row changes, it waits. `widens` says
+    /// whether a bound that moved often is widened. The result is whether some row has the state.
     ///
     /// # Errors
     ///
@@ -235,6 +243,7 @@ impl Worklist {
         setting: Setting,
         arriving: &Arriving,
         space: &Space,
+        told: &ArrivingParts,
         widens: bool,
     ) -> Result<bool, FlowFault> {
         for class in 0..CLASSES {
@@ -243,7 +252,7 @@ impl Worklist {
                 ..arriving.to
             }
             .number();
-            match self.add_to_row(alloc, setting, number, arriving, space, widens)? {
+            match self.add_to_row(alloc, setting, number, arriving, space, told, widens)? {
                 Some(JoinOutcome::Same) => return Ok(true),
                 Some(JoinOutcome::Changed) => {
                     self.waiting.insert(number)?;
@@ -251,7 +260,7 @@ impl Worklist {
                 }
                 Some(JoinOutcome::Unjoined) => {}
                 None => {
-                    self.begin_row(alloc, setting, number, arriving, space)?;
+                    self.begin_row(alloc, setting, number, arriving, space, told)?;
                     return Ok(true);
                 }
             }
@@ -267,6 +276,7 @@ impl Worklist {
         number: u64,
         arriving: &Arriving,
         space: &Space,
+        told: &ArrivingParts,
     ) -> Result<(), FlowFault> {
         if self.rows.len() >= ROW_LIMIT {
             return Err(FlowFault::Limit);
@@ -277,7 +287,15 @@ impl Worklist {
             pointer = pointer_of(&instr);
         }
         let by = tightening(setting, number, arriving.to.address, &self.thresholds);
-        let row = InferredRow::first(alloc, arriving.state(), space, pointer, &by)?;
+        let row = if setting.manner.relates {
+            InferredRow::first(alloc, arriving.state(), space, told, pointer, &by)?
+        } else {
+            let given = ArrivingParts {
+                parts: setting.guide.parts_of(number),
+                from: NO_ROW,
+            };
+            InferredRow::first(alloc, arriving.state(), space, &given, pointer, &by)?
+        };
         self.rows.insert(number, Rc::new(alloc, row)?)?;
         self.waiting.insert(number)?;
         Ok(())
@@ -292,6 +310,7 @@ impl Worklist {
         number: u64,
         arriving: &Arriving,
         space: &Space,
+        told: &ArrivingParts,
         widens: bool,
     ) -> Result<Option<JoinOutcome>, FlowFault> {
         let by = tightening(setting, number, arriving.to.address, &self.thresholds);
@@ -300,14 +319,14 @@ impl Worklist {
         };
         let state = arriving.state();
         let is_shared = Rc::strong_count(row) != 1;
-        if is_shared && widens && row.has_all(state, space, &by) {
+        if is_shared && widens && row.has_all(state, space, told, &by) {
             return Ok(Some(JoinOutcome::Same));
         }
         let row = own(alloc, row)?;
         let outcome = if widens {
-            row.take(state, space, &by)?
+            row.take(state, space, told, &by)?
         } else {
-            row.add(state, space, &by)?
+            row.add(state, space, told, &by)?
         };
         Ok(Some(outcome))
     }
@@ -324,7 +343,7 @@ impl Worklist {
         };
         let row = row.clone()?;
         let point = ContextPoint::of(number);
-        let judged = self.judged_at(alloc, setting.task, point.plain(), &row.state)?;
+        let judged = self.judged_row_at(alloc, setting.task, number, row.as_ref())?;
         if self.watched.is_at(point.address) && judged.reason.is_some() {
             return Err(FlowFault::Limit);
         }
@@ -358,14 +377,15 @@ impl Worklist {
         let mut drops = !sent.lacking.is_empty();
         for arriving in sent.states.as_slice() {
             let space = space_after(setting.manner, &row.space, arriving);
-            if !self.take(alloc, setting, arriving, &space, true)? {
+            let told = parts_told(setting, number, row, judged, arriving);
+            if !self.take(alloc, setting, arriving, &space, &told, true)? {
                 drops = true;
             }
         }
         Ok(drops)
     }
 
-    /// Judges a state at a place.
+    /// Judges a state at a place, of which nothing is known of the flags but what the state says.
     ///
     /// # Errors
     ///
@@ -378,7 +398,26 @@ impl Worklist {
         state: &AbsState,
     ) -> Result<Rc<JudgedRow>, FlowFault> {
         let timed = self.is_timed(place.proc);
-        self.judged.judged(alloc, task, place, timed, state)
+        let untold = FlagParts::empty();
+        self.judged.judged(alloc, task, place, timed, state, &untold)
+    }
+
+    /// Judges a row, with its flag parts.
+    ///
+    /// # Errors
+    ///
+    /// `NoMemory` where memory was refused.
+    pub fn judged_row_at(
+        &self,
+        alloc: Global,
+        task: &Task,
+        number: u64,
+        row: &InferredRow,
+    ) -> Result<Rc<JudgedRow>, FlowFault> {
+        let place = ContextPoint::of(number).plain();
+        let timed = self.is_timed(place.proc);
+        self.judged
+            .judged(alloc, task, place, timed, &row.state, &row.parts)
     }
 
     /// The rows that were judged, for other analyses of the ROM on the same map.
@@ -400,7 +439,14 @@ impl Worklist {
     ) -> Result<Sent<'j>, FlowFault> {
         let mut sent = Sent::none(alloc);
         for next in nexts_of(setting.manner, judged) {
-            sent.add_next(alloc, setting.task, setting.guide, point, next)?;
+            sent.add_next(
+                alloc,
+                setting.task,
+                setting.guide,
+                point,
+                next,
+                judged.restarts,
+            )?;
             if next.kind == NextKind::Call {
                 self.send_call(alloc, setting, point, next, &mut sent)?;
             }
@@ -563,7 +609,7 @@ impl Worklist {
             return Ok(Vec::new(alloc));
         };
         let point = ContextPoint::of(number);
-        let judged = self.judged_at(alloc, setting.task, point.plain(), &row.state)?;
+        let judged = self.judged_row_at(alloc, setting.task, number, row.as_ref())?;
         let Sent { lacking, .. } = self.sent_by(alloc, setting, point, judged.as_ref())?;
         Ok(lacking)
     }
@@ -577,7 +623,7 @@ impl Worklist {
         let mut edges = Vec::new(alloc);
         for (number, row) in self.rows.iter() {
             let point = ContextPoint::of(*number);
-            let judged = self.judged_at(alloc, setting.task, point.plain(), &row.state)?;
+            let judged = self.judged_row_at(alloc, setting.task, *number, row.as_ref())?;
             let sent = self.sent_by(alloc, setting, point, judged.as_ref())?;
             for arriving in sent.states.as_slice() {
                 if let Some(to) = self.number_of(setting.task, arriving) {
@@ -585,6 +631,7 @@ impl Worklist {
                         from: *number,
                         to,
                         effect: arriving.effect,
+                        moved: arriving.moved,
                         kind: arriving.kind,
                     })?;
                 }
@@ -687,7 +734,45 @@ fn entering<'s>(to: ContextPoint, state: &'s AbsState) -> Arriving<'s> {
         to,
         state: SentState::Lent(state),
         effect: Effect::unchanged(),
+        moved: Effect::unchanged(),
         kind: ArrivingKind::Jump,
+    }
+}
+
+/// What a state that a judged row sends tells of the flags where it arrives. Nothing is told before version 3, nor by an
+/// analysis that keeps no relations, nor by a call or a return.
+pub fn parts_told(
+    setting: Setting,
+    number: u64,
+    row: &InferredRow,
+    judged: &JudgedRow,
+    arriving: &Arriving,
+) -> ArrivingParts {
+    let is_told = setting.manner.relates
+        && setting.task.version() == Version::Three
+        && arriving.kind == ArrivingKind::Jump;
+    if !is_told {
+        return ArrivingParts::none();
+    }
+    let address = ContextPoint::of(number).address;
+    let told = told_at(
+        setting.task,
+        address,
+        judged.operand,
+        &row.state,
+        &row.parts,
+    );
+    let source = StepSource {
+        facts: row.relations.as_slice(),
+        before: &row.state,
+        settled: &arriving.effect,
+        moved: &arriving.moved,
+        linear: &told.linear,
+        conditions: &told.conditions,
+    };
+    ArrivingParts {
+        parts: parts_after(&source, arriving.state()),
+        from: number,
     }
 }
 

@@ -3,9 +3,9 @@
 use abs_draft::settled;
 use abs_state::AbsState;
 use abs_step::{Next, NextKind};
-use analysis::{FlowFault, Task, sub_of};
+use analysis::{FlowFault, MAIN, Task, sub_of};
 use annotations::SplitNote;
-use check_steps::effect_of_call;
+use check_steps::{effect_back, restarted};
 use inferred_rows::{ContextPoint, Guide};
 use intervals::ByteRange;
 use loop_bounds::Effect;
@@ -34,9 +34,20 @@ pub enum SentState<'j> {
 pub struct Arriving<'j> {
     pub to: ContextPoint,
     pub state: SentState<'j>,
-    /// How each variable comes from the variables of the row that it left.
+    /// How each variable comes from the variables of the row that it left; constants have priority.
     pub effect: Effect,
+    /// The same without that priority.
+    pub moved: Effect,
     pub kind: ArrivingKind,
+}
+
+/// A place, and what comes there beside a state.
+#[derive(Clone, Copy)]
+struct Sending<'e> {
+    to: ContextPoint,
+    effect: &'e Effect,
+    moved: &'e Effect,
+    kind: ArrivingKind,
 }
 
 impl<'j> Arriving<'j> {
@@ -66,7 +77,7 @@ impl<'j> Sent<'j> {
         }
     }
 
-    /// Adds the state of a jump from a place to an address of its procedure.
+    /// Adds the state of a jump from a place to an address of its procedure; of a restart, to an address of main.
     fn add_jump(
         &mut self,
         alloc: Global,
@@ -74,26 +85,31 @@ impl<'j> Sent<'j> {
         guide: &Guide,
         from: ContextPoint,
         next: &'j Next,
+        restarts: bool,
     ) -> Result<(), FlowFault> {
+        if restarts {
+            return self.add_restart(alloc, task, next);
+        }
         let to = ContextPoint {
             address: next.address,
             context: guide.context_of_jump(from.address, next.address, from.context),
             ..from
         };
-        let Some(split) = task.split_at(next.address) else {
-            let part = part_after(task, to);
-            let to = ContextPoint { part, ..to };
-            let state = SentState::Lent(&next.state);
-            return self.push(to, state, &next.effect, ArrivingKind::Jump);
-        };
-        self.add_parts(
-            alloc,
-            split,
-            to,
-            &next.state,
-            &next.effect,
-            ArrivingKind::Jump,
-        )
+        let sending = jump_to(to, next);
+        match task.split_at(next.address) {
+            Some(split) => self.add_parts(alloc, split, sending, &next.state),
+            None => {
+                let state = SentState::Lent(&next.state);
+                self.push(within_part(task, sending), state)
+            }
+        }
+    }
+
+    /// Adds the state of a restart: it goes on in main, without words on the stack.
+    fn add_restart(&mut self, alloc: Global, task: &Task, next: &Next) -> Result<(), FlowFault> {
+        let state = Box::new(alloc, restarted(&next.state))?;
+        let to = ContextPoint::at(MAIN, next.address);
+        self.add_made(alloc, task, jump_to(to, next), state)
     }
 
     /// Adds the state of a call at the callee's entry.
@@ -114,7 +130,13 @@ impl<'j> Sent<'j> {
             ..ContextPoint::at(sub_of(next.address), next.address)
         };
         let state = Box::new(alloc, next.state.callee())?;
-        self.add_made(alloc, task, to, state, &next.effect, ArrivingKind::Call)
+        let sending = Sending {
+            to,
+            effect: &next.effect,
+            moved: &next.moved,
+            kind: ArrivingKind::Call,
+        };
+        self.add_made(alloc, task, sending, state)
     }
 
     /// Adds the state of a call that comes back from an exit of the callee, at the address after the call.
@@ -133,13 +155,23 @@ impl<'j> Sent<'j> {
         exit: &AbsState,
     ) -> Result<(), FlowFault> {
         let state = Box::new(alloc, next.state.after_call(exit))?;
-        let effect = settled(&effect_of_call(&next.effect, exit), state.as_ref());
+        let moved = effect_back(task.version(), &next.moved, exit);
+        let effect = settled(
+            &effect_back(task.version(), &next.effect, exit),
+            state.as_ref(),
+        );
         let to = ContextPoint {
             address: after,
             context: guide.context_of_jump(from.address, after, from.context),
             ..from
         };
-        self.add_made(alloc, task, to, state, &effect, ArrivingKind::Return)
+        let sending = Sending {
+            to,
+            effect: &effect,
+            moved: &moved,
+            kind: ArrivingKind::Return,
+        };
+        self.add_made(alloc, task, sending, state)
     }
 
     /// Adds a state that was made of a successor's.
@@ -147,18 +179,12 @@ impl<'j> Sent<'j> {
         &mut self,
         alloc: Global,
         task: &Task,
-        to: ContextPoint,
+        sending: Sending,
         state: Box<AbsState>,
-        effect: &Effect,
-        kind: ArrivingKind,
     ) -> Result<(), FlowFault> {
-        match task.split_at(to.address) {
-            Some(split) => self.add_parts(alloc, split, to, state.as_ref(), effect, kind),
-            None => {
-                let part = part_after(task, to);
-                let to = ContextPoint { part, ..to };
-                self.push(to, SentState::Made(state), effect, kind)
-            }
+        match task.split_at(sending.to.address) {
+            Some(split) => self.add_parts(alloc, split, sending, state.as_ref()),
+            None => self.push(within_part(task, sending), SentState::Made(state)),
         }
     }
 
@@ -167,17 +193,15 @@ impl<'j> Sent<'j> {
         &mut self,
         alloc: Global,
         split: &SplitNote,
-        to: ContextPoint,
+        sending: Sending,
         state: &AbsState,
-        effect: &Effect,
-        kind: ArrivingKind,
     ) -> Result<(), FlowFault> {
         let mut part = 0u16;
         for range in split.parts.as_slice() {
             part = part.saturating_add(1);
             if let Some(cut) = cut_to(alloc, state, split, *range)? {
-                let to = ContextPoint { part, ..to };
-                self.push(to, SentState::Made(cut), effect, kind)?;
+                let to = ContextPoint { part, ..sending.to };
+                self.push(Sending { to, ..sending }, SentState::Made(cut))?;
             }
         }
         let range = state.byte(split.register);
@@ -187,23 +211,18 @@ impl<'j> Sent<'j> {
         Ok(())
     }
 
-    fn push(
-        &mut self,
-        to: ContextPoint,
-        state: SentState<'j>,
-        effect: &Effect,
-        kind: ArrivingKind,
-    ) -> Result<(), FlowFault> {
+    fn push(&mut self, sending: Sending, state: SentState<'j>) -> Result<(), FlowFault> {
         self.states.push(Arriving {
-            to,
+            to: sending.to,
             state,
-            effect: *effect,
-            kind,
+            effect: *sending.effect,
+            moved: *sending.moved,
+            kind: sending.kind,
         })?;
         Ok(())
     }
 
-    /// Adds the states of a successor that is no call.
+    /// Adds the states of a successor that is no call. `restarts` says whether the row is a restart.
     ///
     /// # Errors
     ///
@@ -215,21 +234,35 @@ impl<'j> Sent<'j> {
         guide: &Guide,
         from: ContextPoint,
         next: &'j Next,
+        restarts: bool,
     ) -> Result<(), FlowFault> {
         match next.kind {
-            NextKind::Jump => self.add_jump(alloc, task, guide, from, next),
+            NextKind::Jump => self.add_jump(alloc, task, guide, from, next, restarts),
             NextKind::Call | NextKind::Exit => Ok(()),
         }
     }
 }
 
-/// The part of a state that arrives at an address without a split.
-fn part_after(task: &Task, to: ContextPoint) -> u16 {
-    if task.is_until(to.address) {
-        0
-    } else {
-        to.part
+/// A jump to a place by a successor.
+fn jump_to<'e>(to: ContextPoint, next: &'e Next) -> Sending<'e> {
+    Sending {
+        to,
+        effect: &next.effect,
+        moved: &next.moved,
+        kind: ArrivingKind::Jump,
     }
+}
+
+/// What is sent to an address without a split: where a split ends, to no part.
+fn within_part<'e>(task: &Task, sending: Sending<'e>) -> Sending<'e> {
+    if !task.is_until(sending.to.address) {
+        return sending;
+    }
+    let to = ContextPoint {
+        part: 0,
+        ..sending.to
+    };
+    Sending { to, ..sending }
 }
 
 /// A copy of a state cut to a range of a split's register; None if nothing is left.

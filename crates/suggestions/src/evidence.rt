@@ -109,7 +109,14 @@ impl<'c, 'e> Evidence<'c, 'e> {
         };
         for (number, row) in self.found.explored.list.rows().iter() {
             let point = ContextPoint::of(*number);
-            let judged = judged_row(self.alloc, &task, point.plain(), false, &row.state);
+            let judged = judged_row(
+                self.alloc,
+                &task,
+                point.plain(),
+                false,
+                &row.state,
+                &row.parts,
+            );
             let is_store = judged
                 .writes
                 .iter()
