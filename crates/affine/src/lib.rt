@@ -3,6 +3,7 @@
 
 mod equalities;
 mod joining;
+mod linear_steps;
 mod relations;
 mod space;
 mod spans;

@@ -31,7 +31,7 @@ impl Space {
     }
 
     /// The space with a pivot for each direction.
-    fn repaired(&self) -> Space
+    pub(crate) fn repaired(&self) -> Space
         ensures { (x : Variable → ℤ) → LiesOn self.now x → LiesOn result x }
     {
         let mut tidy = *self;
@@ -44,7 +44,7 @@ impl Space {
     }
 
     /// Gives each unknown variable a direction of its own from which several variables take their value.
-    fn share(&mut self, effect: &Effect, slots: usize)
+    pub(crate) fn share(&mut self, effect: &Effect, slots: usize)
         ensures { (x : Variable → ℤ) → LiesOn self.old x → LiesOn self.new x }
     {
         for rank in 0..TRACKED_REGISTERS {
@@ -104,7 +104,7 @@ impl Space {
     }
 
     /// What a step with this effect leaves in each variable.
-    fn taken(&self, effect: &Effect) -> Space
+    pub(crate) fn taken(&self, effect: &Effect) -> Space
         ensures each { (v : Variable) → IsTakenAt self.now result (rank_of v)
             (change_of effect.now v) }
         ensures count { result.count ≡ self.now.count }
@@ -157,7 +157,7 @@ impl Space {
     }
 
     /// Forgets the slots from a number on.
-    fn keep_slots(&mut self, slots: usize)
+    pub(crate) fn keep_slots(&mut self, slots: usize)
         ensures { Forgets self.old self.new }
     {
         for rank in end_of(slots)..TRACKED {

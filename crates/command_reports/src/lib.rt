@@ -8,6 +8,7 @@ mod limits;
 mod numbers;
 mod reported;
 mod reporter;
+mod versions;
 mod words;
 
 pub use clashes::{Clash, clash_of, report_clash, twice_written};
@@ -17,4 +18,5 @@ pub use limits::Limits;
 pub use numbers::number_of;
 pub use reported::{print, report};
 pub use reporter::Reporter;
+pub use versions::version_of;
 pub use words::report_words;

@@ -8,7 +8,7 @@ use crate::options::{
     annot, cert, cert_option, color_option, dump_option, entry, file, infer_option, json_option,
     listing_option, max_nmi_option, max_option, max_stack_option, old_symbols_option,
     output_option, quiet_option, rom, rows_option, second, symbols_option, trace_option,
-    trials_option, unneeded_option, until_nmi_option,
+    to_option, trials_option, unneeded_option, until_nmi_option, version_at_most_option,
 };
 use clap::{Arg, ArgAction, Command};
 use std::alloc::{AllocError, Global};
@@ -57,6 +57,7 @@ fn check_command<'a>(alloc: Global) -> Result<Command<'a>, AllocError> {
         .arg(annot(alloc))?
         .arg(infer_option(alloc))?
         .arg(trials_option(alloc))?
+        .arg(version_at_most_option(alloc))?
         .arg(cert_option(alloc)?)?
         .arg(symbols_option(alloc))?
         .arg(listing_option(alloc))?
@@ -118,8 +119,9 @@ fn run_command<'a>(alloc: Global) -> Result<Command<'a>, AllocError> {
 
 fn migrate_command<'a>(alloc: Global) -> Result<Command<'a>, AllocError> {
     command(alloc, "migrate", MIGRATE)
-        .about("Prints a certificate in version 2")
-        .arg(cert(alloc))
+        .about("Prints a certificate in version 2 or 3")
+        .arg(cert(alloc))?
+        .arg(to_option(alloc))
 }
 
 fn explain_command<'a>(alloc: Global) -> Result<Command<'a>, AllocError> {

@@ -13,7 +13,8 @@ ROM, ANNOT, CERT and INPUT may be `-`, which is standard input; one of them at m
 pub(crate) const CHECK: &str = "Makes a certificate for a ROM, and prints the table or the refusal
 
 The table has the stack depth and the worst time of each procedure. The certificate is the proof that the
-ROM is safe; `galcert verify` checks it again. With --infer the annotations are found.
+ROM is safe; `galcert verify` checks it again. With --infer the annotations are found, and the certificate
+has the lowest version that suffices.
 
 Example: galcert check game.rom game.toml --cert game.cert";
 
@@ -37,7 +38,9 @@ An event is an instruction, an NMI that is accepted, or one turn of the halted m
 
 Example: galcert run game.rom game.cert game.input 1000000";
 
-pub(crate) const MIGRATE: &str = "Prints a certificate in version 2
+pub(crate) const MIGRATE: &str = "Prints a certificate in version 2 or 3
+
+What was accepted is accepted in the later version. A certificate of a later version stays as it is.
 
 Example: galcert migrate old.cert > new.cert";
 

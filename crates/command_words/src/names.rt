@@ -42,9 +42,13 @@ pub const SYMBOLS: &str = "symbols";
 
 pub const TRACE: &str = "trace";
 
+pub const TO: &str = "to";
+
 pub const TRIALS: &str = "trials";
 
 pub const UNTIL_NMI: &str = "until-nmi";
+
+pub const VERSION_AT_MOST: &str = "version-at-most";
 
 pub const WARN_UNNEEDED: &str = "warn-unneeded";
 

@@ -3,7 +3,8 @@
 use crate::help_texts::CERT_HELP;
 use crate::names::{
     CERT_FILE, COLOR, DUMP, ENTRY, INFER, JSON, LISTING, MAX, MAX_NMI, MAX_STACK, OLD_SYMBOLS,
-    OUTPUT, QUIET, ROWS, SECOND, SYMBOLS, TRACE, TRIALS, UNTIL_NMI, WARN_UNNEEDED,
+    OUTPUT, QUIET, ROWS, SECOND, SYMBOLS, TO, TRACE, TRIALS, UNTIL_NMI, VERSION_AT_MOST,
+    WARN_UNNEEDED,
 };
 use clap::{Arg, ArgAction};
 use std::alloc::{AllocError, Global};
@@ -43,6 +44,24 @@ pub(crate) fn trials_option<'a>(alloc: Global) -> Arg<'a> {
         .long("trials")
         .value_name("N")
         .help("Tries at most N plans; 2,000 if not said")
+        .action(ArgAction::Set)
+}
+
+/// The option that bounds the version of a certificate that a search finds.
+pub(crate) fn version_at_most_option<'a>(alloc: Global) -> Arg<'a> {
+    Arg::new(alloc, VERSION_AT_MOST)
+        .long("version-at-most")
+        .value_name("N")
+        .help("With --infer: finds a certificate of version N at most, 2 or 3; 3 if not said")
+        .action(ArgAction::Set)
+}
+
+/// The option that says to which version a certificate is migrated.
+pub(crate) fn to_option<'a>(alloc: Global) -> Arg<'a> {
+    Arg::new(alloc, TO)
+        .long("to")
+        .value_name("N")
+        .help("The version that is printed, 2 or 3; 2 if not said")
         .action(ArgAction::Set)
 }
 

@@ -3,7 +3,8 @@ use Rattle.std.proofs.Common.{◌≡◌, ℕ, List, Option, subst}
 use Rattle.board_step.specs.Hardware.{Hardware}
 use Rattle.runner.specs.Certified.{board_of}
 use Rattle.cert_form.specs.Contents.{CertificateView}
-use Rattle.cert_form.specs.Migrated.{migrated}
+use Rattle.cert_lines.specs.declared.version.Version.{Version}
+use Rattle.cert_form.specs.Migrated.{migrated_to}
 use Rattle.cert_form.specs.Text.{text_of}
 use Rattle.certificate.specs.Pieces.{OfBytes}
 use Rattle.texts.specs.Device.{DeviceState}
@@ -37,8 +38,8 @@ pub tells_part : {X : Type 0} (Writes : DeviceState → List ℕ → DeviceState
 tells_part Writes state steps rom text input_old input_new new = on_played rom text state (λ hardware old. PlaysPart Writes hardware steps input_old input_new old new)
 
 -- the text of the migrated certificate was written, from an unchanged sink
-pub tells_migrated : {X : Type 0} (Writes : DeviceState → List ℕ → DeviceState → Type 0) (state : X → DeviceState) (text : Option (List ℕ)) (new : DeviceState) (read shown : CertificateView) (before same : X) →
-    OfBytes text (IsCertificateText read) → shown ≡ migrated read → before ≡ same → Writes (state before) (text_of shown) new → TellsMigrated Writes text (state same) new
-tells_migrated {X} Writes state text new read shown before same is shows kept writes =
+pub tells_migrated : {X : Type 0} (version : Version) (Writes : DeviceState → List ℕ → DeviceState → Type 0) (state : X → DeviceState) (text : Option (List ℕ)) (new : DeviceState) (read shown : CertificateView) (before same : X) →
+    OfBytes text (IsCertificateText read) → shown ≡ migrated_to version read → before ≡ same → Writes (state before) (text_of shown) new → TellsMigrated version Writes text (state same) new
+tells_migrated {X} version Writes state text new read shown before same is shows kept writes =
     of_bytes text (IsCertificateText read) _
-    (λ lines here. (read, here, subst (λ (x : X). Writes (state x) (text_of (migrated read)) new) kept (subst (λ (c : CertificateView). Writes (state before) (text_of c) new) shows writes))) is
+    (λ lines here. (read, here, subst (λ (x : X). Writes (state x) (text_of (migrated_to version read)) new) kept (subst (λ (c : CertificateView). Writes (state before) (text_of c) new) shows writes))) is

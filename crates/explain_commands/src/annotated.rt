@@ -7,6 +7,7 @@ use address_map::{Map, Rom};
 use analysis::{FlowFault, Task};
 use annotations::{Annotations, Given};
 use cert_writer::{WriterFault, certify};
+use certificate::Version;
 use explanation_parts::{
     Outdated, add_too_large, bounds_of, first_of, given_by, is_about_whole, outdated_in,
 };
@@ -208,6 +209,7 @@ fn told<P: Progress>(
         budget: case.said.budget(),
         board: case.said.board(),
         given: asked.given,
+        version: Version::Two,
     };
     let context = SearchContext::of(rom, map, &base, VISITS);
     let Some(plan) = ExploredPlan::of(alloc, &context, Plan::empty(alloc))? else {

@@ -8,6 +8,7 @@ use address_map::{Map, Rom};
 use analysis::{FlowFault, Task};
 use annotations::Given;
 use cert_writer::WriterFault;
+use certificate::Version;
 use explanation_parts::{add_too_large, first_of, is_about_whole};
 use explanation_texts::{add_block, add_habit, add_head, add_recursion, add_unbounded};
 use explanations::{Explored, refusals_of};
@@ -29,7 +30,7 @@ pub(crate) fn searched<'r, P: Progress>(
 ) -> Result<(String, Option<Accepted<'r>>), FlowFault>
     ensures rom { IfOk result (λ both. IfSome both.1 (λ accepted. accepted.rom ≡ bytes.now)) }
 {
-    let found = match inferred(alloc, bytes, given, trials, progress) {
+    let found = match inferred(alloc, bytes, given, trials, Version::Three, progress) {
         Ok(Some(found)) => found,
         Ok(None) => {
             let mut text = String::from_str(alloc, "0000  [1 Rom]\n")?;

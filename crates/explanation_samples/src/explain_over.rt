@@ -1,5 +1,6 @@
 // `explain`, `check` and `check --infer` on devices in memory.
 
+use certificate::Version;
 use explain_commands::{Asked, explain_on};
 use explored_plans::Unwatched;
 use inference_commands::infer_on;
@@ -108,6 +109,7 @@ pub fn infer_whole(alloc: Global, rom: &[u8]) -> Explained {
         &mut rom,
         &mut given,
         60,
+        Version::Three,
         &mut keep,
         &mut out,
         &mut notes,

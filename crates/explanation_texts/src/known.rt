@@ -6,7 +6,7 @@ use inferred_rows::ContextPoint;
 use intervals::RegPair;
 use named_annotations::{register_name, variable_name};
 use refusal_texts::{Wording, add_line};
-use row_texts::{add_pair_texts, add_used_texts, fact_text, flag_text, used_by};
+use row_texts::{add_pair_texts, add_used_texts, fact_text, flag_text, part_text, used_by};
 
 /// The most annotations that are listed.
 const NEAR: usize = 6;
@@ -40,6 +40,9 @@ pub(crate) fn add_known(
     }
     if let Some(flag) = state.flag {
         parts.push(flag_text(alloc, flag)?)?;
+    }
+    for part in situation.parts.parts() {
+        parts.push(part_text(alloc, part)?)?;
     }
     for note in facts_at(situation.task.said().facts(), address) {
         parts.push(fact_text(alloc, &note.fact)?)?;

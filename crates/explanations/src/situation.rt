@@ -16,6 +16,8 @@ pub struct Situation<'s> {
     pub place: ProgramPoint,
     pub timed: bool,
     pub state: AbsState,
+    /// What is known of the flags there; nothing before version 3.
+    pub parts: FlagParts,
     pub judged: JudgedRow,
 }
 
@@ -35,6 +37,7 @@ impl<'s> Situation<'s> {
             place,
             timed,
             state,
+            parts: parts.copied(),
             judged,
         }
     }

@@ -55,6 +55,7 @@ impl<'s> SearchContext<'s> {
 
     /// The task for these annotations; None if they have more than 256 cells.
     pub fn task<'a>(&'a self, said: &'a Annotations) -> Option<Task<'a>> {
-        Task::of(self.rom, self.map, said)
+        let task = Task::of(self.rom, self.map, said)?;
+        Some(task.with_version(self.base.version))
     }
 }

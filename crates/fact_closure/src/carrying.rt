@@ -1,6 +1,7 @@
 // A fact at the head of a loop, carried over the loop.
 
-use crate::closure::{IncomingSteps, add, has};
+use crate::closure::{IncomingSteps, has};
+use crate::needs::add_fact;
 use crate::rewriting::before_step;
 use analysis::FlowFault;
 use annotations::FactNote;
@@ -99,7 +100,7 @@ fn adds(table: &mut RowFacts, row: u64, fact: Linear) -> Result<bool, FlowFault>
     if is_full || has(facts, &fact) {
         return Ok(false);
     }
-    add(table, row, fact)?;
+    add_fact(table, row, fact)?;
     Ok(true)
 }
 

@@ -1,19 +1,24 @@
-// All facts from which a wanted one follows.
+// All facts and flag parts from which a wanted one follows.
 
+use crate::needs::{Needs, add_fact, add_part};
 use crate::rewriting::{before_step, negated};
+use abs_state::AbsState;
 use analysis::{FlowFault, MAIN, NMI, facts_at};
-use annotations::FactNote;
+use board_fetch::fetch;
 use cert_fields::Facts;
-use inferred_rows::ContextPoint;
+use cert_lines::Version;
+use derived_parts::{PartGround, PartStep, fact_ground_of, ground_of};
+use flag_letters::{FlagPart, FlagParts};
+use inferred_rows::{ContextPoint, Guide};
 use loop_bounds::Linear;
-use row_worklist::{RowEdge, Worklist};
+use row_worklist::{RowEdge, Setting, Worklist};
+use sent_states::ArrivingKind;
 use std::alloc::Global;
-use std::collections::BTreeMap;
 
 /// The most facts of a row.
 const FACTS: usize = 4;
 
-/// The most rows through which one wanted fact is followed.
+/// The most rows through which one wanted fact or part is followed.
 const STEPS: u32 = 20_000;
 
 /// The steps that come to each row.
@@ -41,15 +46,28 @@ impl IncomingSteps {
     }
 }
 
-/// A fact that is wanted of a row.
+/// What is wanted of a row.
+#[derive(Clone, Copy)]
+pub(crate) enum Claim {
+    Fact(Linear),
+    Part(FlagPart),
+}
+
+/// A claim that is wanted of a row.
 #[derive(Clone, Copy)]
 struct Wanted {
     row: u64,
-    fact: Linear,
+    claim: Claim,
 }
 
-/// The facts that are to be added, by row; None if the wanted fact cannot be had.
-pub(crate) type Needed = Option<BTreeMap<u64, Facts>>;
+/// Where claims are followed.
+#[derive(Clone, Copy)]
+pub(crate) struct Followed<'f> {
+    pub setting: Setting<'f>,
+    /// The rows of an analysis with relations.
+    pub related: &'f Worklist,
+    pub incoming: &'f IncomingSteps,
+}
 
 /// Whether a row is that of the entry of main or of the NMI routine, where nothing is known.
 fn is_entry(number: u64) -> bool {
@@ -69,6 +87,14 @@ pub(crate) fn has(facts: Option<&Facts>, fact: &Linear) -> bool {
     }
 }
 
+/// Whether a list has a flag part.
+fn has_part(parts: Option<&FlagParts>, part: &FlagPart) -> bool {
+    match parts {
+        Some(parts) => parts.parts().contains(part),
+        None => false,
+    }
+}
+
 fn count(facts: Option<&Facts>) -> usize {
     match facts {
         Some(facts) => facts.as_slice().len(),
@@ -76,72 +102,168 @@ fn count(facts: Option<&Facts>) -> usize {
     }
 }
 
-/// A fact of a row with all facts from which it follows, without those that `table` has. `said` are the
-/// annotated facts. A fact follows where each step
-/// that comes to its row makes it of a fact of the row before, or of nothing.
+fn count_of_parts(parts: Option<&FlagParts>) -> usize {
+    match parts {
+        Some(parts) => parts.parts().len(),
+        None => 0,
+    }
+}
+
+/// A claim of a row with all claims from which it follows, without those that `table` has; None if it cannot be had. A
+/// claim follows where each step that comes to its row makes it of a claim of the row before, or of nothing.
 ///
 /// # Errors
 ///
 /// `NoMemory` where memory was refused.
 pub(crate) fn closure_of(
     alloc: Global,
-    said: &[FactNote],
-    related: &Worklist,
-    incoming: &IncomingSteps,
-    table: &BTreeMap<u64, Facts>,
+    of: Followed,
+    table: &Guide,
     row: u64,
-    fact: &Linear,
-) -> Result<Needed, FlowFault> {
-    let mut needed = BTreeMap::new(alloc);
+    claim: Claim,
+) -> Result<Option<Needs>, FlowFault> {
+    let mut needs = Needs::none(alloc);
     let mut todo = Vec::new(alloc);
-    todo.push(Wanted { row, fact: *fact })?;
+    todo.push(Wanted { row, claim })?;
     for _ in 0..STEPS {
         let Some(wanted) = todo.pop() else {
-            return Ok(Some(needed));
+            return Ok(Some(needs));
         };
-        if has(table.get(&wanted.row), &wanted.fact) || has(needed.get(&wanted.row), &wanted.fact) {
+        if is_had(table, &needs, &wanted) {
             continue;
         }
-        let address = ContextPoint::of(wanted.row).address;
-        let room = count(table.get(&wanted.row))
-            .saturating_add(count(needed.get(&wanted.row)))
-            .saturating_add(facts_at(said, address).len());
-        if room >= FACTS || is_entry(wanted.row) {
+        if is_entry(wanted.row) || !has_room(of.setting, table, &needs, &wanted) {
             return Ok(None);
         }
-        add(&mut needed, wanted.row, wanted.fact)?;
-        for edge in incoming.to(wanted.row) {
-            let Some(source) = related.row(edge.from) else {
+        match wanted.claim {
+            Claim::Fact(fact) => add_fact(&mut needs.facts, wanted.row, fact)?,
+            Claim::Part(part) => add_part(&mut needs.parts, wanted.row, part)?,
+        }
+        for edge in of.incoming.to(wanted.row) {
+            let found = match wanted.claim {
+                Claim::Fact(fact) => fact_before(alloc, of, edge, &fact)?,
+                Claim::Part(part) => part_before(alloc, of, edge, &part)?,
+            };
+            let Some(ground) = found else {
                 return Ok(None);
             };
-            let Some(before) = before_step(&wanted.fact, &edge.effect, &source.state) else {
-                return Ok(None);
-            };
-            if !before.terms().is_empty() {
-                todo.push(Wanted {
-                    row: edge.from,
-                    fact: before,
-                })?;
-            } else if before.constant() != 0 {
-                return Ok(None);
+            for claim in [ground.fact.map(Claim::Fact), ground.part.map(Claim::Part)] {
+                if let Some(claim) = claim {
+                    todo.push(Wanted {
+                        row: edge.from,
+                        claim,
+                    })?;
+                }
             }
         }
     }
     Ok(None)
 }
 
-/// Adds a fact to those of a row, of which there are fewer than four.
-pub(crate) fn add(
-    table: &mut BTreeMap<u64, Facts>,
-    row: u64,
-    fact: Linear,
-) -> Result<(), FlowFault> {
-    if let Some(facts) = table.get_mut(&row) {
-        let _room = facts.push(fact);
-        return Ok(());
+/// Whether a wanted claim is there already.
+fn is_had(table: &Guide, needs: &Needs, wanted: &Wanted) -> bool {
+    let row = &wanted.row;
+    match &wanted.claim {
+        Claim::Fact(fact) => has(table.facts.get(row), fact) || has(needs.facts.get(row), fact),
+        Claim::Part(part) => {
+            has_part(table.parts.get(row), part) || has_part(needs.parts.get(row), part)
+        }
     }
-    let mut facts = Facts::none();
-    let _room = facts.push(fact);
-    table.insert(row, facts)?;
-    Ok(())
+}
+
+/// Whether a row has room for a wanted claim.
+fn has_room(setting: Setting, table: &Guide, needs: &Needs, wanted: &Wanted) -> bool {
+    let row = &wanted.row;
+    match wanted.claim {
+        Claim::Fact(_) => {
+            let said = facts_at(setting.task.said().facts(), ContextPoint::of(*row).address);
+            let taken = count(table.facts.get(row))
+                .saturating_add(count(needs.facts.get(row)))
+                .saturating_add(said.len());
+            taken < FACTS
+        }
+        Claim::Part(_) => {
+            let taken = count_of_parts(table.parts.get(row))
+                .saturating_add(count_of_parts(needs.parts.get(row)));
+            taken < flag_letters::MOST_PARTS
+        }
+    }
+}
+
+/// No claim.
+fn nothing() -> PartGround {
+    PartGround {
+        part: None,
+        fact: None,
+    }
+}
+
+/// Of what claim of the row before a step a fact after it is made; None if it cannot be told.
+fn fact_before(
+    alloc: Global,
+    of: Followed,
+    edge: &RowEdge,
+    fact: &Linear,
+) -> Result<Option<PartGround>, FlowFault> {
+    let Some(source) = of.related.row(edge.from) else {
+        return Ok(None);
+    };
+    match before_step(fact, &edge.effect, &source.state) {
+        Some(before) if !before.terms().is_empty() => Ok(Some(PartGround {
+            part: None,
+            fact: Some(before),
+        })),
+        Some(before) if before.constant() == 0 => Ok(Some(nothing())),
+        _ => ground_at(alloc, of, edge, &Claim::Fact(*fact)),
+    }
+}
+
+/// The same for a flag part. Calls and returns tell nothing of the flags.
+fn part_before(
+    alloc: Global,
+    of: Followed,
+    edge: &RowEdge,
+    part: &FlagPart,
+) -> Result<Option<PartGround>, FlowFault> {
+    if edge.kind != ArrivingKind::Jump {
+        return Ok(None);
+    }
+    ground_at(alloc, of, edge, &Claim::Part(*part))
+}
+
+/// The least ground of a claim after a step of version 3.
+fn ground_at(
+    alloc: Global,
+    of: Followed,
+    edge: &RowEdge,
+    claim: &Claim,
+) -> Result<Option<PartGround>, FlowFault> {
+    if of.setting.task.version() != Version::Three {
+        return Ok(None);
+    }
+    let address = ContextPoint::of(edge.from).address;
+    let (Some(source), Some(target)) = (of.related.row(edge.from), of.related.row(edge.to)) else {
+        return Ok(None);
+    };
+    let Ok((instr, _)) = fetch(of.setting.task.rom(), address) else {
+        return Ok(None);
+    };
+    let judged = of
+        .related
+        .judged_row_at(alloc, of.setting.task, edge.from, source)?;
+    let after: &AbsState = &target.state;
+    let step = PartStep {
+        instr: &instr,
+        operand: judged.as_ref().operand,
+        before: &source.state,
+        facts: source.relations.as_slice(),
+        parts: &source.parts,
+        settled: &edge.effect,
+        moved: &edge.moved,
+        after,
+    };
+    Ok(match claim {
+        Claim::Fact(fact) => fact_ground_of(&step, fact),
+        Claim::Part(part) => ground_of(&step, part),
+    })
 }

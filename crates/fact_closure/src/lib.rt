@@ -1,10 +1,12 @@
-// The facts that a certificate needs (docs/INFERENCE.md, "Facts"): those wanted by refused rows, with all that they
-// follow from.
+// The facts and flag parts that a certificate needs (docs/INFERENCE.md, "Facts"): those wanted by refused rows, with all
+// that they follow from.
 #![tactic(auto)]
 
 mod carrying;
 mod closure;
 mod needed;
+mod needs;
+mod parting;
 mod rewriting;
 
 pub use carrying::{LoopFact, carried_facts};

@@ -1,23 +1,27 @@
-// The facts that rows need so that nothing is against them.
+// The facts and flag parts that rows need so that nothing is against them.
 
-use crate::closure::{IncomingSteps, add, closure_of};
+use crate::closure::{Claim, Followed, IncomingSteps, closure_of};
+use crate::needs::{Needs, guide_by};
 use abs_state::AbsState;
 use abs_step::Reason;
 use analysis::FlowFault;
 use board_fetch::fetch;
 use cert_fields::Facts;
+use cert_lines::Version;
 use inferred_rows::{ContextPoint, Guide, InferredRow, Manner, pointer_of};
 use inferring::found_rows_with;
 use loop_bounds::{Linear, Ranges, Variable};
 use row_worklist::{Setting, Watch, Worklist};
 use std::alloc::Global;
-use std::collections::BTreeMap;
 
 /// How many stages there are.
-const STAGES: u32 = 3;
+const STAGES: u32 = 4;
 
 /// How many times facts are added for the rows that are still refused.
 const ROUNDS: u32 = 8;
+
+/// The same in version 3, where flag parts are added too, the nearest ones first.
+const PARTED_ROUNDS: u32 = 24;
 
 /// An analysis with relations, whose facts are looked for.
 #[derive(Drop)]
@@ -30,9 +34,10 @@ pub struct FactSearch<'s> {
 }
 
 /// The facts of rows with which an analysis that keeps no relations refuses no row that the one with relations accepts.
-/// They are the facts wanted by refused rows and all from which these follow; where those do not suffice, also each
-/// relation that says something of what a refused row writes through, and then each that narrows a row where states
-/// join. At last come those that narrow the counter of a loop. Some may be missing: the checker judges.
+/// They are the facts wanted by refused rows and all from which these follow; where those do not suffice, in version 3
+/// the flag parts before refused rows that narrow a state at a condition; then also each relation that says something of
+/// what a refused row writes through, and then each that narrows a row where states join. At last come those that narrow
+/// the counter of a loop. Some may be missing: the checker judges.
 ///
 /// # Errors
 ///
@@ -59,7 +64,11 @@ pub fn facts_and_rows(alloc: Global, search: &FactSearch) -> Result<NeededFacts,
     let incoming = IncomingSteps::of(search.related.edges(alloc, search.setting)?);
     let mut guide = search.setting.guide.copied(alloc)?;
     let mut stage = FactFamily::Wanted;
-    for _ in 0..ROUNDS {
+    let rounds = match search.setting.task.version() {
+        Version::One | Version::Two => ROUNDS,
+        Version::Three => PARTED_ROUNDS,
+    };
+    for _ in 0..rounds {
         let setting = Setting {
             guide: &guide,
             manner: Manner {
@@ -97,7 +106,7 @@ pub fn facts_and_rows(alloc: Global, search: &FactSearch) -> Result<NeededFacts,
             };
             found = search.found(alloc, &incoming, &guide, &plain, stage)?;
         }
-        merge(&mut guide.facts, &found)?;
+        guide_by(&mut guide, &found)?;
         stage = FactFamily::Wanted;
     }
     Ok(NeededFacts { guide, rows: None })
@@ -108,6 +117,8 @@ pub fn facts_and_rows(alloc: Global, search: &FactSearch) -> Result<NeededFacts,
 enum FactFamily {
     /// Those with which a refused row is not refused any more.
     Wanted,
+    /// In version 3, the flag parts before refused rows that narrow a state at a condition, with their facts.
+    Parting,
     /// Those of refused rows that say something of the pair through which they write.
     Pointing,
     /// Those that narrow rows at which states join or are cut.
@@ -119,7 +130,8 @@ enum FactFamily {
 impl FactFamily {
     fn next(self) -> Option<FactFamily> {
         match self {
-            FactFamily::Wanted => Some(FactFamily::Pointing),
+            FactFamily::Wanted => Some(FactFamily::Parting),
+            FactFamily::Parting => Some(FactFamily::Pointing),
             FactFamily::Pointing => Some(FactFamily::Narrowing),
             FactFamily::Narrowing | FactFamily::Counting => None,
         }
@@ -129,7 +141,7 @@ impl FactFamily {
 impl<'s> FactSearch<'s> {
     /// The number of the row with relations for a row without. It is that of the same class, or else of the first class:
     /// a wide store may seem to enable NMIs, and then the analysis without relations distinguishes more classes.
-    fn related_number(&self, number: u64) -> u64 {
+    pub(crate) fn related_number(&self, number: u64) -> u64 {
         if self.related.row(number).is_some() {
             return number;
         }
@@ -163,9 +175,10 @@ impl<'s> FactSearch<'s> {
         guide: &Guide,
         plain: &Worklist,
         stage: FactFamily,
-    ) -> Result<BTreeMap<u64, Facts>, FlowFault> {
+    ) -> Result<Needs, FlowFault> {
         match stage {
             FactFamily::Wanted => self.wanted(alloc, incoming, guide, plain),
+            FactFamily::Parting => self.parting(alloc, incoming, guide, plain),
             FactFamily::Pointing => self.pointing(alloc, incoming, guide, plain),
             FactFamily::Narrowing => self.narrowing(alloc, incoming, guide, plain),
             FactFamily::Counting => self.counting(alloc, incoming, guide, plain),
@@ -179,8 +192,8 @@ impl<'s> FactSearch<'s> {
         incoming: &IncomingSteps,
         guide: &Guide,
         plain: &Worklist,
-    ) -> Result<BTreeMap<u64, Facts>, FlowFault> {
-        let mut all = BTreeMap::new(alloc);
+    ) -> Result<Needs, FlowFault> {
+        let mut all = Needs::none(alloc);
         let mut table = guide.copied(alloc)?;
         for (number, row) in plain.rows().iter() {
             let place = self.related_number(*number);
@@ -202,8 +215,8 @@ impl<'s> FactSearch<'s> {
                     continue;
                 }
                 if let Some(closure) = self.closure(alloc, incoming, &table, place, relation)? {
-                    merge(&mut all, &closure)?;
-                    merge(&mut table.facts, &closure)?;
+                    all.merge(&closure)?;
+                    guide_by(&mut table, &closure)?;
                 }
             }
         }
@@ -217,8 +230,8 @@ impl<'s> FactSearch<'s> {
         incoming: &IncomingSteps,
         guide: &Guide,
         plain: &Worklist,
-    ) -> Result<BTreeMap<u64, Facts>, FlowFault> {
-        let mut all = BTreeMap::new(alloc);
+    ) -> Result<Needs, FlowFault> {
+        let mut all = Needs::none(alloc);
         let mut table = guide.copied(alloc)?;
         for (number, row) in plain.rows().iter() {
             if !self.is_refused(*number, row) {
@@ -226,8 +239,8 @@ impl<'s> FactSearch<'s> {
             }
             let place = self.related_number(*number);
             if let Some(best) = self.best_for(alloc, incoming, &table, place, row)? {
-                merge(&mut all, &best)?;
-                merge(&mut table.facts, &best)?;
+                all.merge(&best)?;
+                guide_by(&mut table, &best)?;
             }
         }
         Ok(all)
@@ -241,11 +254,11 @@ impl<'s> FactSearch<'s> {
         table: &Guide,
         number: u64,
         row: &InferredRow,
-    ) -> Result<Option<BTreeMap<u64, Facts>>, FlowFault> {
+    ) -> Result<Option<Needs>, FlowFault> {
         let Some(related) = self.related.row(number) else {
             return Ok(None);
         };
-        let mut best: Option<BTreeMap<u64, Facts>> = None;
+        let mut best: Option<Needs> = None;
         for relation in related.relations.as_slice() {
             let Some(state) = tightened(&row.state, table.facts.get(&number), relation) else {
                 continue;
@@ -267,6 +280,15 @@ impl<'s> FactSearch<'s> {
         Ok(best)
     }
 
+    /// Where claims are followed.
+    pub(crate) fn followed<'f>(&'f self, incoming: &'f IncomingSteps) -> Followed<'f> {
+        Followed {
+            setting: self.setting,
+            related: self.related,
+            incoming,
+        }
+    }
+
     /// A relation of a row with all facts from which it follows.
     fn closure(
         &self,
@@ -275,17 +297,9 @@ impl<'s> FactSearch<'s> {
         table: &Guide,
         number: u64,
         relation: &Linear,
-    ) -> Result<Option<BTreeMap<u64, Facts>>, FlowFault> {
-        let said = self.setting.task.said().facts();
-        closure_of(
-            alloc,
-            said,
-            self.related,
-            incoming,
-            &table.facts,
-            number,
-            relation,
-        )
+    ) -> Result<Option<Needs>, FlowFault> {
+        let claim = Claim::Fact(*relation);
+        closure_of(alloc, self.followed(incoming), table, number, claim)
     }
 
     /// The relations that narrow the counters of loops in timed procedures, with all from which these follow.
@@ -295,8 +309,8 @@ impl<'s> FactSearch<'s> {
         incoming: &IncomingSteps,
         guide: &Guide,
         plain: &Worklist,
-    ) -> Result<BTreeMap<u64, Facts>, FlowFault> {
-        let mut all = BTreeMap::new(alloc);
+    ) -> Result<Needs, FlowFault> {
+        let mut all = Needs::none(alloc);
         let mut table = guide.copied(alloc)?;
         for (number, row) in plain.rows().iter() {
             let point = ContextPoint::of(*number);
@@ -317,11 +331,12 @@ impl<'s> FactSearch<'s> {
                     continue;
                 }
                 if let Some(closure) = self.closure(alloc, incoming, &table, place, relation)? {
-                    merge(&mut all, &closure)?;
-                    merge(&mut table.facts, &closure)?;
+                    all.merge(&closure)?;
+                    guide_by(&mut table, &closure)?;
                 }
             }
         }
+        self.add_counting_parts(alloc, incoming, &mut table, plain, &mut all)?;
         Ok(all)
     }
 
@@ -360,8 +375,8 @@ impl<'s> FactSearch<'s> {
         incoming: &IncomingSteps,
         guide: &Guide,
         plain: &Worklist,
-    ) -> Result<BTreeMap<u64, Facts>, FlowFault> {
-        let mut all = BTreeMap::new(alloc);
+    ) -> Result<Needs, FlowFault> {
+        let mut all = Needs::none(alloc);
         let mut table = guide.copied(alloc)?;
         for (number, row) in plain.rows().iter() {
             let place = self.related_number(*number);
@@ -387,8 +402,8 @@ impl<'s> FactSearch<'s> {
                 }
                 let closure = self.closure(alloc, incoming, &table, place, relation)?;
                 if let Some(closure) = closure {
-                    merge(&mut all, &closure)?;
-                    merge(&mut table.facts, &closure)?;
+                    all.merge(&closure)?;
+                    guide_by(&mut table, &closure)?;
                     state = left;
                 }
             }
@@ -423,7 +438,7 @@ fn tightened(state: &AbsState, facts: Option<&Facts>, relation: &Linear) -> Opti
 }
 
 /// Whether a linear has a pair or one of its halves.
-fn says_of(linear: &Linear, pair: &Variable) -> bool {
+pub(crate) fn says_of(linear: &Linear, pair: &Variable) -> bool {
     linear.terms().iter().any(|term| term.variable == *pair || is_half(&term.variable, pair))
 }
 
@@ -440,14 +455,4 @@ fn is_half(variable: &Variable, pair: &Variable) -> bool {
 /// Whether a variable of a linear has a smaller range in the second state.
 fn narrows(before: &AbsState, after: &AbsState, linear: &Linear) -> bool {
     linear.terms().iter().any(|term| before.range(term.variable) != after.range(term.variable))
-}
-
-/// Adds facts to those of a table.
-fn merge(table: &mut BTreeMap<u64, Facts>, more: &BTreeMap<u64, Facts>) -> Result<(), FlowFault> {
-    for (row, facts) in more.iter() {
-        for fact in facts.as_slice() {
-            add(table, *row, *fact)?;
-        }
-    }
-    Ok(())
 }

@@ -3,14 +3,15 @@
 use crate::devices::{InputFile, Out, input, optional, output, searching, stderr, stdout};
 use crate::naming::{has_names, has_reports, names, symbols_of, tell_refused};
 use crate::streams::{Answer, Remarks, answer};
+use certificate::Version;
 use clap::ArgMatches;
 use command_parts::ExitStatus;
 use command_reports::{
-    Limits, UsedDevice, clash_of, end, finish_all, number_of, report, report_clash,
+    Limits, UsedDevice, clash_of, end, finish_all, number_of, report, report_clash, version_of,
 };
 use command_streams::Printed;
 use command_words::{
-    CERT_FILE, INFER, LISTING, OUTPUT, QUIET, SYMBOLS, TRIALS, WARN_UNNEEDED, word,
+    CERT_FILE, INFER, LISTING, OUTPUT, QUIET, SYMBOLS, TRIALS, VERSION_AT_MOST, WARN_UNNEEDED, word,
 };
 use commands::check_on;
 use file_devices::{AfterOutput, Output, SharedOutput};
@@ -36,6 +37,8 @@ struct MakeRequest<'r, 'm> {
     matches: &'r ArgMatches<'m>,
     /// The most trials of a search.
     trials: u32,
+    /// The greatest version of a certificate that a search finds.
+    most: Version,
     limits: Limits,
 }
 
@@ -49,8 +52,11 @@ pub fn check_files<'a>(rt: &'a HostRuntime, matches: &ArgMatches<'a>, notes: &mu
         );
         return ExitStatus::Usage.code();
     }
-    let (Some(trials), Some(limits)) = (trials_of(matches, notes), Limits::of(matches, notes))
-    else {
+    let (Some(trials), Some(most), Some(limits)) = (
+        trials_of(matches, notes),
+        version_of(notes, matches.get_str(VERSION_AT_MOST), VERSION_AT_MOST, Version::Three),
+        Limits::of(matches, notes),
+    ) else {
         return ExitStatus::Usage.code();
     };
     if let Some(clash) = clash_of(rt, matches, &INPUTS, matches.get_str(CERT_FILE)) {
@@ -66,6 +72,7 @@ pub fn check_files<'a>(rt: &'a HostRuntime, matches: &ArgMatches<'a>, notes: &mu
         rt,
         matches,
         trials,
+        most,
         limits,
     };
     let (status, out) = match judge_files(asked, &mut rom, &mut annot, &mut keep, out, notes) {
@@ -144,11 +151,13 @@ fn check_by_names<K: Sink, W: Sink>(
         rt,
         matches,
         trials,
+        most,
         ..
     } = asked;
     let how = NamedCheck {
         names,
         trials: matches.get_flag(INFER).then_some(trials),
+        most_version: most,
         warns_unneeded: matches.get_flag(WARN_UNNEEDED),
     };
     let progress = &mut searching(rt);
@@ -168,13 +177,24 @@ fn check_plain<K: Sink, W: Sink>(
         rt,
         matches,
         trials,
+        most,
         ..
     } = asked;
     if !matches.get_flag(INFER) {
         return check_on(rt.alloc(), rom, annot, keep, out);
     }
     let progress = &mut searching(rt);
-    infer_on(rt.alloc(), rom, annot, trials, keep, out, notes, progress)
+    infer_on(
+        rt.alloc(),
+        rom,
+        annot,
+        trials,
+        most,
+        keep,
+        out,
+        notes,
+        progress,
+    )
 }
 
 /// The annotations; none if they are not named. Their text is remembered for hints.

@@ -4,10 +4,11 @@ use crate::devices::{Out, input, stdout};
 use crate::naming::{has_names, names, symbols_of, tell_refused};
 use crate::running::hint_refused;
 use crate::streams::{Answer, Remarks, answer};
+use certificate::Version;
 use clap::ArgMatches;
 use command_parts::ExitStatus;
-use command_reports::{Limits, UsedDevice, clash_of, end, report_clash};
-use command_words::{LISTING, QUIET, SYMBOLS};
+use command_reports::{Limits, UsedDevice, clash_of, end, report_clash, version_of};
+use command_words::{LISTING, QUIET, SYMBOLS, TO};
 use commands::{migrate_on, verify_on};
 use file_devices::Output;
 use json_documents::{Command, conclude};
@@ -65,9 +66,12 @@ fn wanted_output<'a>(rt: &'a HostRuntime, matches: &ArgMatches) -> Out<'a> {
 
 /// `galcert migrate`. The result is the exit status.
 pub fn migrate_file<'a>(rt: &'a HostRuntime, matches: &ArgMatches<'a>, notes: &mut Remarks) -> u8 {
+    let Some(version) = version_of(notes, matches.get_str(TO), TO, Version::Two) else {
+        return ExitStatus::Usage.code();
+    };
     let mut cert = input(rt, matches, "CERT");
     let mut out = stdout(rt);
-    let status = migrate_on(rt.alloc(), &mut cert, &mut out);
+    let status = migrate_on(rt.alloc(), version, &mut cert, &mut out);
     end(
         notes,
         status,

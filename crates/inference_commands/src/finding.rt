@@ -8,6 +8,7 @@ ghost use Rattle.texts.specs.Device.{HasFailed, CountsNoFailure};
 use abs_step::Reason;
 use analysis::FlowFault;
 use annotations::{AnnotationFault, Given};
+use certificate::Version;
 use check_rules::Refused;
 use command_parts::{Stop, tell_unmade};
 use command_verdicts::{refused_line, write_bad_key};
@@ -39,13 +40,14 @@ pub fn read_given<W: Sink>(alloc: Global, text: &[u8], out: &mut W) -> Result<Gi
     }
 }
 
-/// Finds annotations for a ROM beside those given. If the search has no answer, the line that reports it is written to
+/// Finds annotations for a ROM beside those given, for a certificate of version `most` at most: 3, or less for 2. If the search has no answer, the line that reports it is written to
 /// `out`. A line on `notes` says what was found, with labels beside addresses.
 pub fn find<'r, 'g, W: Sink, N: Sink, P: Progress>(
     alloc: Global,
     rom: &'r [u8],
     given: &'g Given,
     trials: u32,
+    most: Version,
     symbols: &Symbols,
     out: &mut W,
     notes: &mut N,
@@ -57,7 +59,7 @@ pub fn find<'r, 'g, W: Sink, N: Sink, P: Progress>(
     ensures told { result ≢ Err Stop.Device → CountsNoFailure (W.state out.old) (W.state out.new) }
     ensures memory { result ≡ Err Stop.OutOfMemory → out.new ≡ out.old }
 {
-    match inferred(alloc, rom, given, trials, progress) {
+    match inferred(alloc, rom, given, trials, most, progress) {
         Ok(Some(found)) => {
             tell_found(alloc, &found, symbols, notes);
             Ok(found)
@@ -76,11 +78,13 @@ pub fn find<'r, 'g, W: Sink, N: Sink, P: Progress>(
 
 /// Finds annotations for a ROM beside those of a text, and makes a certificate by them. If none is accepted, the line
 /// that reports it is written to `out`. A line on `notes` says what was found, with labels of `symbols` beside addresses.
+/// The certificate is of version `most` at most: 3, or less for 2.
 pub fn infer<'r, W: Sink, N: Sink, P: Progress>(
     alloc: Global,
     rom: &'r [u8],
     text: &[u8],
     trials: u32,
+    most: Version,
     symbols: &Symbols,
     out: &mut W,
     notes: &mut N,
@@ -98,7 +102,9 @@ pub fn infer<'r, W: Sink, N: Sink, P: Progress>(
         Ok(given) => given,
         Err(stop) => return Err(stop),
     };
-    let found = match find(alloc, rom, &given, trials, symbols, out, notes, progress) {
+    let found = match find(
+        alloc, rom, &given, trials, most, symbols, out, notes, progress,
+    ) {
         Ok(found) => found,
         Err(stop) => return Err(stop),
     };
@@ -133,6 +139,8 @@ struct Counts {
     contexts: u32,
     facts: u32,
     rows: u32,
+    parts: u32,
+    parted_rows: u32,
 }
 
 fn count_of(found: &Inference) -> Counts {
@@ -144,6 +152,8 @@ fn count_of(found: &Inference) -> Counts {
         contexts: 0,
         facts: 0,
         rows: 0,
+        parts: 0,
+        parted_rows: 0,
     };
     for finding in found.explored.plan.findings.as_slice() {
         match &finding.family {
@@ -158,6 +168,10 @@ fn count_of(found: &Inference) -> Counts {
     for (_, facts) in found.judged.guide().facts.iter() {
         add(&mut counts.facts, facts.as_slice().len());
         add(&mut counts.rows, 1);
+    }
+    for (_, parts) in found.judged.guide().parts.iter() {
+        add(&mut counts.parts, parts.parts().len());
+        add(&mut counts.parted_rows, 1);
     }
     counts
 }
@@ -185,8 +199,13 @@ fn found_line(alloc: Global, found: &Inference, symbols: &Symbols) -> Result<Str
         "inferred: {facts} facts in {rows} rows, {inlines} inline calls, {splits} splits, {loops} loops"
     )?;
     line.push_str(format!(in alloc;
-        ", {cells} cells, {contexts} contexts, low {low}, top {top}, trials {trials}\n"
+        ", {cells} cells, {contexts} contexts, low {low}, top {top}, trials {trials}"
     )?.as_str())?;
+    if found.base.version == Version::Three {
+        let (parts, rows) = (counts.parts, counts.parted_rows);
+        line.push_str(format!(in alloc; ", version 3, {parts} flag parts in {rows} rows")?.as_str())?;
+    }
+    line.push_str("\n")?;
     Ok(line)
 }
 

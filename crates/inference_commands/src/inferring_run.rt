@@ -6,6 +6,7 @@ ghost use Rattle.command_parts.specs.Status.{IsStatus};
 ghost use Rattle.texts.specs.Device.{HasFailed, CountsNoFailure, Takes};
 
 use crate::finding::infer;
+use certificate::Version;
 use command_parts::{ExitStatus, Stop, keep_and_tell, read_all, read_rom};
 use explored_plans::Progress;
 use std::alloc::Global;
@@ -14,7 +15,7 @@ use texts::{DeviceFault, Sink, Source};
 
 /// `galcert check ROM [ANNOT] --infer [--cert FILE]`: finds annotations beside those in ANNOT, makes a certificate,
 /// writes its text to `keep` and then the table to `out`; or writes the refusal to `out` (docs/PROGRAM.md). The search
-/// takes at most `trials` trials. One line on `notes` says what was found. `keep` is used only for an accepted
+/// takes at most `trials` trials, and the certificate is of version `most` at most: 3, or less for 2. One line on `notes` says what was found. `keep` is used only for an accepted
 /// certificate, and the table is written only after `keep` took the whole text. What `notes` does changes nothing.
 /// `progress` is told of each trial.
 ///
@@ -25,6 +26,7 @@ pub fn infer_on<A: Source, B: Source, K: Sink, W: Sink, N: Sink, P: Progress>(
     rom: &mut A,
     annot: &mut B,
     trials: u32,
+    most: Version,
     keep: &mut K,
     out: &mut W,
     notes: &mut N,
@@ -65,6 +67,7 @@ pub fn infer_on<A: Source, B: Source, K: Sink, W: Sink, N: Sink, P: Progress>(
         bytes.as_slice(),
         text.as_slice(),
         trials,
+        most,
         &symbols,
         out,
         notes,

@@ -13,6 +13,7 @@ use address_map::Rom;
 use analysis::FlowFault;
 use annotations::Annotations;
 use cert_writer::{WriterFault, certify};
+use certificate::Version;
 use command_parts::{ExitStatus, read_all, read_rom};
 use explored_plans::Progress;
 use plan_search::{Inference, Judged, PlainRows, plain_annotations, without_fact};
@@ -100,7 +101,17 @@ pub fn suggest<W: Sink, N: Sink, P: Progress>(
         Ok(given) => given,
         Err(stop) => return stop.status(),
     };
-    let found = match find(alloc, rom, &given, trials, symbols, out, notes, progress) {
+    let found = match find(
+        alloc,
+        rom,
+        &given,
+        trials,
+        Version::Two,
+        symbols,
+        out,
+        notes,
+        progress,
+    ) {
         Ok(found) => found,
         Err(stop) => return stop.status(),
     };

@@ -1,5 +1,6 @@
 // Inferring runs on devices in memory.
 
+use certificate::Version;
 use inference_commands::{Unwatched, infer_on, suggest_on};
 use memory_devices::{Bytes, Taken};
 use std::alloc::Global;
@@ -26,6 +27,7 @@ pub fn inferred(alloc: Global, rom: &[u8], given: &[u8], trials: u32) -> Answer 
         &mut rom,
         &mut given,
         trials,
+        Version::Three,
         &mut keep,
         &mut out,
         &mut notes,

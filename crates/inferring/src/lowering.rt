@@ -2,7 +2,7 @@
 
 use analysis::FlowFault;
 use inferred_rows::ContextPoint;
-use row_worklist::{Findings, Setting, Worklist, bytes_of, parts_told, space_after, state_at_exit};
+use row_worklist::{Findings, Setting, Worklist, bytes_of, parts_told, space_after, state_at_exit, told_by};
 use std::alloc::Global;
 use std::collections::BTreeSet;
 use std::rc::Rc;
@@ -138,12 +138,13 @@ fn lowered(
         let judged = list.judged_row_at(alloc, setting.task, *number, row.as_ref())?;
         fresh.note_calls(alloc, setting, point, judged.as_ref())?;
         let sent = list.sent_by(alloc, setting, point, judged.as_ref())?;
+        let step = told_by(setting, *number, row.as_ref(), judged.as_ref());
         for arriving in sent.states.as_slice() {
             let to = first_class(arriving.to.number());
             sendings.push((to, *number))?;
             if is_among(scope.places, to) {
-                let space = space_after(setting.manner, &row.space, arriving);
-                let told = parts_told(setting, *number, row.as_ref(), judged.as_ref(), arriving);
+                let space = space_after(setting.manner, &row.space, &step, arriving);
+                let told = parts_told(*number, row.as_ref(), &step, arriving);
                 let _taken = fresh.take(alloc, setting, arriving, &space, &told, false)?;
             }
         }

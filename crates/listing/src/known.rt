@@ -3,10 +3,11 @@
 use crate::view::View;
 use abs_state::Mode;
 use certificate::RowRef;
+use flag_letters::FlagPart;
 use intervals::{Pair, RegPair};
 use loop_bounds::Linear;
 use row_texts::{
-    add_pair_texts, add_used_texts, fact_text, flag_text, pair_hull, shared_flag, used_by,
+    add_pair_texts, add_used_texts, fact_text, flag_text, pair_hull, part_text, shared_flag, used_by,
 };
 use std::alloc::AllocError;
 use survey::{PAIRS, RowAt};
@@ -49,6 +50,7 @@ impl View<'_> {
         self.add_facts(rows, &mut parts)?;
         if is_head || is_conditional(instr) {
             self.add_flag(rows, &mut parts)?;
+            self.add_flag_parts(rows, &mut parts)?;
         }
         Ok(parts)
     }
@@ -109,6 +111,29 @@ impl View<'_> {
     fn has_fact(&self, row: &RowAt, fact: &Linear) -> bool {
         match self.row(row) {
             Some(row) => row.facts.as_slice().contains(fact),
+            None => false,
+        }
+    }
+
+    /// Adds the flag parts of the first row that all rows have.
+    fn add_flag_parts(&self, rows: &[RowAt], parts: &mut Vec<String>) -> Result<(), AllocError> {
+        let Some(first) = rows.first() else {
+            return Ok(());
+        };
+        let Some(first) = self.row(first) else {
+            return Ok(());
+        };
+        for part in first.parts.parts() {
+            if rows.iter().all(|row| self.has_flag_part(row, part)) {
+                parts.push(part_text(self.alloc, part)?)?;
+            }
+        }
+        Ok(())
+    }
+
+    fn has_flag_part(&self, row: &RowAt, part: &FlagPart) -> bool {
+        match self.row(row) {
+            Some(row) => row.parts.parts().contains(part),
             None => false,
         }
     }

@@ -10,7 +10,7 @@ ghost use Rattle.texts.specs.Device.{HasFailed, CountsNoFailure, Takes};
 
 use crate::bytes_source::BytesSource;
 use annotations::Given;
-use certificate::Certificate;
+use certificate::{Certificate, Version};
 use command_parts::{ExitStatus, Stop, keep_and_tell, read_all, read_rom};
 use command_verdicts::bad_line;
 use commands::{make, read_annotations};
@@ -33,6 +33,8 @@ pub struct NamedCheck<'n> {
     pub names: &'n ProgramNames<'n>,
     /// How many trials the search for annotations may take; None where nothing is searched.
     pub trials: Option<u32>,
+    /// The greatest version that a certificate may have which a search finds: 3, or less for 2.
+    pub most_version: Version,
     /// Whether annotations are told without which the ROM is accepted too. After a search they are not.
     pub warns_unneeded: bool,
 }
@@ -357,7 +359,8 @@ fn certified<'r, W: Sink, N: Sink, P: Progress>(
 {
     if let Some(trials) = how.trials {
         let symbols = &how.names.names.symbols;
-        return infer(alloc, rom, said, trials, symbols, out, notes, progress);
+        let most = how.most_version;
+        return infer(alloc, rom, said, trials, most, symbols, out, notes, progress);
     }
     let annotations = match read_annotations(alloc, &mut BytesSource::of(said), out) {
         Ok(annotations) => annotations,

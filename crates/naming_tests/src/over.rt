@@ -1,5 +1,6 @@
 // The commands with names, over devices in memory.
 
+use certificate::Version;
 use inference_commands::Unwatched;
 use memory_devices::{Bytes, Taken};
 use named_commands::{NamedCheck, check_named_on, suggest_named_on};
@@ -74,6 +75,7 @@ pub(crate) fn check_failing(alloc: Global, files: Files<'_>, failing: Failing) -
                 NamedCheck {
                     names: &names,
                     trials: files.trials,
+                    most_version: Version::Three,
                     warns_unneeded: files.warns_unneeded,
                 },
                 &mut keep,

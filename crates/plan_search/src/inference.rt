@@ -7,7 +7,7 @@ use crate::search::{bound_and_lessen, clear};
 use address_map::Rom;
 use analysis::{FlowFault, judged_row};
 use annotations::Given;
-use cert_lines::WORK_LEN;
+use cert_lines::{Version, WORK_LEN};
 use explored_plans::{Base, ExploredPlan, Plan, Progress, Search, SearchContext};
 use inferred_rows::ContextPoint;
 use inferring::stack_depth;
@@ -39,6 +39,9 @@ pub struct Inference<'r, 'g> {
 /// given stays. The same ROM and the same given annotations always give the same answer. None if the ROM has no bytes
 /// or more than 16,384.
 ///
+/// Rows are judged by the rules of version 2 first. Where no certificate is accepted by them, and `most` is version 3, the
+/// search goes on from what it found by the rules of version 3. If these do not suffice either, the answer is the first.
+///
 /// # Errors
 ///
 /// `Limit` if an analysis takes more rows than a certificate can have; `NoMemory` where memory was refused.
@@ -47,6 +50,7 @@ pub fn inferred<'r, 'g, P: Progress>(
     bytes: &'r [u8],
     given: &'g Given,
     trials: u32,
+    most: Version,
     progress: &mut P,
 ) -> Result<Option<Inference<'r, 'g>>, FlowFault>
     // What is accepted is accepted for this ROM.
@@ -59,17 +63,65 @@ pub fn inferred<'r, 'g, P: Progress>(
     if given.nmi.is_none() && given.budget.is_none() && enables_nmis(alloc, &rom, &base)? {
         base.budget = Some(MAX_BUDGET as u16);
     }
-    let mut plan = Plan::empty(alloc);
+    let found = found_by(alloc, bytes, &rom, base, Plan::empty(alloc), trials, progress)?;
+    let Some(found) = found else {
+        return Ok(None);
+    };
+    if found.judged.answer().is_ok() || most != Version::Three {
+        return Ok(Some(found));
+    }
+    let base = Base {
+        version: Version::Three,
+        ..base
+    };
+    let plan = found.explored.plan.copied(alloc)?;
+    let left = trials.saturating_sub(found.trials);
+    match found_by(alloc, bytes, &rom, base, plan, left, progress) {
+        Ok(Some(more)) if more.judged.answer().is_ok() => {
+            let Inference {
+                base,
+                explored,
+                judged,
+                trials: more,
+                stuck,
+            } = more;
+            Ok(Some(Inference {
+                base,
+                explored,
+                judged,
+                trials: found.trials.saturating_add(more),
+                stuck,
+            }))
+        }
+        Ok(_) | Err(FlowFault::Limit) => Ok(Some(found)),
+        Err(FlowFault::NoMemory) => Err(FlowFault::NoMemory),
+    }
+}
+
+/// What a search from a plan finds by the rules of a base, in at most `trials` trials.
+fn found_by<'r, 'g, P: Progress>(
+    alloc: Global,
+    bytes: &'r [u8],
+    rom: &Rom,
+    base: Base<'g>,
+    plan: Plan,
+    trials: u32,
+    progress: &mut P,
+) -> Result<Option<Inference<'r, 'g>>, FlowFault>
+    ensures rom { IfOk result (λ found. IfSome found (λ f. f.judged ≡ bytes.now)) }
+{
+    let mut base = base;
+    let mut plan = plan;
     let mut left = trials;
     for round in 0..FITTINGS {
-        let is_last = given.low.is_some() || round == FITTINGS - 1;
+        let is_last = base.given.low.is_some() || round == FITTINGS - 1;
         let Fitting {
             explored,
             left: rest,
             low,
             judged,
             stuck,
-        } = fitted(alloc, bytes, &rom, &base, plan, left, is_last, progress)?;
+        } = fitted(alloc, bytes, rom, &base, plan, left, is_last, progress)?;
         left = rest;
         if let Some(judged) = judged {
             return Ok(Some(Inference {

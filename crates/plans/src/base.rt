@@ -4,12 +4,12 @@ use crate::deduced::{board_of_top, first_top};
 use address_map::{Region, Rom};
 use analysis::FlowFault;
 use annotations::Given;
-use cert_lines::{BoardMap, WORK_LEN};
+use cert_lines::{BoardMap, Version, WORK_LEN};
 use std::alloc::Global;
 use t_states::MAX_BUDGET;
 
-/// What a search is given: the region of the stack, the budget, the board, and the notes that stay.
-#[derive(Drop)]
+/// What a search is given: the region of the stack, the budget, the board, the notes that stay, and the rules.
+#[derive(Clone, Copy)]
 pub struct Base<'g> {
     pub region: Region,
     /// The T-states that the NMI routine may take; None if there is no routine.
@@ -17,10 +17,12 @@ pub struct Base<'g> {
     pub board: BoardMap,
     /// The notes that stay. Its region, budget and map are already in the fields above.
     pub given: &'g Given,
+    /// By the rules of which version rows are judged. Those of versions 1 and 2 are the same.
+    pub version: Version,
 }
 
 impl<'g> Base<'g> {
-    /// What is given, and what the ROM says of its board and of the stack.
+    /// What is given, and what the ROM says of its board and of the stack. The rules are those of version 2.
     ///
     /// # Errors
     ///
@@ -50,6 +52,7 @@ impl<'g> Base<'g> {
             budget,
             board,
             given,
+            version: Version::Two,
         })
     }
 }

@@ -70,7 +70,7 @@ pub fn linear_text(alloc: Global, linear: &Linear) -> Result<String, AllocError>
 }
 
 /// Whether the variable is a word.
-fn is_word(variable: Variable) -> bool {
+pub(crate) fn is_word(variable: Variable) -> bool {
     match variable {
         Variable::A
         | Variable::B
@@ -123,11 +123,20 @@ fn turned(number: i32, is_turned: bool) -> i64 {
     }
 }
 
-/// The text of a fact, which is a linear that is 0: its terms, the constant on the other side, with a positive term
-/// first. `BC + DE = 43B0`, `A - B = 5`. The constant has four hexadecimal digits if a variable is a word and it is 256
-/// or more, else it is decimal.
-pub fn fact_text(alloc: Global, fact: &Linear) -> Result<String, AllocError> {
-    let terms = fact.terms();
+/// A linear with its terms on one side and its constant on the other.
+#[derive(Drop)]
+pub(crate) struct Sides {
+    /// The terms, a positive one first.
+    pub sum: String,
+    /// The constant on the other side.
+    pub constant: i64,
+    /// Whether the signs are turned, since no term is positive.
+    pub is_turned: bool,
+}
+
+/// The two sides of a linear.
+pub(crate) fn sides_of(alloc: Global, linear: &Linear) -> Result<Sides, AllocError> {
+    let terms = linear.terms();
     let mut sum = String::new(alloc);
     let has_positive = terms.iter().any(|term| term.coefficient > 0);
     let is_turned = !has_positive && !terms.is_empty();
@@ -139,8 +148,19 @@ pub fn fact_text(alloc: Global, fact: &Linear) -> Result<String, AllocError> {
         }
         Some(_) => add_terms(alloc, &mut sum, terms, is_turned, None)?,
     }
-    let constant = turned(fact.constant(), !is_turned);
-    if constant >= 256 && terms.iter().any(|term| is_word(term.variable)) {
+    Ok(Sides {
+        sum,
+        constant: turned(linear.constant(), !is_turned),
+        is_turned,
+    })
+}
+
+/// The text of a fact, which is a linear that is 0: its terms, the constant on the other side, with a positive term
+/// first. `BC + DE = 43B0`, `A - B = 5`. The constant has four hexadecimal digits if a variable is a word and it is 256
+/// or more, else it is decimal.
+pub fn fact_text(alloc: Global, fact: &Linear) -> Result<String, AllocError> {
+    let Sides { sum, constant, .. } = sides_of(alloc, fact)?;
+    if constant >= 256 && fact.terms().iter().any(|term| is_word(term.variable)) {
         format!(in alloc; "{sum} = {constant:04X}")
     } else {
         format!(in alloc; "{sum} = {constant}")

@@ -10,6 +10,7 @@ use board_fetch::fetch;
 use cert_form::{PROC_LIMIT, ROW_LIMIT};
 use cert_lines::Version;
 use check_claims::StepSource;
+use check_steps::StepTold;
 use derived_parts::parts_after;
 use flag_letters::FlagParts;
 use inferred_rows::{
@@ -375,9 +376,10 @@ impl Worklist {
             }
         }
         let mut drops = !sent.lacking.is_empty();
+        let step = told_by(setting, number, row, judged);
         for arriving in sent.states.as_slice() {
-            let space = space_after(setting.manner, &row.space, arriving);
-            let told = parts_told(setting, number, row, judged, arriving);
+            let space = space_after(setting.manner, &row.space, &step, arriving);
+            let told = parts_told(number, row, &step, arriving);
             if !self.take(alloc, setting, arriving, &space, &told, true)? {
                 drops = true;
             }
@@ -739,29 +741,35 @@ fn entering<'s>(to: ContextPoint, state: &'s AbsState) -> Arriving<'s> {
     }
 }
 
-/// What a state that a judged row sends tells of the flags where it arrives. Nothing is told before version 3, nor by an
-/// analysis that keeps no relations, nor by a call or a return.
-pub fn parts_told(
-    setting: Setting,
-    number: u64,
-    row: &InferredRow,
-    judged: &JudgedRow,
-    arriving: &Arriving,
-) -> ArrivingParts {
-    let is_told = setting.manner.relates
-        && setting.task.version() == Version::Three
-        && arriving.kind == ArrivingKind::Jump;
-    if !is_told {
-        return ArrivingParts::none();
+/// What the step of a judged row says beside its successors. Nothing is said before version 3, nor in an analysis that keeps
+/// no relations.
+pub fn told_by(setting: Setting, number: u64, row: &InferredRow, judged: &JudgedRow) -> StepTold {
+    if !setting.manner.relates || setting.task.version() != Version::Three {
+        return StepTold::none();
     }
-    let address = ContextPoint::of(number).address;
-    let told = told_at(
+    told_at(
         setting.task,
-        address,
+        ContextPoint::of(number).address,
         judged.operand,
         &row.state,
         &row.parts,
-    );
+    )
+}
+
+/// What a state that a row sends tells of the flags where it arrives. A call or a return tells nothing.
+pub fn parts_told(
+    number: u64,
+    row: &InferredRow,
+    told: &StepTold,
+    arriving: &Arriving,
+) -> ArrivingParts {
+    let is_told = !told.conditions.before().is_empty() || !told.conditions.after().is_empty();
+    if !is_told || arriving.kind != ArrivingKind::Jump {
+        return ArrivingParts {
+            parts: FlagParts::empty(),
+            from: number,
+        };
+    }
     let source = StepSource {
         facts: row.relations.as_slice(),
         before: &row.state,
@@ -777,10 +785,20 @@ pub fn parts_told(
 }
 
 /// What is known of the variables together after a step.
-pub fn space_after(manner: Manner, space: &Space, arriving: &Arriving) -> Space {
-    if manner.relates {
-        space.after(&arriving.effect, arriving.state().shape.len())
-    } else {
-        Space::full()
+pub fn space_after(
+    manner: Manner,
+    space: &Space,
+    told: &StepTold,
+    arriving: &Arriving,
+) -> Space {
+    if !manner.relates {
+        return Space::full();
+    }
+    let slots = arriving.state().shape.len();
+    match &told.linear {
+        Some(linear) if arriving.kind == ArrivingKind::Jump => {
+            space.after_linear(&arriving.effect, slots, linear.variable, &linear.linear)
+        }
+        _ => space.after(&arriving.effect, slots),
     }
 }

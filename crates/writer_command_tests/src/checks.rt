@@ -1,5 +1,6 @@
 // Runs of `migrate` and `verify` on devices in memory.
 
+use certificate::Version;
 use commands::{migrate_on, verify_on};
 use memory_devices::{Bytes, Taken};
 use std::alloc::Global;
@@ -7,7 +8,7 @@ use std::alloc::Global;
 /// What `migrate` writes for this text. None if its status is not `status`.
 pub fn migrated(alloc: Global, cert: &[u8], status: u8) -> Option<Vec<u8>> {
     let (mut cert, mut out) = (Bytes::whole(cert), Taken::new(alloc));
-    if migrate_on(alloc, &mut cert, &mut out) == status {
+    if migrate_on(alloc, Version::Two, &mut cert, &mut out) == status {
         Some(out.bytes)
     } else {
         None

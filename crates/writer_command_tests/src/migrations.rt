@@ -2,6 +2,7 @@
 
 use crate::checks::{migrated, verifies};
 use crate::samples::{JUMP, JUMP_CERTIFICATE, TABLE};
+use certificate::Version;
 use commands::migrate_on;
 use memory_devices::{Bytes, Taken};
 use std::test::Fail;
@@ -53,10 +54,10 @@ fn devices_that_fail(rt: HostRuntime) {
     for calls in 0..9 {
         let mut cert = Bytes::whole(JUMP_CERTIFICATE.as_bytes());
         let mut out = Taken::failing(alloc, 4096, calls);
-        assert!(rt; migrate_on(alloc, &mut cert, &mut out) == 3);
+        assert!(rt; migrate_on(alloc, Version::Two, &mut cert, &mut out) == 3);
         assert!(rt; MIGRATED.as_bytes().starts_with(out.bytes.as_slice()));
     }
     let mut cert = Bytes::failing(JUMP_CERTIFICATE.as_bytes(), 20, 3);
     let mut out = Taken::new(alloc);
-    assert!(rt; migrate_on(alloc, &mut cert, &mut out) == 3 && out.asked() == 0);
+    assert!(rt; migrate_on(alloc, Version::Two, &mut cert, &mut out) == 3 && out.asked() == 0);
 }
