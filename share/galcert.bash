@@ -9,6 +9,10 @@ _galcert() {
     fi
     case $before in
         --trials | --max | --max-stack | --max-nmi | --until-nmi) return ;;
+        --to | --version-at-most)
+            mapfile -t COMPREPLY < <(compgen -W "2 3" -- "$word")
+            return
+            ;;
         --color)
             mapfile -t COMPREPLY < <(compgen -W "auto always never" -- "$word")
             return
@@ -19,7 +23,7 @@ _galcert() {
         case $command in
             check)
                 options="--infer --trials --cert --output --symbols --listing --warn-unneeded --max-stack --max-nmi"
-                options="$options --quiet --json"
+                options="$options --version-at-most --quiet --json"
                 ;;
             suggest) options="--trials --output --symbols --listing --quiet --json" ;;
             explain) options="--infer --trials --max --symbols --listing --json" ;;
@@ -27,6 +31,7 @@ _galcert() {
             run) options="--trace --until-nmi --dump --symbols --listing --json" ;;
             list) options="--symbols --listing --json" ;;
             report) options="--symbols --listing" ;;
+            migrate) options="--to" ;;
             longest) options="--rows --symbols --listing --json" ;;
             diff) options="--old-symbols --symbols" ;;
         esac
