@@ -10,7 +10,7 @@ use crate::bounding::{set_bounds, set_potentials};
 use crate::calls::{calls_of, procs_in_order, under_all};
 use crate::fault::WriterFault;
 use crate::layout::Layout;
-use crate::parts::{facts_fit, procs_of, rows_of, splits_of, version_of};
+use crate::parts::{facts_fit, procs_of, rows_of, splits_of, version_from, version_of};
 use crate::times::Timed;
 use abs_step::Reason;
 use address_map::Rom;
@@ -18,7 +18,7 @@ use analysis::{Flow, Task};
 use annotations::Annotations;
 use cert_checker::{Accepted, check};
 use cert_form::INLINE_LIMIT;
-use certificate::{Certificate, Parts, Proc, Row, Split};
+use certificate::{Certificate, Parts, Proc, Row, Split, Version};
 use check_rules::{Refused, region_fits};
 use std::alloc::Global;
 
@@ -78,7 +78,8 @@ pub fn certify<'r>(
     }
 }
 
-/// Makes a certificate for a ROM of what an analysis found by these annotations, and checks it once.
+/// Makes a certificate for a ROM of what an analysis found by these annotations, and checks it once. Its version is the
+/// one that the annotations need, but at least `version`. The analysis went by the rules of that version.
 ///
 /// # Errors
 ///
@@ -88,6 +89,7 @@ pub fn certify_flow<'r>(
     bytes: &'r [u8],
     said: &Annotations,
     flow: &Flow,
+    version: Version,
 ) -> Result<Accepted<'r>, WriterFault>
     ensures rom { IfOk result (λ accepted. accepted.rom ≡ bytes.now) }
     ensures accepted { IfOk result (λ accepted. Accepts bytes.now accepted.certificate) }
@@ -109,7 +111,8 @@ pub fn certify_flow<'r>(
     if said.inlines().len() > INLINE_LIMIT {
         return Err(WriterFault::Limit);
     }
-    let certificate = made_of(alloc, &rom, &task, said, flow)?;
+    let version = version_from(said, version);
+    let certificate = made_of(alloc, &rom, &task, said, flow, version)?;
     certificate.is_in_form();
     let checked = check(alloc, bytes, certificate);
     Ok(checked?)
@@ -134,7 +137,7 @@ fn made(alloc: Global, bytes: &[u8], said: &Annotations) -> Result<Certificate, 
         return Err(WriterFault::Limit);
     };
     let flow = Flow::run(alloc, &task)?;
-    made_of(alloc, &rom, &task, said, &flow)
+    made_of(alloc, &rom, &task, said, &flow, version_of(said))
 }
 
 /// A refusal of the whole, reported at 0000.
@@ -146,13 +149,14 @@ fn of_whole(reason: Reason) -> WriterFault {
     })
 }
 
-/// The certificate of what an analysis found.
+/// The certificate of this version of what an analysis found.
 fn made_of(
     alloc: Global,
     rom: &Rom,
     task: &Task,
     said: &Annotations,
     flow: &Flow,
+    version: Version,
 ) -> Result<Certificate, WriterFault>
     ensures said { IfOk result (λ c. (c.region ≡ said.now.region) × (c.budget ≡ said.now.budget)
         × (c.board ≡ said.now.board) × (c.cells ≡ said.now.cells)) }
@@ -173,8 +177,8 @@ fn made_of(
     let order = procs_in_order(alloc, &layout, &calls)?;
     let under = under_all(alloc, flow, &layout, &calls, &order)?;
     let procs = procs_of(alloc, &layout, &under)?;
-    let rows = rows_of(alloc, said, flow, &layout)?;
-    let mut certificate = without_bounds(alloc, rom, said, procs, splits, rows)?;
+    let rows = rows_of(alloc, version, said, flow, &layout)?;
+    let mut certificate = without_bounds(alloc, rom, said, version, procs, splits, rows)?;
     let timed = Timed::of(
         alloc,
         rom,
@@ -189,12 +193,13 @@ fn made_of(
     Ok(certificate)
 }
 
-/// The certificate of what the annotations say about the whole ROM, with these lists. The bounds are still missing: the
+/// The certificate of what the annotations say about the whole ROM, with this version and these lists. The bounds are still missing: the
 /// depths and times of the procedures, and the potentials of the rows.
 fn without_bounds(
     alloc: Global,
     rom: &Rom,
     said: &Annotations,
+    version: Version,
     procs: Vec<Proc>,
     splits: Vec<Split>,
     rows: Vec<Row>,
@@ -204,7 +209,7 @@ fn without_bounds(
         × (c.board ≡ said.now.board) × (c.cells ≡ said.now.cells)) }
 {
     let parts = Parts {
-        version: version_of(said),
+        version,
         rom_len: rom.len(),
         board: said.board(),
         region: said.region(),

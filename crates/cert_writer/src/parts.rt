@@ -3,6 +3,7 @@
 use crate::calls::RankedDepth;
 use crate::fault::WriterFault;
 use crate::layout::Layout;
+use abs_state::FlagFact;
 use analysis::{Flow, Noted, ProgramPoint, Task, facts_at, names_slots_below};
 use annotations::{Annotations, FactNote};
 use cert_fields::Facts;
@@ -20,6 +21,15 @@ pub(crate) fn version_of(said: &Annotations) -> Version {
     match said.board() {
         BoardMap::Galaxian if said.cells().is_empty() => Version::One,
         BoardMap::Galaxian | BoardMap::Raised => Version::Two,
+    }
+}
+
+/// The version that the annotations need, but no less than another one.
+pub(crate) fn version_from(said: &Annotations, least: Version) -> Version {
+    match (version_of(said), least) {
+        (_, Version::Three) | (Version::Three, _) => Version::Three,
+        (Version::One, Version::One) => Version::One,
+        _ => Version::Two,
     }
 }
 
@@ -73,13 +83,25 @@ fn facts_of(notes: &[FactNote], shape: &Shape) -> Facts {
     facts
 }
 
+/// What a row of a certificate of this version says of the flags: flag parts in version 3, and a flag fact before that.
+fn flags_of(version: Version, noted: &Noted) -> (Option<FlagFact>, FlagParts) {
+    match version {
+        Version::One | Version::Two => (noted.state.flag, FlagParts::empty()),
+        Version::Three => (None, noted.parts.copied()),
+    }
+}
+
 fn row_of(
+    version: Version,
     said: &Annotations,
     flow: &Flow,
     layout: &Layout,
     place: ProgramPoint,
     noted: &Noted,
 ) -> Row {
+    let (flag, parts) = flags_of(version, noted);
+    let mut state = noted.state.copied();
+    state.flag = flag;
     let facts = match flow.facts_of(place.number()) {
         Some(facts) => facts.copied(),
         None => facts_of(facts_at(said.facts(), place.address), &noted.state.shape),
@@ -87,23 +109,25 @@ fn row_of(
     Row {
         proc: layout.id_of(place.proc),
         address: place.address,
-        state: noted.state.copied(),
-        parts: FlagParts::empty(),
+        state,
+        parts,
         facts,
         potential: None,
     }
 }
 
-/// The rows that an analysis found, without potentials.
+/// The rows that an analysis found, for a certificate of this version, without potentials.
 pub(crate) fn rows_of(
     alloc: Global,
+    version: Version,
     said: &Annotations,
     flow: &Flow,
     layout: &Layout,
 ) -> Result<Vec<Row>, WriterFault> {
     let mut rows = Vec::new(alloc);
     for (number, noted) in flow.rows().iter() {
-        rows.push(row_of(said, flow, layout, ProgramPoint::of(*number), noted))?;
+        let place = ProgramPoint::of(*number);
+        rows.push(row_of(version, said, flow, layout, place, noted))?;
     }
     Ok(rows)
 }

@@ -172,6 +172,8 @@ impl Links {
                 end: link.to.saturating_add(1),
                 cost: link.cost,
                 effect: Effect::unchanged(),
+                moved: Effect::unchanged(),
+                linear: None,
             })?;
         }
         Ok(Requests {

@@ -11,7 +11,8 @@ use Rattle.abs_step.specs.declared.next.NextKind.{NextKind}
 use Rattle.cert_lines.specs.declared.row.Row.{Row}
 use Rattle.cert_form.specs.Contents.{CertificateView}
 use Rattle.check_ways.proofs.ExitLemmas.{subject_once}
-use Rattle.check_ways.specs.Pays.{IsGreatest, Lands, LieBetween, LiesBetween}
+use Rattle.check_ways.proofs.RestartLemmas.{own_jump, timed_stays}
+use Rattle.check_ways.specs.Pays.{IsGreatest, IsWalked, Lands, LieBetween, LiesBetween}
 use Rattle.check_ways.specs.Ways.{IsJump, IsNumbered, IsReturn, IsWay, SubjectView, WayView, nexts_from}
 use Rattle.path_time.specs.Links.{Added, AreLinks, HasLink, HaveRows, IsAny, IsArrival, IsArrivalOfSome, IsLink, IsWithin, arrival_by, arrival_of}
 use Rattle.path_time.specs.Table.{AreLinksFrom}
@@ -99,11 +100,12 @@ pub within_if_arrival : (s : SubjectView) (next : Next) (address start end : ℕ
 within_if_arrival s next address start end leads rows to arrival =
     (rows to arrival.row arrival.is).1 (arrival.of, same_Some arrival.row.address address (sym arrival.at ∙ sym leads))
 
--- by a jump
-arrives_by_jump : (s : SubjectView) (to : ℕ) (target : Row) (way : WayView) (jump : IsJump s way) → slice_get s.cert.rows to ≡ Some target → Lands s.cert way target →
-    IsArrival s jump.next to
-arrives_by_jump s to target way jump at lands =
-    let landed = subst (λ (w : WayView). Lands s.cert w target) jump.is lands in
+-- by a jump; a row on a walk is no restart
+arrives_by_jump : (s : SubjectView) (to : ℕ) (target : Row) (way : WayView) (jump : IsJump s way) → IsWalked s → slice_get s.cert.rows to ≡ Some target →
+    Lands s.cert way target → IsArrival s jump.next to
+arrives_by_jump s to target way jump walked at lands =
+    let own = own_jump s jump.next (timed_stays s walked.timed) in
+    let landed = subst (λ (w : WayView). Lands s.cert w target) (jump.is ∙ sym own) lands in
     record {
       row = target;
       is = at;
@@ -123,14 +125,14 @@ arrives_by_return s to target way back at lands =
       at = subst (λ (k : NextKind). arrival_by s back.next k ≡ Some target.address) (sym back.calls.kind) (ap Some (sym landed.at.at));
     }
 
-arrives_by_way : (s : SubjectView) (nexts : List Next) (to : ℕ) (target : Row) (way : WayView) → nexts_from s ≡ nexts → slice_get s.cert.rows to ≡ Some target →
-    IsWay s way → Lands s.cert way target → IsArrivalOfSome s nexts to
-arrives_by_way s nexts to target way same at (inl jump) lands = record {
+arrives_by_way : (s : SubjectView) (nexts : List Next) (to : ℕ) (target : Row) (way : WayView) → nexts_from s ≡ nexts → IsWalked s →
+    slice_get s.cert.rows to ≡ Some target → IsWay s way → Lands s.cert way target → IsArrivalOfSome s nexts to
+arrives_by_way s nexts to target way same walked at (inl jump) lands = record {
   next = jump.next;
   among = subst (λ (ns : List Next). Contains ns jump.next) same jump.leads;
-  is = arrives_by_jump s to target way jump at lands;
+  is = arrives_by_jump s to target way jump walked at lands;
 }
-arrives_by_way s nexts to target way same at (inr back) lands = record {
+arrives_by_way s nexts to target way same walked at (inr back) lands = record {
   next = back.next;
   among = subst (λ (ns : List Next). Contains ns back.next) same back.calls.leads;
   is = arrives_by_return s to target way back at lands;
@@ -143,7 +145,7 @@ arrives rom cert from s nexts is same to next =
     let lie = next.lie in
     let lies = subst (λ (x : SubjectView). LiesBetween x lie.target next.cost) (subject_once rom cert from lie.subject s lie.is_from is) lie.lies in
     let at = subst (λ (c : CertificateView). slice_get c.rows to ≡ Some lie.target) (sym is.same.1) lie.is_to in
-    arrives_by_way s nexts to lie.target lies.way same at lies.leads.is_way lies.leads.lands
+    arrives_by_way s nexts to lie.target lies.way same lies.walked at lies.leads.is_way lies.leads.lands
 
 -- if a row has no successors, none may come next
 pub none_arrives : (rom : List ℕ) (cert : CertificateView) (from : ℕ) (s : SubjectView) → IsNumbered rom cert from s → nexts_from s ≡ [] → (to : ℕ) →

@@ -5,6 +5,7 @@ ghost use Rattle.std.specs.Prelude.{◌≡◌, IfOk};
 use analysis::{Flow, FlowFault};
 use annotations::Annotations;
 use cert_checker::Accepted;
+use cert_lines::Version;
 use cert_writer::{WriterFault, certify_flow};
 use explored_plans::{ExploredPlan, SearchContext, exploring};
 use fact_closure::{FactSearch, NeededFacts, facts_and_rows};
@@ -61,7 +62,7 @@ impl<'r> Judged<'r> {
         let Some(flow) = &self.flow else {
             return Ok(false);
         };
-        match certify_flow(alloc, self.bytes, said, flow) {
+        match certify_flow(alloc, self.bytes, said, flow, Version::One) {
             Err(WriterFault::NoMemory) => Err(FlowFault::NoMemory),
             Err(_) => Ok(false),
             Ok(_) => Ok(true),
@@ -141,7 +142,7 @@ pub(crate) fn judge_with<'r>(
         )?,
     };
     let flow = flow_of(alloc, setting, list)?;
-    match certify_flow(alloc, bytes, &explored.said, &flow) {
+    match certify_flow(alloc, bytes, &explored.said, &flow, Version::One) {
         Err(WriterFault::NoMemory) => Err(FlowFault::NoMemory),
         answer => Ok(Judged {
             bytes,

@@ -5,12 +5,31 @@ use crate::sums::{
 };
 use abs_state::AbsState;
 use cert_contents::Certificate;
+use check_claims::{Rewriting, constants_first, variables_first};
+use check_payments::pays_either_way;
 use loop_bounds::{Effect, GREATEST_CONSTANT, Linear, Variable, decreases};
 use write_requests::{Request, Requests};
 
 /// The potential of a row, by its number within the procedure, if it is known.
 fn known_at(known: &[Option<Linear>], row: u32) -> Option<Linear> {
     *known.get(row as usize)?
+}
+
+/// These terms with the least constant that pays the cost and leaves a potential, rewritten in this way; None if a
+/// certificate has no room for it.
+fn least_from(
+    terms: &Linear,
+    cost: u32,
+    to: &Linear,
+    rewriting: &Rewriting,
+    source: &AbsState,
+    target: &AbsState,
+) -> Option<Linear> {
+    let least = least_left(terms, to, rewriting, source, target);
+    let needed = i128::from(cost)
+        .saturating_sub(least)
+        .max(-i128::from(GREATEST_CONSTANT));
+    with_constant(terms, i32::try_from(needed).ok()?)
 }
 
 /// The least constant with which these terms pay the cost and leave a potential, rewritten by the effect; None if no
@@ -23,13 +42,79 @@ fn least_constant(
     source: &AbsState,
     target: &AbsState,
 ) -> Option<i32> {
-    let least = least_left(terms, to, effect, source, target);
-    let needed = i128::from(cost)
-        .saturating_sub(least)
-        .max(-i128::from(GREATEST_CONSTANT));
-    let constant = i32::try_from(needed).ok()?;
-    let from = with_constant(terms, constant)?;
-    decreases(&from, to, cost, effect, source, target).then_some(constant)
+    let rewriting = by_effect(effect);
+    let from = least_from(terms, cost, to, &rewriting, source, target)?;
+    decreases(&from, to, cost, effect, source, target).then_some(from.constant())
+}
+
+/// The same for a request: with constants first or with variables first, whichever needs less.
+fn least_constant_for(
+    terms: &Linear,
+    request: &Request,
+    to: &Linear,
+    source: &AbsState,
+    target: &AbsState,
+) -> Option<i32> {
+    let (first, second) = rewritings_of(request);
+    match second {
+        None => least_constant(terms, request.cost, to, &request.effect, source, target),
+        Some(second) => lesser(
+            least_constant_by(terms, request, to, &first, source, target),
+            least_constant_by(terms, request, to, &second, source, target),
+        ),
+    }
+}
+
+/// The least constant with which these terms pay for a request and leave a potential, rewritten in this way; None if no
+/// constant does.
+fn least_constant_by(
+    terms: &Linear,
+    request: &Request,
+    to: &Linear,
+    rewriting: &Rewriting,
+    source: &AbsState,
+    target: &AbsState,
+) -> Option<i32> {
+    let from = least_from(terms, request.cost, to, rewriting, source, target)?;
+    let pays = pays_either_way(
+        &from,
+        to,
+        request.cost,
+        &request.effect,
+        &request.moved,
+        &request.linear,
+        source,
+        target,
+    );
+    pays.then_some(from.constant())
+}
+
+/// The rewriting by an effect alone.
+fn by_effect(effect: &Effect) -> Rewriting {
+    Rewriting {
+        effect: *effect,
+        change: None,
+    }
+}
+
+/// The ways to rewrite the potential of a request's row: constants first and, if that is another way, variables first.
+fn rewritings_of(request: &Request) -> (Rewriting, Option<Rewriting>) {
+    if request.is_plain() {
+        return (by_effect(&request.effect), None);
+    }
+    (
+        constants_first(&request.effect, &request.linear),
+        Some(variables_first(&request.effect, &request.moved, &request.linear)),
+    )
+}
+
+/// The lesser of two constants, or the only one.
+fn lesser(one: Option<i32>, other: Option<i32>) -> Option<i32> {
+    match (one, other) {
+        (Some(one), Some(other)) => Some(one.min(other)),
+        (Some(one), None) => Some(one),
+        (None, other) => other,
+    }
 }
 
 /// The greater of two constants, or the only one.
@@ -122,12 +207,12 @@ impl<'a> Payer<'a> {
     /// The least constant with which these terms pay for a next row with this potential; None if no constant does. Of
     /// the next row's state only the ranges of the potential's variables count, so it is not made for a constant.
     fn constant_to(&self, terms: &Linear, request: &Request, row: u32, to: &Linear) -> Option<i32> {
-        let (cost, effect) = (request.cost, &request.effect);
         if to.terms().is_empty() {
+            let (cost, effect) = (request.cost, &request.effect);
             return least_constant(terms, cost, to, effect, &self.state, &self.state);
         }
         let target = self.certificate.state(self.first.saturating_add(row))?;
-        least_constant(terms, cost, to, effect, &self.state, &target)
+        least_constant_for(terms, request, to, &self.state, &target)
     }
 
     /// These terms with the least constant that pays for all requests; 0 if there are none.
@@ -144,10 +229,16 @@ impl<'a> Payer<'a> {
         }
     }
 
-    /// The terms of the next row's potential before the step to it, if there are any and this row has their variables.
-    fn terms_at(&self, request: &Request, row: u32, known: &[Option<Linear>]) -> Option<Linear> {
+    /// The terms of the next row's potential before the step to it, rewritten in this way, if there are any and this row
+    /// has their variables.
+    fn terms_at(
+        &self,
+        rewriting: &Rewriting,
+        row: u32,
+        known: &[Option<Linear>],
+    ) -> Option<Linear> {
         let to = known_at(known, row)?;
-        let terms = terms_before(&to, &request.effect)?;
+        let terms = terms_before(&to, rewriting)?;
         if terms.terms().is_empty() || !names_slots_below(&terms, self.state.shape.len()) {
             return None;
         }
@@ -158,14 +249,33 @@ impl<'a> Payer<'a> {
     pub fn best_carrying(&self, turn: &Linear, known: &[Option<Linear>]) -> Result<Linear, Unpaid> {
         let mut best = self.least_with(turn, known);
         for request in self.requests.of_rows.as_slice() {
-            for row in request.start..request.end {
-                let Some(terms) = self.terms_at(request, row, known) else {
-                    continue;
-                };
-                if let Some(both) = with_others(turn, &terms) {
-                    if let Ok(other) = self.least_with(&both, known) {
-                        best = self.better(best, other);
-                    }
+            let (first, second) = rewritings_of(request);
+            best = self.best_carrying_by(request, &first, turn, known, best);
+            if let Some(second) = second {
+                best = self.best_carrying_by(request, &second, turn, known, best);
+            }
+        }
+        best
+    }
+
+    /// The better of a potential and of those that have the multiple and the terms of one request, rewritten in this
+    /// way.
+    fn best_carrying_by(
+        &self,
+        request: &Request,
+        rewriting: &Rewriting,
+        turn: &Linear,
+        known: &[Option<Linear>],
+        before: Result<Linear, Unpaid>,
+    ) -> Result<Linear, Unpaid> {
+        let mut best = before;
+        for row in request.start..request.end {
+            let Some(terms) = self.terms_at(rewriting, row, known) else {
+                continue;
+            };
+            if let Some(both) = with_others(turn, &terms) {
+                if let Ok(other) = self.least_with(&both, known) {
+                    best = self.better(best, other);
                 }
             }
         }
@@ -216,10 +326,26 @@ impl<'a> Payer<'a> {
         known: &[Option<Linear>],
         before: Result<Linear, Unpaid>,
     ) -> Result<Linear, Unpaid> {
+        let (first, second) = rewritings_of(request);
+        let best = self.best_rewritten(request, &first, known, before);
+        match second {
+            Some(second) => self.best_rewritten(request, &second, known, best),
+            None => best,
+        }
+    }
+
+    /// The same for terms that are rewritten in this way.
+    fn best_rewritten(
+        &self,
+        request: &Request,
+        rewriting: &Rewriting,
+        known: &[Option<Linear>],
+        before: Result<Linear, Unpaid>,
+    ) -> Result<Linear, Unpaid> {
         let mut best = before;
         let mut last = Linear::zero();
         for row in request.start..request.end {
-            if let Some(terms) = self.terms_at(request, row, known) {
+            if let Some(terms) = self.terms_at(rewriting, row, known) {
                 if terms != last {
                     last = terms;
                     if let Ok(other) = self.least_with(&terms, known) {

@@ -1,6 +1,7 @@
 // Linears made of terms, and their least and greatest values over the ranges of a state.
 
 use abs_state::AbsState;
+use check_claims::Rewriting;
 use intervals::WordRange;
 use loop_bounds::{Change, Effect, Linear, Ranges, Term, Variable};
 
@@ -82,12 +83,37 @@ fn add(terms: &mut [Option<Term>], added: Term) {
     }
 }
 
-/// The terms of a linear before a step with this effect, with the constant 0; None if a coefficient is above 1,000,000
-/// in size.
-pub(crate) fn terms_before(linear: &Linear, effect: &Effect) -> Option<Linear> {
-    let mut terms = [None; 3];
+/// Adds a multiple of the terms of a linear.
+fn add_multiple(terms: &mut [Option<Term>], coefficient: i32, linear: &Linear) {
     for term in linear.terms() {
-        if let Some(variable) = variable_before(effect, term.variable) {
+        add(
+            terms,
+            Term {
+                coefficient: coefficient.saturating_mul(term.coefficient),
+                variable: term.variable,
+            },
+        );
+    }
+}
+
+/// The linear that a step makes of a variable, if it does.
+fn linear_before(rewriting: &Rewriting, variable: Variable) -> Option<Linear> {
+    let change = rewriting.change?;
+    if change.variable == variable {
+        Some(change.value)
+    } else {
+        None
+    }
+}
+
+/// The terms of a linear before a step, rewritten in this way, with the constant 0; None if there are more than three,
+/// or a coefficient is above 1,000,000 in size.
+pub(crate) fn terms_before(linear: &Linear, rewriting: &Rewriting) -> Option<Linear> {
+    let mut terms = [None; 6];
+    for term in linear.terms() {
+        if let Some(value) = linear_before(rewriting, term.variable) {
+            add_multiple(&mut terms, term.coefficient, &value);
+        } else if let Some(variable) = variable_before(&rewriting.effect, term.variable) {
             add(
                 &mut terms,
                 Term {
@@ -104,13 +130,28 @@ pub(crate) fn terms_before(linear: &Linear, effect: &Effect) -> Option<Linear> {
 #[derive(Drop)]
 struct SumBefore {
     constant: i128,
-    terms: [Option<Term>; 6],
+    terms: [Option<Term>; 8],
 }
 
 impl SumBefore {
+    /// Adds a term over a variable after the step, rewritten in this way.
+    fn add_after(&mut self, term: Term, rewriting: &Rewriting, target: &AbsState) {
+        match linear_before(rewriting, term.variable) {
+            Some(value) => self.add_linear(term.coefficient, &value),
+            None => self.add_changed(term, &rewriting.effect, target),
+        }
+    }
+
+    /// Adds a multiple of a linear over the variables before the step.
+    fn add_linear(&mut self, coefficient: i32, linear: &Linear) {
+        let constant = i128::from(coefficient).saturating_mul(i128::from(linear.constant()));
+        self.constant = self.constant.saturating_add(constant);
+        add_multiple(&mut self.terms, coefficient, linear);
+    }
+
     /// Adds a term over a variable after the step, rewritten by the effect. For an unknown variable that is the term's
     /// least value over the target's range.
-    fn add_after(&mut self, term: Term, effect: &Effect, target: &AbsState) {
+    fn add_changed(&mut self, term: Term, effect: &Effect, target: &AbsState) {
         let (old, constant) = match effect.change(term.variable) {
             Change::Old(old) => (Some(old), 0),
             Change::Raised(old) => (Some(old), i128::from(term.coefficient)),
@@ -151,17 +192,17 @@ impl SumBefore {
     }
 }
 
-/// The least value, over the source's ranges, of some terms minus a linear that is rewritten by the effect.
+/// The least value, over the source's ranges, of some terms minus a linear that is rewritten in this way.
 pub(crate) fn least_left(
     terms: &Linear,
     to: &Linear,
-    effect: &Effect,
+    rewriting: &Rewriting,
     source: &AbsState,
     target: &AbsState,
 ) -> i128 {
     let mut left = SumBefore {
         constant: i128::from(to.constant()).saturating_neg(),
-        terms: [None; 6],
+        terms: [None; 8],
     };
     for term in terms.terms() {
         add(&mut left.terms, *term);
@@ -173,7 +214,7 @@ pub(crate) fn least_left(
                 coefficient,
                 ..*term
             },
-            effect,
+            rewriting,
             target,
         );
     }

@@ -9,8 +9,11 @@ use abs_step::{Next, NextKind};
 use address_map::{Map, Rom};
 use call_graph::ProcId;
 use cert_contents::{Certificate, RowId};
+use cert_lines::Version;
 use check_cover::{Callee, callee_at};
+use check_steps::StepTold;
 use check_ways::{Subject, is_lone, overlaps_state};
+use linear_effects::LinearEffect;
 use loop_bounds::Effect;
 use std::alloc::{AllocError, Global};
 
@@ -23,12 +26,63 @@ pub struct Request {
     pub end: u32,
     pub cost: u32,
     pub effect: Effect,
+    /// In version 3 the effect without priority for constants; before that the effect again.
+    pub moved: Effect,
+    /// In version 3 the variable that the step makes a linear of the variables before it, if there is one.
+    pub linear: Option<LinearEffect>,
 }
 
 impl Request {
-    /// Whether another request has the same rows and effect.
+    /// Whether a potential is rewritten by the effect alone, constants first or not.
+    pub fn is_plain(&self) -> bool {
+        self.linear.is_none() && self.moved == self.effect
+    }
+
+    /// Whether another request has the same rows and effects.
     fn is_like(&self, other: &Request) -> bool {
-        self.start == other.start && self.end == other.end && self.effect == other.effect
+        self.start == other.start
+            && self.end == other.end
+            && self.effect == other.effect
+            && self.moved == other.moved
+            && are_equal(&self.linear, &other.linear)
+    }
+}
+
+/// Whether two linear effects are the same.
+fn are_equal(one: &Option<LinearEffect>, other: &Option<LinearEffect>) -> bool {
+    match (one, other) {
+        (None, None) => true,
+        (Some(one), Some(other)) => one.variable == other.variable && one.linear == other.linear,
+        _ => false,
+    }
+}
+
+/// A way to an address of the row's procedure: the state that arrives, the effects and the cost in T-states.
+#[derive(Drop)]
+struct Arriving<'a> {
+    address: u16,
+    state: &'a AbsState,
+    effect: &'a Effect,
+    moved: &'a Effect,
+    linear: Option<LinearEffect>,
+    cost: u32,
+}
+
+impl<'a> Arriving<'a> {
+    /// The request of the rows from `start` to below `end`, counted from the row `first`.
+    fn request(&self, version: Version, first: RowId, start: RowId, end: RowId) -> Request {
+        let (moved, linear) = match version {
+            Version::One | Version::Two => (self.effect, None),
+            Version::Three => (self.moved, self.linear),
+        };
+        Request {
+            start: start.saturating_sub(first),
+            end: end.saturating_sub(first),
+            cost: self.cost,
+            effect: *self.effect,
+            moved: *moved,
+            linear,
+        }
     }
 }
 
@@ -67,29 +121,39 @@ impl Requests {
             of_rows: Vec::new(alloc),
             leaving: None,
         };
-        if let Ok(nexts) = subject.step(alloc) {
+        // A restart goes on in main, which has no potentials.
+        if subject.restarts() {
+            return Ok(requests);
+        }
+        let step = subject.row_step(alloc);
+        if let Ok(nexts) = &step.answer {
             for next in nexts.as_slice() {
-                requests.add(alloc, subject, times, next)?;
+                requests.add(alloc, subject, times, next, &step.told)?;
             }
         }
         Ok(requests)
     }
 
-    /// Adds the requests of a successor.
+    /// Adds the requests of a successor. `told` is what the step says beside it.
     fn add(
         &mut self,
         alloc: Global,
         subject: &Subject,
         times: &[u32],
         next: &Next,
+        told: &StepTold,
     ) -> Result<(), AllocError> {
         match next.kind {
             NextKind::Jump => self.add_rows(
                 subject,
-                next.address,
-                &next.state,
-                &next.effect,
-                u32::from(next.cost),
+                &Arriving {
+                    address: next.address,
+                    state: &next.state,
+                    effect: &next.effect,
+                    moved: &next.moved,
+                    linear: told.linear,
+                    cost: u32::from(next.cost),
+                },
             ),
             NextKind::Exit => {
                 self.leaving = greater(self.leaving, u32::from(next.cost));
@@ -102,51 +166,39 @@ impl Requests {
         }
     }
 
-    /// Adds the requests of a way to an address, at which this state arrives.
-    fn add_rows(
-        &mut self,
-        subject: &Subject,
-        address: u16,
-        state: &AbsState,
-        effect: &Effect,
-        cost: u32,
-    ) -> Result<(), AllocError> {
+    /// Adds the requests of a way.
+    fn add_rows(&mut self, subject: &Subject, way: &Arriving) -> Result<(), AllocError> {
         let certificate = subject.certificate;
         let proc = subject.row.proc;
-        let rows = certificate.rows_at(proc, address);
-        let first = certificate.rows_of(proc).start;
-        let lone = is_lone(certificate, proc, address);
+        let rows = certificate.rows_at(proc, way.address);
+        let lone = is_lone(certificate, proc, way.address);
         let mut start = rows.start;
         for id in rows.start..rows.end {
-            if !lone && !is_met(certificate, id, state) {
-                self.add_run(first, start, id, effect, cost)?;
+            if !lone && !is_met(certificate, id, way.state) {
+                self.add_run(subject, way, start, id)?;
                 start = id.saturating_add(1);
             }
         }
-        self.add_run(first, start, rows.end, effect, cost)
+        self.add_run(subject, way, start, rows.end)
     }
 
-    /// Adds the rows from `start` to below `end`, if there are any. If the last request has the same rows and effect,
+    /// Adds the rows from `start` to below `end`, if there are any. If the last request has the same rows and effects,
     /// it stays, with the greater cost.
     fn add_run(
         &mut self,
-        first: RowId,
+        subject: &Subject,
+        way: &Arriving,
         start: RowId,
         end: RowId,
-        effect: &Effect,
-        cost: u32,
     ) -> Result<(), AllocError> {
         if start >= end {
             return Ok(());
         }
-        let run = Request {
-            start: start.saturating_sub(first),
-            end: end.saturating_sub(first),
-            cost,
-            effect: *effect,
-        };
+        let certificate = subject.certificate;
+        let first = certificate.rows_of(subject.row.proc).start;
+        let run = way.request(certificate.version(), first, start, end);
         match self.of_rows.last_mut() {
-            Some(last) if last.is_like(&run) => last.cost = last.cost.max(cost),
+            Some(last) if last.is_like(&run) => last.cost = last.cost.max(run.cost),
             _ => self.of_rows.push(run)?,
         }
         Ok(())
@@ -172,8 +224,17 @@ impl Requests {
                     if exit.kind == NextKind::Exit {
                         comes_back = true;
                         let way = subject.return_way(next, callee, &exit.state);
-                        let cost = way.cost.saturating_add(time);
-                        self.add_rows(subject, way.address, &way.state, &way.effect, cost)?;
+                        self.add_rows(
+                            subject,
+                            &Arriving {
+                                address: way.address,
+                                state: &way.state,
+                                effect: &way.effect,
+                                moved: &way.moved,
+                                linear: None,
+                                cost: way.cost.saturating_add(time),
+                            },
+                        )?;
                     }
                 }
             }

@@ -1,8 +1,10 @@
-// The tests of the writer: worked rows, families of ROMs, refusals, and refused memory.
+// The tests of the writer: worked rows, families of ROMs, version 3, refusals, and refused memory.
 #![tactic(auto)]
 
 #[cfg(test)]
 mod families;
+#[cfg(test)]
+mod flag_parts;
 #[cfg(test)]
 mod memory;
 #[cfg(test)]

@@ -30,7 +30,7 @@ pub const WITH_LOOP: &str = with_nmi!("loop = [{ at = 0x69, counter = \"B\" }]\n
 pub const ENABLING: [u8; 10] = [0x31, 0x00, 0x44, 0x3E, 0x01, 0x32, 0x01, 0x70, 0x18, 0xFE];
 
 /// The ROM with these bytes and, if there is one, this NMI routine at 0066.
-fn rom_of(alloc: Global, main: &[u8], routine: &[u8]) -> Result<Vec<u8>, AllocError> {
+pub fn rom_of(alloc: Global, main: &[u8], routine: &[u8]) -> Result<Vec<u8>, AllocError> {
     let mut rom = Vec::from_slice(alloc, main)?;
     if !routine.is_empty() {
         rom.resize(0x66, 0)?;
