@@ -2,17 +2,18 @@
 
 use crate::reported::report;
 use certificate::Version;
+use clap::ArgMatches;
 use texts::Sink;
 
 /// The version, 2 or 3, that the word of an option says, or `unsaid` where there is no word. If the word is out of form,
 /// it is reported.
 pub fn version_of<N: Sink>(
     notes: &mut N,
-    word: Option<&str>,
+    matches: &ArgMatches,
     option: &str,
     unsaid: Version,
 ) -> Option<Version> {
-    match word {
+    match matches.get_str(option) {
         None => Some(unsaid),
         Some("2") => Some(Version::Two),
         Some("3") => Some(Version::Three),

@@ -7,8 +7,8 @@ use crate::names::COMMAND;
 use crate::options::{
     annot, cert, cert_option, color_option, dump_option, entry, file, infer_option, json_option,
     listing_option, max_nmi_option, max_option, max_stack_option, old_symbols_option,
-    output_option, quiet_option, rom, rows_option, second, symbols_option, trace_option,
-    to_option, trials_option, unneeded_option, until_nmi_option, version_at_most_option,
+    output_option, quiet_option, rom, rows_option, second, symbols_option, to_option, trace_option,
+    trials_option, unneeded_option, until_nmi_option, version_at_most_option,
 };
 use clap::{Arg, ArgAction, Command};
 use std::alloc::{AllocError, Global};

@@ -63,12 +63,7 @@ pub fn a_less(variable: Variable) -> Linear {
 }
 
 /// The refined step from address 0000 of a ROM, in a called procedure, without kept cells and inline calls.
-fn refined(
-    alloc: Global,
-    rom: &[u8],
-    state: &AbsState,
-    parts: &FlagParts,
-) -> Option<RefinedStep> {
+fn refined(alloc: Global, rom: &[u8], state: &AbsState, parts: &FlagParts) -> Option<RefinedStep> {
     let rom = Rom::of(rom)?;
     let map = Map::galaxian(rom.len());
     let ground = Ground::of(&rom, &map, &[]);

@@ -183,8 +183,9 @@ fn has_room(setting: Setting, table: &Guide, needs: &Needs, wanted: &Wanted) -> 
             taken < FACTS
         }
         Claim::Part(_) => {
-            let taken = count_of_parts(table.parts.get(row))
-                .saturating_add(count_of_parts(needs.parts.get(row)));
+            let taken = count_of_parts(table.parts.get(row)).saturating_add(count_of_parts(
+                needs.parts.get(row),
+            ));
             taken < flag_letters::MOST_PARTS
         }
     }

@@ -36,9 +36,7 @@ fn condition_of(instr: &Instr) -> Option<Condition> {
 /// Whether an instruction adds or subtracts with the carry.
 fn reads_carry(instr: &Instr) -> bool {
     match instr {
-        Instr::Arithmetic(kind, _) => {
-            matches!(kind, ArithmeticKind::Adc | ArithmeticKind::Sbc)
-        }
+        Instr::Arithmetic(kind, _) => { matches!(kind, ArithmeticKind::Adc | ArithmeticKind::Sbc) }
         Instr::AdcHl(_) | Instr::SbcHl(_) => true,
         _ => false,
     }

@@ -54,7 +54,7 @@ pub fn check_files<'a>(rt: &'a HostRuntime, matches: &ArgMatches<'a>, notes: &mu
     }
     let (Some(trials), Some(most), Some(limits)) = (
         trials_of(matches, notes),
-        version_of(notes, matches.get_str(VERSION_AT_MOST), VERSION_AT_MOST, Version::Three),
+        version_of(notes, matches, VERSION_AT_MOST, Version::Three),
         Limits::of(matches, notes),
     ) else {
         return ExitStatus::Usage.code();
@@ -147,21 +147,23 @@ fn check_by_names<K: Sink, W: Sink>(
     out: &mut W,
     notes: &mut Remarks,
 ) -> u8 {
-    let MakeRequest {
-        rt,
-        matches,
-        trials,
-        most,
-        ..
-    } = asked;
     let how = NamedCheck {
         names,
-        trials: matches.get_flag(INFER).then_some(trials),
-        most_version: most,
-        warns_unneeded: matches.get_flag(WARN_UNNEEDED),
+        trials: asked.matches.get_flag(INFER).then_some(asked.trials),
+        most_version: asked.most,
+        warns_unneeded: asked.matches.get_flag(WARN_UNNEEDED),
     };
-    let progress = &mut searching(rt);
-    check_named_on(rt.alloc(), rom, annot, how, keep, out, notes, progress)
+    let progress = &mut searching(asked.rt);
+    check_named_on(
+        asked.rt.alloc(),
+        rom,
+        annot,
+        how,
+        keep,
+        out,
+        notes,
+        progress,
+    )
 }
 
 /// Checks without names for addresses. The result is the exit status.
@@ -173,28 +175,13 @@ fn check_plain<K: Sink, W: Sink>(
     out: &mut W,
     notes: &mut Remarks,
 ) -> u8 {
-    let MakeRequest {
-        rt,
-        matches,
-        trials,
-        most,
-        ..
-    } = asked;
-    if !matches.get_flag(INFER) {
-        return check_on(rt.alloc(), rom, annot, keep, out);
+    let alloc = asked.rt.alloc();
+    if !asked.matches.get_flag(INFER) {
+        return check_on(alloc, rom, annot, keep, out);
     }
-    let progress = &mut searching(rt);
-    infer_on(
-        rt.alloc(),
-        rom,
-        annot,
-        trials,
-        most,
-        keep,
-        out,
-        notes,
-        progress,
-    )
+    let (trials, most) = (asked.trials, asked.most);
+    let progress = &mut searching(asked.rt);
+    infer_on(alloc, rom, annot, trials, most, keep, out, notes, progress)
 }
 
 /// The annotations; none if they are not named. Their text is remembered for hints.

@@ -66,7 +66,7 @@ fn wanted_output<'a>(rt: &'a HostRuntime, matches: &ArgMatches) -> Out<'a> {
 
 /// `galcert migrate`. The result is the exit status.
 pub fn migrate_file<'a>(rt: &'a HostRuntime, matches: &ArgMatches<'a>, notes: &mut Remarks) -> u8 {
-    let Some(version) = version_of(notes, matches.get_str(TO), TO, Version::Two) else {
+    let Some(version) = version_of(notes, matches, TO, Version::Two) else {
         return ExitStatus::Usage.code();
     };
     let mut cert = input(rt, matches, "CERT");

@@ -203,7 +203,9 @@ fn found_line(alloc: Global, found: &Inference, symbols: &Symbols) -> Result<Str
     )?.as_str())?;
     if found.base.version == Version::Three {
         let (parts, rows) = (counts.parts, counts.parted_rows);
-        line.push_str(format!(in alloc; ", version 3, {parts} flag parts in {rows} rows")?.as_str())?;
+        line.push_str(format!(in alloc;
+            ", version 3, {parts} flag parts in {rows} rows"
+        )?.as_str())?;
     }
     line.push_str("\n")?;
     Ok(line)

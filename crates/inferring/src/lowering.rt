@@ -2,7 +2,9 @@
 
 use analysis::FlowFault;
 use inferred_rows::ContextPoint;
-use row_worklist::{Findings, Setting, Worklist, bytes_of, parts_told, space_after, state_at_exit, told_by};
+use row_worklist::{
+    Findings, Setting, Worklist, bytes_of, parts_told, space_after, state_at_exit, told_by,
+};
 use std::alloc::Global;
 use std::collections::BTreeSet;
 use std::rc::Rc;

@@ -7,7 +7,8 @@ use flag_letters::FlagPart;
 use intervals::{Pair, RegPair};
 use loop_bounds::Linear;
 use row_texts::{
-    add_pair_texts, add_used_texts, fact_text, flag_text, pair_hull, part_text, shared_flag, used_by,
+    add_pair_texts, add_used_texts, fact_text, flag_text, pair_hull, part_text, shared_flag,
+    used_by,
 };
 use std::alloc::AllocError;
 use survey::{PAIRS, RowAt};

@@ -360,7 +360,9 @@ fn certified<'r, W: Sink, N: Sink, P: Progress>(
     if let Some(trials) = how.trials {
         let symbols = &how.names.names.symbols;
         let most = how.most_version;
-        return infer(alloc, rom, said, trials, most, symbols, out, notes, progress);
+        return infer(
+            alloc, rom, said, trials, most, symbols, out, notes, progress,
+        );
     }
     let annotations = match read_annotations(alloc, &mut BytesSource::of(said), out) {
         Ok(annotations) => annotations,

@@ -63,7 +63,15 @@ pub fn inferred<'r, 'g, P: Progress>(
     if given.nmi.is_none() && given.budget.is_none() && enables_nmis(alloc, &rom, &base)? {
         base.budget = Some(MAX_BUDGET as u16);
     }
-    let found = found_by(alloc, bytes, &rom, base, Plan::empty(alloc), trials, progress)?;
+    let found = found_by(
+        alloc,
+        bytes,
+        &rom,
+        base,
+        Plan::empty(alloc),
+        trials,
+        progress,
+    )?;
     let Some(found) = found else {
         return Ok(None);
     };

@@ -23,6 +23,8 @@ pub struct Judged<'r> {
     guide: Guide,
     /// The rows of the writer's certificate; None if the writer made none.
     flow: Option<Flow>,
+    /// The least version of a certificate of these rows.
+    version: Version,
 }
 
 impl<'r> Model for Judged<'r> {
@@ -62,7 +64,7 @@ impl<'r> Judged<'r> {
         let Some(flow) = &self.flow else {
             return Ok(false);
         };
-        match certify_flow(alloc, self.bytes, said, flow, Version::One) {
+        match certify_flow(alloc, self.bytes, said, flow, self.version) {
             Err(WriterFault::NoMemory) => Err(FlowFault::NoMemory),
             Err(_) => Ok(false),
             Ok(_) => Ok(true),
@@ -84,6 +86,14 @@ impl<'r> Judged<'r> {
             }
             _ => false,
         }
+    }
+}
+
+/// The least version of a certificate whose rows are judged by the rules of a search.
+fn least_version(context: &SearchContext) -> Version {
+    match context.base().version {
+        Version::One | Version::Two => Version::One,
+        Version::Three => Version::Three,
     }
 }
 
@@ -109,12 +119,14 @@ pub(crate) fn judge_with<'r>(
 ) -> Result<Judged<'r>, FlowFault>
     ensures { IfOk result (λ judged. judged ≡ bytes.now) }
 {
+    let version = least_version(context);
     let Some(task) = context.task(&explored.said) else {
         return Ok(Judged {
             bytes,
             answer: Err(WriterFault::Limit),
             guide: Guide::none(alloc),
             flow: None,
+            version,
         });
     };
     let search = FactSearch {
@@ -142,13 +154,14 @@ pub(crate) fn judge_with<'r>(
         )?,
     };
     let flow = flow_of(alloc, setting, list)?;
-    match certify_flow(alloc, bytes, &explored.said, &flow, Version::One) {
+    match certify_flow(alloc, bytes, &explored.said, &flow, version) {
         Err(WriterFault::NoMemory) => Err(FlowFault::NoMemory),
         answer => Ok(Judged {
             bytes,
             answer,
             guide,
             flow: Some(flow),
+            version,
         }),
     }
 }

@@ -401,7 +401,8 @@ impl Worklist {
     ) -> Result<Rc<JudgedRow>, FlowFault> {
         let timed = self.is_timed(place.proc);
         let untold = FlagParts::empty();
-        self.judged.judged(alloc, task, place, timed, state, &untold)
+        self.judged
+            .judged(alloc, task, place, timed, state, &untold)
     }
 
     /// Judges a row, with its flag parts.
@@ -785,12 +786,7 @@ pub fn parts_told(
 }
 
 /// What is known of the variables together after a step.
-pub fn space_after(
-    manner: Manner,
-    space: &Space,
-    told: &StepTold,
-    arriving: &Arriving,
-) -> Space {
+pub fn space_after(manner: Manner, space: &Space, told: &StepTold, arriving: &Arriving) -> Space {
     if !manner.relates {
         return Space::full();
     }
