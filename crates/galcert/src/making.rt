@@ -109,12 +109,7 @@ fn judge_files<K: Sink, W: Sink + Drop>(
     out: Printed<W>,
     notes: &mut Remarks,
 ) -> Result<(u8, Printed<W>), u8> {
-    let MakeRequest {
-        rt,
-        matches,
-        limits,
-        ..
-    } = asked;
+    let (rt, matches, limits) = (asked.rt, asked.matches, asked.limits);
     let infers = matches.get_flag(INFER);
     let names = names(rt, matches, notes, has_reports(matches))?;
     let mut out = Watched::new(out);

@@ -16,8 +16,9 @@ pub struct Answer {
     pub printed: Vec<u8>,
 }
 
-/// `check --infer` of a ROM with these given annotations, in at most `trials` trials.
-pub fn inferred(alloc: Global, rom: &[u8], given: &[u8], trials: u32) -> Answer {
+/// `check --infer` of a ROM with these given annotations, in at most `trials` trials, for a certificate of version `most`
+/// at most.
+pub fn inferred(alloc: Global, rom: &[u8], given: &[u8], trials: u32, most: Version) -> Answer {
     let (mut rom, mut given) = (Bytes::whole(rom), Bytes::whole(given));
     let mut keep = Taken::new(alloc);
     let mut out = Taken::new(alloc);
@@ -27,7 +28,7 @@ pub fn inferred(alloc: Global, rom: &[u8], given: &[u8], trials: u32) -> Answer 
         &mut rom,
         &mut given,
         trials,
-        Version::Three,
+        most,
         &mut keep,
         &mut out,
         &mut notes,
@@ -40,14 +41,22 @@ pub fn inferred(alloc: Global, rom: &[u8], given: &[u8], trials: u32) -> Answer 
     }
 }
 
-/// Whether `check --infer` accepts a ROM with these given annotations. If it does, it keeps a certificate and prints the
-/// table; if not, it keeps none.
+/// Whether `check --infer --version-at-most 2` accepts a ROM with these given annotations. If it does, it keeps a
+/// certificate and prints the table; if not, it keeps none.
 pub fn accepts(alloc: Global, rom: &[u8], given: &str) -> bool {
-    let answer = inferred(alloc, rom, given.as_bytes(), TRIALS);
+    let answer = inferred(alloc, rom, given.as_bytes(), TRIALS, Version::Two);
     if answer.status == 0 {
         return answer.printed.starts_with(b"accepted\n") && answer.kept.starts_with(b"galcert ");
     }
     false
+}
+
+/// Whether `check --infer` accepts a ROM with these given annotations by a certificate of version 3.
+pub fn accepts_in_three(alloc: Global, rom: &[u8], given: &str) -> bool {
+    let answer = inferred(alloc, rom, given.as_bytes(), TRIALS, Version::Three);
+    answer.status == 0
+        && answer.printed.starts_with(b"accepted\n")
+        && answer.kept.starts_with(b"galcert 3\n")
 }
 
 /// The status of `suggest` for a ROM with these given annotations, and the file that it prints.
@@ -71,8 +80,8 @@ pub fn suggested(alloc: Global, rom: &[u8], given: &str) -> (u8, Vec<u8>) {
 /// did. The certificate may differ, since the file leaves out facts that are not needed.
 pub fn is_enough(alloc: Global, rom: &[u8], given: &str) -> bool {
     let (status, file) = suggested(alloc, rom, given);
-    let searched = inferred(alloc, rom, given.as_bytes(), TRIALS);
-    let again = inferred(alloc, rom, file.as_slice(), 0);
+    let searched = inferred(alloc, rom, given.as_bytes(), TRIALS, Version::Two);
+    let again = inferred(alloc, rom, file.as_slice(), 0, Version::Two);
     status == searched.status
         && again.status == searched.status
         && again.printed == searched.printed

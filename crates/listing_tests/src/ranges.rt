@@ -2,10 +2,12 @@
 
 use crate::instructions::instr_of;
 use abs_state::FlagFact;
+use flag_letters::{FlagPart, Letter};
 use intervals::{ByteRange, Pair, RegPair, WordRange};
 use loop_bounds::{Linear, Part, SlotNumber, Term, Variable};
 use row_texts::{
-    Used, add_pair_texts, add_used_texts, fact_text, flag_text, pair_hull, shared_flag, used_by,
+    Used, add_pair_texts, add_used_texts, fact_text, flag_text, pair_hull, part_text, shared_flag,
+    used_by,
 };
 use std::alloc::{AllocError, Global};
 use std::test::Fail;
@@ -244,6 +246,52 @@ fn flags(rt: HostRuntime) -> Result<(), Fail> {
     assert!(rt; shared_flag(Some(zero), Some(compared)).is_none());
     assert!(rt; shared_flag(Some(zero), None).is_none());
     assert!(rt; shared_flag(None, Some(zero)).is_none());
+    Ok(())
+}
+
+/// A letter, a constant and terms of a flag part, and its text.
+type PartRow = (Letter, i32, &'static [(i32, Variable)], &'static str);
+
+const PARTS: &[PartRow] = &[
+    (Letter::CarryIfBelow, -64, &[(1, Variable::L)], "C: L < 40"),
+    (Letter::Zero, -64, &[(1, Variable::L)], "Z: L = 40"),
+    (Letter::Zero, 0, &[(1, Variable::Bc)], "Z: BC = 0"),
+    (Letter::Zero, -5, &[(1, Variable::Hl)], "Z: HL = 0005"),
+    (Letter::ZeroIfBelow, -128, &[(1, Variable::A)], "Z: A < 80"),
+    // The sign is turned where no term is positive: 127 - A is below 0 where A is above 127.
+    (Letter::SignIfBelow, 127, &[(-1, Variable::A)], "S: A > 7F"),
+    (Letter::CarryIfBelow, 191, &[(-1, Variable::A)], "C: A > BF"),
+    (Letter::Zero, 3, &[(-1, Variable::B)], "Z: B = 03"),
+    (
+        Letter::CarryIfBelow,
+        0,
+        &[(1, Variable::A), (-1, Variable::B)],
+        "C: A - B < 0",
+    ),
+    (
+        Letter::CarryIfBelow,
+        -300,
+        &[(2, Variable::A), (1, Variable::C)],
+        "C: 2*A + C < 300",
+    ),
+    // Below a negative number: never.
+    (Letter::CarryIfBelow, 5, &[(1, Variable::A)], "C: A < -5"),
+    (Letter::CarryIfBelow, 0, &[], "C clear"),
+    (Letter::CarryIfBelow, -1, &[], "C set"),
+    (Letter::Zero, 0, &[], "Z set"),
+    (Letter::Zero, 7, &[], "Z clear"),
+    (Letter::SignIfBelow, -1, &[], "S set"),
+];
+
+#[test]
+fn flag_parts(rt: HostRuntime) -> Result<(), Fail> {
+    for (row, &(letter, constant, terms, expected)) in PARTS.iter().enumerate() {
+        let Some(linear) = linear(constant, terms) else {
+            return Err(Fail::new("no linear"));
+        };
+        let text = part_text(rt.alloc(), &FlagPart { letter, linear })?;
+        assert!(rt; text.as_str() == expected, "row {row}");
+    }
     Ok(())
 }
 
