@@ -414,6 +414,50 @@ ask migrate migrated.cert
 judge "migrated again" 0 "$(cat second.cert)"$'\n' ''
 ask verify "$six.rom" migrated.cert
 judge "the migrated certificate" 0 "$table" ''
+# To version 3: only the first line differs where no row says anything of the flags.
+ask migrate "$six.cert" --to 3
+cp out third.cert
+judge "migrated to version 3" 0 "$(sed '1s/2/3/' second.cert)"$'\n' ''
+ask migrate "$six.cert" --to 2
+judge "migrated to version 2 by its number" 0 "$(cat second.cert)"$'\n' ''
+ask migrate third.cert
+judge "a later version, migrated" 0 "$(cat third.cert)"$'\n' ''
+ask verify "$six.rom" third.cert
+judge "the certificate of version 3" 0 "$table" ''
+for version in 1 4 02 two ''; do
+    ask migrate "$six.cert" --to "$version"
+    judge "migrated to version '$version'" 2 '' $'bad to\ngalcert: N is "'"$version"$'", and not a version, 2 or 3\n'
+done
+# Flag facts become flag parts.
+sed 's/- - - -$/cC0 - - -/; 7!s/cC0/-/' "$six.cert" > fact.cert
+ask migrate fact.cert --to 3
+grep -o 'c-192+1\*A,z-192+1\*A' out > parts
+cp parts out
+judge "a flag fact in version 3" 0 $'c-192+1*A,z-192+1*A\n' ''
+# A search takes the lowest version that suffices: BC is counted down by LD A,B / OR C, which version 2 cannot say.
+printf '\x31\x00\x44\x21\x00\x40\x01\x80\x03\x36\x00\x23\x0b\x78\xb1\x20\xf8\x18\xfe' > clear.rom
+printf 'low = 0x4380\ntop = 0x4400\n' > clear.toml
+ask check clear.rom clear.toml --infer -o clear.cert
+grep -o 'version 3' err > told
+cp told err
+judge "accepted in version 3" 0 "$table" $'version 3\n'
+head -1 clear.cert > out
+judge "its certificate" 0 $'galcert 3\n' +
+ask verify clear.rom clear.cert
+judge "its certificate, verified" 0 "$table" ''
+ask list clear.rom clear.cert
+grep -c 'Z: BC = 0' out > parts
+cp parts out
+judge "its flag part, listed" 0 $'1\n' ''
+ask check clear.rom clear.toml --infer --version-at-most 2
+head -c 8 out > first
+cp first out
+judge "held to version 2" 1 'refused ' +
+ask check clear.rom clear.toml --infer --version-at-most 1
+judge "held to version 1" 2 '' $'bad version-at-most\ngalcert: N is "1", and not a version, 2 or 3\n'
+ask check "$six.rom" --infer -o six3.cert
+head -1 six3.cert > out
+judge "version 1 suffices" 0 $'galcert 1\n' +
 ask migrate unended.cert
 judge "a certificate without its last line feed, migrated" 1 $'bad certificate line 8\n' ''
 ask migrate missing
