@@ -18,6 +18,7 @@ pub mod WholeTexts
 pub mod MappedLemmas
 pub mod RowLemmas
 pub mod ShapeLemmas
+pub mod StoredLemmas
 pub mod LastLemmas
 pub mod NextLemmas
 pub mod ProcLemmas

@@ -76,7 +76,7 @@ same_slots (x ∷ xs) (y ∷ ys) e =
     ap (λ p. slot_of p ∷ xs) first ∙ ap (λ zs. y ∷ zs) others
 
 -- one of the first elements
-get_front : {X : Type 0} (xs ys : List X) (n : ℕ) → n < length xs → slice_get (xs ++ ys) n ≡ slice_get xs n
+pub get_front : {X : Type 0} (xs ys : List X) (n : ℕ) → n < length xs → slice_get (xs ++ ys) n ≡ slice_get xs n
 get_front [] ys n low = absurd (omega (arith, low))
 get_front (x ∷ xs) ys zero low = refl
 get_front (x ∷ xs) ys (suc n) low = get_front xs ys n (omega (arith, low))

@@ -1,30 +1,38 @@
--- Rows whose shapes are stored by number, and a row with another potential.
-use Rattle.std.specs.Prelude.{ℕ, zero, suc, ◌<◌, List, [], ◌∷◌, Some, None, length, slice_index_or}
+-- Rows whose shapes and flag parts are stored by number, and a row with another potential.
+use Rattle.std.specs.Prelude.{◌≡◌, ℕ, zero, suc, ◌<◌, ◌≤◌, List, [], ◌∷◌, Some, length, slice_get, slice_index_or}
 use Rattle.std.specs.List.{AllByRecursion}
-use Rattle.cert_flags.specs.FactParts.{told_by_parts}
 use Rattle.cert_lines.specs.declared.row.Row.{Row}
 use Rattle.cert_form.specs.declared.rows.NumberedRow.{NumberedRow}
 use Rattle.loop_bounds.specs.Linear.{LinearView}
+use Rattle.flag_letters.specs.declared.part.FlagPart.{FlagPart}
 use Rattle.stack_shape.specs.declared.slot.Slot.{Slot}
 
--- a row with this shape in place of the shape's number
-abbrev pub row_with_shape : NumberedRow → List Slot → Row
-row_with_shape row shape = record {
+-- a row with this shape and these flag parts in place of their numbers
+abbrev pub row_with : NumberedRow → List Slot → List FlagPart → Row
+row_with row shape parts = record {
   proc = row.proc;
   address = row.address;
   state = record { mode = row.mode; armed = row.armed; pairs = row.pairs; flag = row.flag; shape = shape };
-  parts = row.parts;
+  parts = parts;
   facts = row.facts;
   potential = row.potential;
 }
 
--- a row with the shape that has its number
-abbrev pub with_its_shape : List (List Slot) → NumberedRow → Row
-with_its_shape shapes row = row_with_shape row (slice_index_or shapes row.shape [])
+-- a row with the shape and the flag parts that have its numbers
+abbrev pub as_told : List (List Slot) → List (List FlagPart) → NumberedRow → Row
+as_told shapes parts row = row_with row (slice_index_or shapes row.shape []) (slice_index_or parts row.parts [])
 
--- each row has the number of a shape
-abbrev pub HaveShapes : List (List Slot) → List NumberedRow → Type 0
-HaveShapes shapes rows = AllByRecursion (λ row. row.shape < length shapes) rows
+-- a row has the number of a shape and that of flag parts
+abbrev pub HasNumbers : List (List Slot) → List (List FlagPart) → NumberedRow → Type 0
+HasNumbers shapes parts row = (row.shape < length shapes) × (row.parts < length parts)
+
+abbrev pub HaveNumbers : List (List Slot) → List (List FlagPart) → List NumberedRow → Type 0
+HaveNumbers shapes parts rows = AllByRecursion (HasNumbers shapes parts) rows
+
+-- what is in a list stays there, with its number
+pub record KeepsNumbers {X : Type 0} (old new : List X) : Type 0 where
+  pub longer : length old ≤ length new
+  pub kept : (n : ℕ) → n < length old → slice_get new n ≡ slice_get old n
 
 -- a list in which the element with this number, if there is one, is changed
 abbrev pub changed_at : {X : Type 0} → (X → X) → ℕ → List X → List X
@@ -35,7 +43,3 @@ changed_at change (suc number) (x ∷ xs) = x ∷ changed_at change number xs
 -- a row with this potential
 abbrev pub with_potential : LinearView → Row → Row
 with_potential potential row = record row { potential = Some potential }
-
--- a row with flag parts in place of its flag fact
-abbrev pub numbered_with_parts : NumberedRow → NumberedRow
-numbered_with_parts row = record row { flag = None; parts = told_by_parts row.flag row.parts }

@@ -10,6 +10,7 @@ mod migrated;
 mod rows;
 mod shapes;
 mod stage;
+mod stored_parts;
 
 pub use fault::CertFault;
 pub use following::{

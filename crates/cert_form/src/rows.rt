@@ -1,12 +1,14 @@
-// The rows of a certificate. Shapes are stored by number.
+// The rows of a certificate. Shapes and flag parts are stored by number.
 
 ghost use Rattle.std.specs.Prelude.{◌≡◌, ◌<◌, ◌≤◌, ◌∷◌, [], ◌++◌, ℕ, List, Some, MatchOption, OnOk, OnErr, length, map, slice_get};
 ghost use Rattle.cert_lines.specs.declared.row.Row.{Row};
 ghost use Rattle.cert_form.specs.Form.{RisePlaces, place_number};
 ghost use Rattle.cert_form.specs.Migrated.{row_with_parts};
-ghost use Rattle.cert_form.specs.Rows.{changed_at, numbered_with_parts, row_with_shape, with_potential};
+ghost use Rattle.cert_form.specs.Rows.{HasNumbers, HaveNumbers, KeepsNumbers, as_told, changed_at, row_with, with_potential};
+ghost use Rattle.stack_shape.specs.declared.slot.Slot.{Slot};
 
 use crate::shapes::Shapes;
+use crate::stored_parts::StoredParts;
 use abs_state::{AbsState, FlagFact, Mode, Pairs};
 use call_graph::ProcId;
 use cert_fields::Facts;
@@ -18,7 +20,7 @@ use stack_shape::Shape;
 use std::alloc::{AllocError, Global};
 use std::marker::Model;
 
-/// A row with the number of its shape in place of the shape.
+/// A row with the numbers of its shape and of its flag parts in place of these.
 #[derive(Drop)]
 pub struct NumberedRow {
     proc: ProcId,
@@ -27,16 +29,16 @@ pub struct NumberedRow {
     armed: u16,
     pairs: Pairs,
     flag: Option<FlagFact>,
-    parts: FlagParts,
+    parts: usize,
     facts: Facts,
     potential: Option<Linear>,
     shape: usize,
 }
 
 impl NumberedRow {
-    /// The row with its shape, borrowed.
-    fn with<'a>(&'a self, shape: &'a Shape) -> RowRef<'a>
-        ensures { result ≡ row_with_shape self.now shape.now }
+    /// The row with its shape and its flag parts, borrowed.
+    fn with<'a>(&'a self, shape: &'a Shape, parts: &'a FlagParts) -> RowRef<'a>
+        ensures { result ≡ row_with self.now shape.now parts.now }
     {
         RowRef {
             proc: self.proc,
@@ -45,50 +47,60 @@ impl NumberedRow {
             armed: self.armed,
             pairs: &self.pairs,
             flag: self.flag,
-            parts: &self.parts,
+            parts,
             facts: &self.facts,
             shape,
             potential: self.potential,
         }
     }
 
-    /// Says by flag parts what the row said by a flag fact.
-    fn use_flag_parts(&mut self)
-        ensures { self.new ≡ numbered_with_parts self.old }
+    /// Says by flag parts what the row said by a flag fact. Where memory is refused, the row stays as it was.
+    fn use_flag_parts(&mut self, stored: &mut StoredParts) -> Result<(), AllocError>
+        ensures kept { KeepsNumbers stored.old stored.new }
+        ensures numbered { (shapes : List (List Slot)) → HasNumbers shapes stored.old self.old
+            → HasNumbers shapes stored.new self.new }
+        ensures changed { OnOk result ((shapes : List (List Slot)) → HasNumbers shapes stored.old self.old
+            → as_told shapes stored.new self.new ≡ row_with_parts (as_told shapes stored.old self.old)) }
     {
         if let Some(fact) = self.flag {
-            self.parts = parts_of_fact(fact);
+            self.parts = stored.number_of(parts_of_fact(fact))?;
             self.flag = None;
         }
+        Ok(())
     }
 }
 
-/// Says by flag parts what each row said by a flag fact.
-fn use_flag_parts(rows: &mut [NumberedRow])
-    ensures { rows.new ≡ map numbered_with_parts rows.old }
+/// Says by flag parts what each row said by a flag fact. Where memory is refused, only some rows are changed.
+fn use_flag_parts(rows: &mut [NumberedRow], stored: &mut StoredParts) -> Result<(), AllocError>
+    ensures numbered { (shapes : List (List Slot)) → HaveNumbers shapes stored.old rows.old
+        → HaveNumbers shapes stored.new rows.new }
+    ensures changed { OnOk result ((shapes : List (List Slot)) → HaveNumbers shapes stored.old rows.old
+        → map (as_told shapes stored.new) rows.new ≡ map row_with_parts (map (as_told shapes stored.old) rows.old)) }
 {
     for row in rows.iter_mut() {
-        row.use_flag_parts();
+        row.use_flag_parts(stored)?;
     }
+    Ok(())
 }
 
-/// Rows, and their shapes, each stored once.
+/// Rows, their shapes, each stored once, and their flag parts.
 #[derive(Drop)]
 pub struct Rows {
     rows: Vec<NumberedRow>,
     shapes: Shapes,
+    parts: StoredParts,
 }
 
 impl Model for Rows {
     ghost use Rattle.std.specs.Prelude.{List, map};
     ghost use Rattle.cert_lines.specs.declared.row.Row.{Row};
-    ghost use Rattle.cert_form.specs.Rows.{HaveShapes, with_its_shape};
+    ghost use Rattle.cert_form.specs.Rows.{HaveNumbers, as_told};
 
     ghost Value = { List Row };
 
-    ghost view = { λ r. map (with_its_shape r.shapes) r.rows.items };
+    ghost view = { λ r. map (as_told r.shapes r.parts) r.rows.items };
 
-    ghost invariant = { λ r. HaveShapes r.shapes r.rows.items };
+    ghost invariant = { λ r. HaveNumbers r.shapes r.parts r.rows.items };
 }
 
 impl Rows {
@@ -98,6 +110,7 @@ impl Rows {
         Rows {
             rows: Vec::new(alloc),
             shapes: Shapes::new(alloc),
+            parts: StoredParts::new(alloc),
         }
     }
 
@@ -127,7 +140,8 @@ impl Rows {
             flag,
             shape,
         } = state;
-        let number = self.shapes.number_of(shape)?;
+        let shape_number = self.shapes.number_of(shape)?;
+        let parts_number = self.parts.number_of(parts)?;
         self.rows.push(NumberedRow {
             proc,
             address,
@@ -135,10 +149,10 @@ impl Rows {
             armed,
             pairs,
             flag,
-            parts,
+            parts: parts_number,
             facts,
             potential,
-            shape: number,
+            shape: shape_number,
         })?;
         Ok(())
     }
@@ -152,11 +166,11 @@ impl Rows {
         }
     }
 
-    /// Says by flag parts what each row said by a flag fact. No memory is taken.
-    pub fn use_flag_parts(&mut self)
-        ensures { self.new ≡ map row_with_parts self.old }
+    /// Says by flag parts what each row said by a flag fact. Where memory is refused, only some rows are changed.
+    pub fn use_flag_parts(&mut self) -> Result<(), AllocError>
+        ensures { OnOk result (self.new ≡ map row_with_parts self.old) }
     {
-        use_flag_parts(self.rows.as_mut_slice());
+        use_flag_parts(self.rows.as_mut_slice(), &mut self.parts)
     }
 
     /// The row with this number, borrowed; None if there is none.
@@ -165,7 +179,8 @@ impl Rows {
     {
         let row = self.rows.get(number)?;
         let shape = self.shapes.shape(row.shape)?;
-        Some(row.with(shape))
+        let parts = self.parts.parts(row.parts)?;
+        Some(row.with(shape, parts))
     }
 
     /// The procedure and the address of the last row; None if there are no rows.

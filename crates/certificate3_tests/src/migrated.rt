@@ -103,8 +103,11 @@ fn becomes(alloc: Global, text: &str, version: Version, other: &str) -> bool {
     let Ok(own) = read(alloc, text.as_bytes()) else {
         return false;
     };
+    let Ok(migrated) = migrate_to(version, own) else {
+        return false;
+    };
     let mut out = Taken::new(alloc);
-    write(&migrate_to(version, own), &mut out).is_ok() && out.bytes.as_slice() == other.as_bytes()
+    write(&migrated, &mut out).is_ok() && out.bytes.as_slice() == other.as_bytes()
 }
 
 #[test]

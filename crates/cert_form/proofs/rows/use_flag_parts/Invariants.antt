@@ -1,7 +1,8 @@
-use Rattle.std.proofs.Common.{◌≡◌}
-use Rattle.cert_form.specs.Rows.{numbered_with_parts}
-use Rattle.cert_form.proofs.MappedLemmas.{first_changed}
+use Rattle.std.proofs.Common.{List}
+use Rattle.cert_form.specs.Rows.{HaveNumbers}
+use Rattle.cert_form.proofs.MappedLemmas.{Told}
+use Rattle.stack_shape.specs.declared.slot.Slot.{Slot}
 use Rattle.cert_form.proofs.rows.use_flag_parts.Given as goal
 
 abbrev pub invariant-loop-row : goal.invariant-loop-row
-invariant-loop-row l = l.rows ≡ first_changed numbered_with_parts l.row-index l.fn.rows
+invariant-loop-row l = (shapes : List (List Slot)) → HaveNumbers shapes l.fn.stored l.fn.rows → Told shapes l.fn.stored l.stored l.fn.rows l.rows l.row-index
