@@ -8,7 +8,7 @@ use borrow.Author.Tests.{ltb-true, ltb-false}
 use Rattle.cert_lines.specs.declared.row.Row.{Row}
 use Rattle.cert_form.specs.Form.{RisePlaces, place_number}
 use Rattle.cert_form.proofs.Lists.{all_push, same_cons}
-use Rattle.cert_form.specs.Rows.{HaveNumbers, HasNumbers, KeepsNumbers, as_told, row_with}
+use Rattle.cert_form.specs.Rows.{HaveNumbers, HasNumbers, KeepsNumbers, as_told, told_row}
 use Rattle.cert_form.specs.declared.rows.NumberedRow.{NumberedRow}
 use Rattle.flag_letters.specs.declared.part.FlagPart.{FlagPart}
 use Rattle.stack_shape.specs.declared.slot.Slot.{Slot}
@@ -33,8 +33,8 @@ module _ (old new : List (List Slot)) (before after : List (List FlagPart)) (sha
   -- a row says the same
   pub same_row : (row : NumberedRow) → HasNumbers old before row → as_told new after row ≡ as_told old before row
   same_row row has =
-      ap (λ shape. row_with row shape (slice_index_or after row.parts [])) (same_item old new row.shape (shapes.kept row.shape has.0))
-      ∙ ap (row_with row (slice_index_or old row.shape [])) (same_item before after row.parts (parts.kept row.parts has.1))
+      ap (λ shape. told_row row shape (slice_index_or after row.parts [])) (same_item old new row.shape (shapes.kept row.shape has.0))
+      ∙ ap (told_row row (slice_index_or old row.shape [])) (same_item before after row.parts (parts.kept row.parts has.1))
 
   -- and so do rows
   pub same_rows : (rows : List NumberedRow) → HaveNumbers old before rows → map (as_told new after) rows ≡ map (as_told old before) rows
@@ -58,13 +58,13 @@ module _ (old new : List (List Slot)) (before after : List (List FlagPart)) (sha
         (slice_get_within new row.shape shape has_shape, slice_get_within after row.parts told has_parts)
 
     -- and is told with them
-    pub rows_push : map (as_told new after) (rows ++ row ∷ []) ≡ map (as_told old before) rows ++ row_with row shape told ∷ []
+    pub rows_push : map (as_told new after) (rows ++ row ∷ []) ≡ map (as_told old before) rows ++ told_row row shape told ∷ []
     rows_push =
         map_push (as_told new after) rows row
         ∙ ap (λ all. all ++ as_told new after row ∷ []) (same_rows rows have)
-        ∙ ap (λ one. map (as_told old before) rows ++ row_with row one (slice_index_or after row.parts []) ∷ [])
+        ∙ ap (λ one. map (as_told old before) rows ++ told_row row one (slice_index_or after row.parts []) ∷ [])
         (get_or_from_slice_get new row.shape shape [] has_shape)
-        ∙ ap (λ one. map (as_told old before) rows ++ row_with row shape one ∷ [])
+        ∙ ap (λ one. map (as_told old before) rows ++ told_row row shape one ∷ [])
         (get_or_from_slice_get after row.parts told [] has_parts)
 
 -- the rows after the first rise too

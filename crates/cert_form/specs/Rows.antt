@@ -8,8 +8,8 @@ use Rattle.flag_letters.specs.declared.part.FlagPart.{FlagPart}
 use Rattle.stack_shape.specs.declared.slot.Slot.{Slot}
 
 -- a row with this shape and these flag parts in place of their numbers
-abbrev pub row_with : NumberedRow → List Slot → List FlagPart → Row
-row_with row shape parts = record {
+abbrev pub told_row : NumberedRow → List Slot → List FlagPart → Row
+told_row row shape parts = record {
   proc = row.proc;
   address = row.address;
   state = record { mode = row.mode; armed = row.armed; pairs = row.pairs; flag = row.flag; shape = shape };
@@ -20,7 +20,7 @@ row_with row shape parts = record {
 
 -- a row with the shape and the flag parts that have its numbers
 abbrev pub as_told : List (List Slot) → List (List FlagPart) → NumberedRow → Row
-as_told shapes parts row = row_with row (slice_index_or shapes row.shape []) (slice_index_or parts row.parts [])
+as_told shapes parts row = told_row row (slice_index_or shapes row.shape []) (slice_index_or parts row.parts [])
 
 -- a row has the number of a shape and that of flag parts
 abbrev pub HasNumbers : List (List Slot) → List (List FlagPart) → NumberedRow → Type 0

@@ -4,7 +4,7 @@ ghost use Rattle.std.specs.Prelude.{◌≡◌, ◌<◌, ◌≤◌, ◌∷◌, []
 ghost use Rattle.cert_lines.specs.declared.row.Row.{Row};
 ghost use Rattle.cert_form.specs.Form.{RisePlaces, place_number};
 ghost use Rattle.cert_form.specs.Migrated.{row_with_parts};
-ghost use Rattle.cert_form.specs.Rows.{HasNumbers, HaveNumbers, KeepsNumbers, as_told, changed_at, row_with, with_potential};
+ghost use Rattle.cert_form.specs.Rows.{HasNumbers, HaveNumbers, KeepsNumbers, as_told, changed_at, told_row, with_potential};
 ghost use Rattle.stack_shape.specs.declared.slot.Slot.{Slot};
 
 use crate::shapes::Shapes;
@@ -38,7 +38,7 @@ pub struct NumberedRow {
 impl NumberedRow {
     /// The row with its shape and its flag parts, borrowed.
     fn with<'a>(&'a self, shape: &'a Shape, parts: &'a FlagParts) -> RowRef<'a>
-        ensures { result ≡ row_with self.now shape.now parts.now }
+        ensures { result ≡ told_row self.now shape.now parts.now }
     {
         RowRef {
             proc: self.proc,

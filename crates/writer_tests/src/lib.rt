@@ -4,9 +4,9 @@
 #[cfg(test)]
 mod families;
 #[cfg(test)]
-mod flag_parts;
-#[cfg(test)]
 mod memory;
+#[cfg(test)]
+mod parts_written;
 #[cfg(test)]
 mod refused;
 #[cfg(test)]
