@@ -4,7 +4,7 @@ use abs_state::AbsState;
 use flag_conditions::{no_terms, one_term};
 use flag_letters::Letter;
 use intervals::{ByteRange, Pair};
-use loop_bounds::Variable;
+use loop_bounds::{Part, SlotNumber, Variable};
 use std::alloc::Global;
 
 /// SUB 40h where L is a copy of A: C is set exactly if L is below 40h, and exactly if the difference is above BFh.
@@ -17,7 +17,16 @@ fn sub_tells_of_a_copy(rt: HostRuntime) {
         part(Letter::Zero, l_less_64()),
     ];
     let facts = [a_less(Variable::L)];
-    assert!(rt; derives(rt.alloc(), &[0xD6, 0x40], &with_a(0, 255), &facts, &[], &wanted));
+    assert!(rt;
+        derives(
+            rt.alloc(),
+            &[0xD6, 0x40],
+            &with_a(0, 255),
+            &facts,
+            &[],
+            &wanted
+        )
+    );
 }
 
 /// OR C where A is a copy of B: Z is set exactly if BC is 0, and exactly if A is.
@@ -28,7 +37,16 @@ fn or_tells_of_a_pair(rt: HostRuntime) {
         part(Letter::Zero, one_term(0, 1, Variable::Bc)),
     ];
     let facts = [a_less(Variable::B)];
-    assert!(rt; derives(rt.alloc(), &[0xB1, 0], &with_a(0, 255), &facts, &[], &wanted));
+    assert!(rt;
+        derives(
+            rt.alloc(),
+            &[0xB1, 0],
+            &with_a(0, 255),
+            &facts,
+            &[],
+            &wanted
+        )
+    );
 }
 
 /// CP 8 where A is a copy of C.
@@ -39,7 +57,16 @@ fn cp_tells_of_a_copy(rt: HostRuntime) {
         part(Letter::Zero, one_term(-8, 1, Variable::C)),
     ];
     let facts = [a_less(Variable::C)];
-    assert!(rt; derives(rt.alloc(), &[0xFE, 8], &with_a(0, 255), &facts, &[], &wanted));
+    assert!(rt;
+        derives(
+            rt.alloc(),
+            &[0xFE, 8],
+            &with_a(0, 255),
+            &facts,
+            &[],
+            &wanted
+        )
+    );
 }
 
 /// OR A where A is a copy of C: A stays, so Z tells of C.
@@ -50,7 +77,16 @@ fn or_a_tells_of_a_copy(rt: HostRuntime) {
         part(Letter::Zero, one_term(0, 1, Variable::C)),
     ];
     let facts = [a_less(Variable::C)];
-    assert!(rt; derives(rt.alloc(), &[0xB7, 0], &with_a(0, 255), &facts, &[], &wanted));
+    assert!(rt;
+        derives(
+            rt.alloc(),
+            &[0xB7, 0],
+            &with_a(0, 255),
+            &facts,
+            &[],
+            &wanted
+        )
+    );
 }
 
 /// LD L,A leaves the flags alone, and C then tells of both.
@@ -70,13 +106,31 @@ fn a_fact_stands_for_what_is_gone(rt: HostRuntime) {
     let row = [part(Letter::CarryIfBelow, one_term(-64, 1, Variable::A))];
     let wanted = [part(Letter::CarryIfBelow, l_less_64())];
     let facts = [a_less(Variable::L)];
-    assert!(rt; derives_only(rt.alloc(), &[0x3E, 1], &with_a(0, 255), &facts, &row, &wanted));
+    assert!(rt;
+        derives_only(
+            rt.alloc(),
+            &[0x3E, 1],
+            &with_a(0, 255),
+            &facts,
+            &row,
+            &wanted
+        )
+    );
 }
 
 #[test]
 fn bit_7_tells_of_the_sign(rt: HostRuntime) {
     let wanted = [part(Letter::ZeroIfBelow, one_term(-128, 1, Variable::A))];
-    assert!(rt; derives_only(rt.alloc(), &[0xCB, 0x7F], &with_a(0, 255), &[], &[], &wanted));
+    assert!(rt;
+        derives_only(
+            rt.alloc(),
+            &[0xCB, 0x7F],
+            &with_a(0, 255),
+            &[],
+            &[],
+            &wanted
+        )
+    );
 }
 
 #[test]
@@ -125,10 +179,10 @@ fn with_word() -> AbsState {
 
 /// POP HL: the part follows the word into HL, and no part names the slot, which is gone.
 fn follows_a_pop(alloc: Global) -> bool {
-    let low = match loop_bounds::SlotNumber::new(0) {
-        Some(number) => Variable::Slot(number, loop_bounds::Part::Low),
-        None => return false,
+    let Some(number) = SlotNumber::new(0) else {
+        return false;
     };
+    let low = Variable::Slot(number, Part::Low);
     let row = [part(Letter::CarryIfBelow, one_term(-64, 1, low))];
     let wanted = [part(Letter::CarryIfBelow, l_less_64())];
     derives_only(alloc, &[0xE1, 0], &with_word(), &[], &row, &wanted)
