@@ -4,7 +4,7 @@ use abs_state::AbsState;
 use flag_conditions::{no_terms, one_term};
 use flag_letters::Letter;
 use intervals::{ByteRange, Pair};
-use loop_bounds::Variable;
+use loop_bounds::{Part, SlotNumber, Variable};
 use std::alloc::Global;
 
 /// SUB 40h where L is a copy of A: C is set exactly if L is below 40h, and exactly if the difference is above BFh.
@@ -179,10 +179,10 @@ fn with_word() -> AbsState {
 
 /// POP HL: the part follows the word into HL, and no part names the slot, which is gone.
 fn follows_a_pop(alloc: Global) -> bool {
-    let low = match loop_bounds::SlotNumber::new(0) {
-        Some(number) => Variable::Slot(number, loop_bounds::Part::Low),
-        None => return false,
+    let Some(number) = SlotNumber::new(0) else {
+        return false;
     };
+    let low = Variable::Slot(number, Part::Low);
     let row = [part(Letter::CarryIfBelow, one_term(-64, 1, low))];
     let wanted = [part(Letter::CarryIfBelow, l_less_64())];
     derives_only(alloc, &[0xE1, 0], &with_word(), &[], &row, &wanted)

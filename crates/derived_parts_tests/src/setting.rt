@@ -1,7 +1,7 @@
 // The setting of the tests: a row before an instruction at 0000, and the parts after its step.
 use abs_draft::Ground;
 use abs_state::{AbsState, Mode};
-use abs_step::{Next, row_step};
+use abs_step::{Next, RowStep, row_step};
 use address_map::{Map, Rom};
 use board_fetch::fetch;
 use check_claims::StepSource;
@@ -12,6 +12,7 @@ use intervals::{ByteRange, Pair};
 use loop_bounds::{Linear, Variable};
 use refined_step::{RefinedStep, refined_step};
 use std::alloc::Global;
+use z80_decode::Instr;
 
 /// A range of bytes.
 pub fn bytes(low: u8, high: u8) -> ByteRange {
@@ -155,18 +156,32 @@ pub fn ground(
     let rom = Rom::of(rom)?;
     let map = Map::galaxian(rom.len());
     let place = Ground::of(&rom, &map, &[]);
-    let (instr, len) = fetch(&rom, 0).ok()?;
-    let own = row_step(alloc, &place, 0, false, false, &instr, len, state);
-    let row = parts(row);
+    match fetch(&rom, 0) {
+        Ok((instr, len)) => {
+            let own = row_step(alloc, &place, 0, false, false, &instr, len, state);
+            ground_in(&own, &instr, state, facts, &parts(row), claim)
+        }
+        Err(_) => None,
+    }
+}
+
+fn ground_in(
+    own: &RowStep,
+    instr: &Instr,
+    state: &AbsState,
+    facts: &[Linear],
+    row: &FlagParts,
+    claim: &Claimed,
+) -> Option<Option<PartGround>> {
     match &own.answer {
         Ok(nexts) => match nexts.as_slice() {
             [next] => {
                 let step = PartStep {
-                    instr: &instr,
+                    instr,
                     operand: own.operand,
                     before: state,
                     facts,
-                    parts: &row,
+                    parts: row,
                     settled: &next.effect,
                     moved: &next.moved,
                     after: &next.state,
