@@ -8,7 +8,10 @@ pub returns : goal.returns
 returns c =
     let told = as_told c.self.inside.shapes c.self.inside.parts in
     let last = c.in_ok-last.last.now in
-    let split = split_last c.deref.result.now last (sym c.in_ok-last.ensures.value) in
-    (map told split.before, told last,
-    sym c.self.view_is ∙ ap (map told) (sym c.deref.ensures.value ∙ split.whole) ∙ map_push told split.before last,
-    refl, refl)
+    let split = split_last c.deref.result.now last (sym c.in_ok-last.ensures.value) in (
+      map told split.before,
+      told last,
+      sym c.self.view_is ∙ ap (map told) (sym c.deref.ensures.value ∙ split.whole) ∙ map_push told split.before last,
+      refl,
+      refl,
+    )
