@@ -9,7 +9,7 @@ returns-then-is_empty-clause-stored c =
 pub returns-clause-stored : goal.returns-clause-stored
 returns-clause-stored c =
     stored_behind [] c.self.inside.others.items c.push.new.self.items c.args.parts _ c.in_ok-push.ensures.items
-    (omega (arith, c.len.ensures))
+    (omega (arith, c.len-next.ensures))
 
 pub returns-clause-kept : goal.returns-clause-kept
 returns-clause-kept c = λ n low.
