@@ -1,4 +1,4 @@
-use Rattle.std.proofs.Common.{◌≡◌, length, sym, ap, subst, arith}
+use Rattle.std.proofs.Common.{length, sym, ap, subst, arith}
 use Rattle.std.proofs.lemmas.List.{with_items_is}
 use Rattle.cert_form.specs.Rows.{HaveNumbers}
 use Rattle.cert_form.proofs.rows.Rows.use_flag_parts.Goals as goal
