@@ -27,7 +27,7 @@ use Rattle.abs_state.specs.declared.cell.KeptCell.{KeptCell}
 use Rattle.abs_state.specs.declared.state.AbsState.{AbsState}
 use Rattle.flag_parts.specs.declared.excluding.FreeTerms.{FreeTerms}
 use Rattle.flag_parts.specs.declared.excluding.FreeTerms.TheVariants.{Nothing, One, More}
-use Rattle.flag_parts.specs.Excluding.{known_part, known_value, is_free, with_free, with_term, counted, free_terms, is_none, balance, without_word, not_zero_by, not_zero}
+use Rattle.flag_parts.specs.Excluding.{known_part, known_value, is_free, with_free, with_term, counted, free_terms, is_none, balance, without_word, not_zero_by, only_term, not_zero_if, not_zero}
 use Rattle.flag_parts.proofs.Held.{without_holds}
 
 -- ---- the loop over the terms
@@ -76,6 +76,11 @@ one_counted : (ts : List Term) (t : Term) → counted ts ≡ One t → ts ≡ t 
 one_counted [] t e = cc
 one_counted (u ∷ []) t e = let same : u ≡ t = cc in ap (λ w. w ∷ []) same
 one_counted (u ∷ v ∷ ts) t e = cc
+
+only_is : (ts : List Term) (t : Term) → only_term ts ≡ Some t → ts ≡ t ∷ []
+only_is [] t e = cc
+only_is (u ∷ []) t e = let same : u ≡ t = cc in ap (λ w. w ∷ []) same
+only_is (u ∷ v ∷ ts) t e = cc
 
 none_counted : (ts : List Term) → counted ts ≡ Nothing → ts ≡ []
 none_counted [] e = refl
@@ -139,8 +144,14 @@ module _ (cells : List KeptCell) (entry : Entry) (m : Seen) (i : IsRegs m.regs) 
       word_holds t (known_value (range_of s) linear) (omega (arith, ints, is, rest)) (balance t.coefficient (known_value (range_of s) linear)) refl
   by_free More e = h
 
+  by_only : (o : Option Term) → only_term linear.terms ≡ o → IsSomeAnd (not_zero_if o linear s) (λ u. Holds u cells entry m)
+  by_only None e = by_free (free_terms (range_of s) linear.terms) refl
+  by_only (Some t) e =
+      let all : total (whole (value_in m)) linear.terms ≡ t.coefficient *ℤ pos (value_in m t.variable) +ℤ pos 0 = ap (total (whole (value_in m))) (only_is linear.terms t e) in
+      word_holds t linear.constant (omega (arith, ints, all)) (balance t.coefficient linear.constant) refl
+
   pub not_zero_holds : IsSomeAnd (not_zero linear s) (λ u. Holds u cells entry m)
-  not_zero_holds = by_free (free_terms (range_of s) linear.terms) refl
+  not_zero_holds = by_only (only_term linear.terms) refl
 
 -- ---- the loop of the known value
 

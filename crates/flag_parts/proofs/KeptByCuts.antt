@@ -11,7 +11,7 @@ use Rattle.loop_bounds.specs.declared.variable.Variable.{Variable}
 use Rattle.z80_decode.specs.declared.kinds.Condition.{Condition}
 use Rattle.abs_state.specs.Variables.{cut_to, range_of}
 use Rattle.abs_state.specs.declared.state.AbsState.{AbsState}
-use Rattle.flag_parts.specs.Excluding.{balance, free_terms, is_none, known_value, not_zero_by, without_word}
+use Rattle.flag_parts.specs.Excluding.{balance, free_terms, is_none, known_value, not_zero_by, not_zero_if, only_term, without_word}
 use Rattle.flag_parts.specs.Narrowing.{narrowed, narrowed_by, narrowed_by_part, narrowed_if_said, said, zero_by}
 use Rattle.flag_parts.specs.declared.excluding.FreeTerms.{FreeTerms}
 use Rattle.flag_parts.specs.declared.excluding.FreeTerms.TheVariants.{Nothing, One, More}
@@ -80,9 +80,13 @@ module _ (P : AbsState → AbsState → Type 0) (same : (s : AbsState) → P s s
   not_zero_kept (One t) constant s = word_kept s t.variable (balance t.coefficient constant)
   not_zero_kept More constant s = same s
 
+  only_kept : (only : Option Term) (linear : LinearView) (s : AbsState) → IfSome (not_zero_if only linear s) (P s)
+  only_kept (Some t) linear s = word_kept s t.variable (balance t.coefficient linear.constant)
+  only_kept None linear s = not_zero_kept (free_terms (range_of s) linear.terms) (known_value (range_of s) linear) s
+
   by_kept : (what : ZeroTest) (linear : LinearView) (s : AbsState) → IfSome (narrowed_by what linear s) (P s)
   by_kept IsZero linear s = zero_kept linear.terms linear s
-  by_kept IsNotZero linear s = not_zero_kept (free_terms (range_of s) linear.terms) (known_value (range_of s) linear) s
+  by_kept IsNotZero linear s = only_kept (only_term linear.terms) linear s
   by_kept (LiesOn side) linear s = if_kept (reaches_side side linear (range_of s)) (limited_by range_of cut_to side linear linear.terms s) s (limits_kept side linear linear.terms s)
 
   if_said_kept : (what : Option ZeroTest) (linear : LinearView) (s : AbsState) → IfSome (narrowed_if_said what linear s) (P s)

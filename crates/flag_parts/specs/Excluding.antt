@@ -67,6 +67,17 @@ not_zero_by Nothing constant s = if is_none constant then None else Some s
 not_zero_by (One t) constant s = without_word s t.variable (balance t.coefficient constant)
 not_zero_by More constant s = Some s
 
+-- the term of a linear that has no other
+abbrev pub only_term : List Term → Option Term
+only_term [] = None
+only_term (t ∷ []) = Some t
+only_term (t ∷ u ∷ ts) = None
+
+-- the state where the linear is not 0: of an only term the word is cut, whether or not it is free
+abbrev pub not_zero_if : Option Term → LinearView → AbsState → Option AbsState
+not_zero_if (Some t) linear s = without_word s t.variable (balance t.coefficient linear.constant)
+not_zero_if None linear s = not_zero_by (free_terms (range_of s) linear.terms) (known_value (range_of s) linear) s
+
 -- the state where the linear is not 0; none if nothing is left
 abbrev pub not_zero : LinearView → AbsState → Option AbsState
-not_zero linear s = not_zero_by (free_terms (range_of s) linear.terms) (known_value (range_of s) linear) s
+not_zero linear s = not_zero_if (only_term linear.terms) linear s

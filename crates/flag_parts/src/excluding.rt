@@ -1,5 +1,5 @@
 // Where a linear is not 0: its one-valued variables are put in, and one value is cut from the ends of a range.
-ghost use Rattle.std.specs.Prelude.{◌≡◌, ◌≢◌, ◌<◌, ◌≤◌, ◌^◌, ◌*◌, ◌*ℤ◌, List, Some, None, IsTrue, MatchBool, pos, ◌+ℤ◌, unsigned_abs};
+ghost use Rattle.std.specs.Prelude.{◌≡◌, ◌≢◌, ◌<◌, ◌≤◌, ◌^◌, ◌*◌, ◌*ℤ◌, List, Some, None, IfSome, IsTrue, MatchBool, pos, ◌+ℤ◌, unsigned_abs};
 ghost use Rattle.intervals.specs.Domain.{Entry};
 ghost use Rattle.loop_bounds.specs.Effect.{whole};
 ghost use Rattle.loop_bounds.specs.Linear.{value};
@@ -8,7 +8,7 @@ ghost use Rattle.abs_state.specs.Holds.{Holds};
 ghost use Rattle.abs_state.specs.Seen.{Seen};
 ghost use Rattle.abs_state.specs.Variables.{range_of, cut_to, value_in};
 ghost use Rattle.abs_state.specs.declared.cell.KeptCell.{KeptCell};
-ghost use Rattle.flag_parts.specs.Excluding.{known_part, known_value, is_free, with_free, with_term, free_terms, balance, without_value, without_word, not_zero};
+ghost use Rattle.flag_parts.specs.Excluding.{known_part, known_value, is_free, with_free, with_term, free_terms, only_term, balance, without_value, without_word, not_zero, not_zero_by};
 
 use abs_state::AbsState;
 use loop_bounds::{Linear, Ranges, Term, Tightenable, Variable};
@@ -133,9 +133,21 @@ fn cut_balance(state: &mut AbsState, term: &Term, constant: i128) -> bool
     }
 }
 
-/// Restricts a state to where a linear is not 0. Its one-valued variables are put in. If none is left, nothing is left
-/// where the linear is 0. If one is left, the word at which the linear is 0 is cut from the ends of its range. Answers
-/// whether anything is left.
+/// The term of a linear that has no other.
+fn only_term(linear: &Linear) -> Option<Term>
+    ensures exact { result ≡ only_term linear.now.terms }
+    ensures solid { IfSome result (λ term. 0 < unsigned_abs term.coefficient) }
+{
+    match linear.terms() {
+        [term] => Some(*term),
+        _ => None,
+    }
+}
+
+/// Restricts a state to where a linear is not 0. Of an only term the word at which the linear is 0 is cut from the ends
+/// of the variable's range. Of several, the one-valued variables are put in. If none is left, nothing is left where the
+/// linear is 0. If one is left, the word at which the linear is 0 is cut from the ends of its range. Answers whether
+/// anything is left.
 pub(crate) fn exclude_zero(linear: &Linear, state: &mut AbsState) -> bool
     ensures exact { MatchBool result (not_zero linear.now state.old ≡ Some state.new)
         (not_zero linear.now state.old ≡ None) }
@@ -150,6 +162,20 @@ pub(crate) fn exclude_zero(linear: &Linear, state: &mut AbsState) -> bool
 fn cut_zero(linear: &Linear, state: &mut AbsState) -> bool
     ensures { MatchBool result (not_zero linear.now state.old ≡ Some state.new)
         (not_zero linear.now state.old ≡ None) }
+{
+    match only_term(linear) {
+        Some(term) => cut_balance(state, &term, i128::from(linear.constant())),
+        None => cut_free(linear, state),
+    }
+}
+
+/// The same by the terms whose variables have more than one value.
+fn cut_free(linear: &Linear, state: &mut AbsState) -> bool
+    ensures { MatchBool result
+        (not_zero_by (free_terms (range_of state.old) linear.now.terms)
+        (known_value (range_of state.old) linear.now) state.old ≡ Some state.new)
+        (not_zero_by (free_terms (range_of state.old) linear.now.terms)
+        (known_value (range_of state.old) linear.now) state.old ≡ None) }
 {
     let constant = known_value(linear, state);
     let free = free_terms(linear.terms(), state);

@@ -1,7 +1,7 @@
 use Rattle.std.proofs.Common.{◌∙◌, sym}
 use Rattle.abs_state.specs.Variables.{range_of}
 use Rattle.flag_parts.proofs.ExcludingLemmas.{free_coefficient}
-use Rattle.flag_parts.proofs.excluding.cut_zero.Goals as goal
+use Rattle.flag_parts.proofs.excluding.cut_free.Goals as goal
 
 pub cut_balance-requires-clause-coefficient : goal.cut_balance-requires-clause-coefficient
 cut_balance-requires-clause-coefficient c =
