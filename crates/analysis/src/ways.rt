@@ -136,20 +136,11 @@ fn step_at(
             );
             RowStep {
                 writes,
-                answer: without_flag_facts(answer),
+                answer,
                 operand,
             }
         }
     }
-}
-
-/// The answer without flag facts, which rows of version 3 do not have: flag parts stand for them.
-fn without_flag_facts(answer: Result<Nexts, Reason>) -> Result<Nexts, Reason> {
-    let mut nexts = answer?;
-    for next in nexts.iter_mut() {
-        next.state.flag = None;
-    }
-    Ok(nexts)
 }
 
 /// What the refined step of a row says beside its successors; nothing before version 3. `operand` is the range of the

@@ -4,6 +4,7 @@ use crate::search_context::SearchContext;
 use abs_state::AbsState;
 use analysis::{FlowFault, Task};
 use annotations::Annotations;
+use flag_letters::FlagParts;
 use inferred_rows::{ContextPoint, Guide, InferredRow, Manner};
 use inferring::{SplitReach, found_rows_with, resumed};
 use judged_rows::JudgedRows;
@@ -387,7 +388,7 @@ impl ExploredPlan {
         count
     }
 
-    /// Whether a reason is against a state in place of a row.
+    /// Whether a reason is against a state with flag parts in place of a row.
     ///
     /// # Errors
     ///
@@ -399,12 +400,13 @@ impl ExploredPlan {
         proc: u32,
         address: u16,
         state: &AbsState,
+        parts: &FlagParts,
     ) -> Result<bool, FlowFault> {
         let Some(task) = context.task(&self.said) else {
             return Ok(true);
         };
         let place = ContextPoint::at(proc, address).plain();
-        let judged = self.list.judged_at(alloc, &task, place, state)?;
+        let judged = self.list.judged_at(alloc, &task, place, state, parts)?;
         Ok(judged.as_ref().reason.is_some())
     }
 }

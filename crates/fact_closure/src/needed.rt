@@ -8,6 +8,7 @@ use analysis::FlowFault;
 use board_fetch::fetch;
 use cert_fields::Facts;
 use cert_lines::Version;
+use flag_letters::FlagParts;
 use inferred_rows::{ContextPoint, Guide, InferredRow, Manner, pointer_of};
 use inferring::found_rows_with;
 use loop_bounds::{Linear, Ranges, Variable};
@@ -263,7 +264,7 @@ impl<'s> FactSearch<'s> {
             let Some(state) = tightened(&row.state, table.facts.get(&number), relation) else {
                 continue;
             };
-            if is_soft(self.reason_of(alloc, number, &state)?) {
+            if is_soft(self.reason_of(alloc, number, &state, &row.parts)?) {
                 continue;
             }
             let closure = self.closure(alloc, incoming, table, number, relation)?;
@@ -353,17 +354,18 @@ impl<'s> FactSearch<'s> {
         }
     }
 
-    /// The lowest reason against a state at a place.
+    /// The lowest reason against a state with flag parts at a place.
     fn reason_of(
         &self,
         alloc: Global,
         number: u64,
         state: &AbsState,
+        parts: &FlagParts,
     ) -> Result<Option<Reason>, FlowFault> {
         let place = ContextPoint::of(number).plain();
         let judged = self
             .related
-            .judged_at(alloc, self.setting.task, place, state)?;
+            .judged_at(alloc, self.setting.task, place, state, parts)?;
         Ok(judged.as_ref().reason)
     }
 

@@ -78,6 +78,8 @@ pub struct Tightening<'t> {
     pub found: &'t [Linear],
     /// Whether its relations tighten it.
     pub relates: bool,
+    /// Whether it may have a flag fact: before version 3, where it has no flag parts.
+    pub has_flag_facts: bool,
     pub thresholds: &'t Thresholds,
     /// How many kept cells there are.
     pub cells: usize,
@@ -117,6 +119,9 @@ impl InferredRow {
             growth: Growth::none(),
             changes: 0,
         };
+        if !by.has_flag_facts {
+            row.state.flag = None;
+        }
         if by.relates {
             row.relate()?;
         }

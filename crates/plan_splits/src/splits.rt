@@ -9,7 +9,7 @@ use explored_plans::{
 };
 use inferred_rows::ContextPoint;
 use intervals::ByteRange;
-use row_graph::{FlowGraph, LocalRun};
+use row_graph::{FlowGraph, LocalRow, LocalRun};
 use row_worklist::Watch;
 use std::collections::BTreeMap;
 use z80_decode::Register8;
@@ -258,7 +258,11 @@ fn is_refused_after<P: Progress>(
     };
     let mut run = LocalRun::new(search.alloc, &task, &open.list, proc);
     for row in open.rows_of(search.alloc, Some(proc), end)? {
-        run.arrive(search.alloc, end, &row.state)?;
+        let row = LocalRow {
+            state: row.state.copied(),
+            parts: row.parts.copied(),
+        };
+        run.arrive(search.alloc, end, row)?;
     }
     for _ in 0..STEPS_AFTER {
         let Some(address) = run.take_waiting() else {
@@ -267,8 +271,8 @@ fn is_refused_after<P: Progress>(
         if address == at {
             continue;
         }
-        if let Some(state) = run.state(address) {
-            if is_newly_refused(search, open, proc, address, state)? {
+        if let Some(row) = run.row(address) {
+            if is_newly_refused(search, open, proc, address, row)? {
                 return Ok(true);
             }
         }
@@ -283,12 +287,19 @@ fn is_newly_refused<P: Progress>(
     open: &ExploredPlan,
     proc: u32,
     address: u16,
-    state: &AbsState,
+    row: &LocalRow,
 ) -> Result<bool, FlowFault> {
     if open.refuses_at(proc, address) {
         return Ok(false);
     }
-    open.refuses(search.alloc, search.context, proc, address, state)
+    open.refuses(
+        search.alloc,
+        search.context,
+        proc,
+        address,
+        &row.state,
+        &row.parts,
+    )
 }
 
 /// How many parts each address of a procedure has.
@@ -438,18 +449,18 @@ fn comes_to<P: Progress>(
 ) -> Result<Passing, FlowFault> {
     let alloc = search.alloc;
     if at == refused {
-        return passing_at(search, proc, refused, state);
+        return passing_at(search, proc, refused, &LocalRow::of(state));
     }
     let Some(task) = search.context.task(&search.explored.said) else {
         return Ok(Passing::Refused);
     };
     let mut run = LocalRun::new(alloc, &task, &search.explored.list, proc);
-    run.arrive(alloc, at, state)?;
+    run.arrive(alloc, at, LocalRow::of(state))?;
     if !run.run_to(alloc, refused, STEPS)? {
         return Ok(Passing::Refused);
     }
-    match run.state(refused) {
-        Some(state) => passing_at(search, proc, refused, state),
+    match run.row(refused) {
+        Some(row) => passing_at(search, proc, refused, row),
         None => Ok(Passing::Missed),
     }
 }
@@ -458,11 +469,16 @@ fn passing_at<P: Progress>(
     search: &Search<P>,
     proc: u32,
     refused: u16,
-    state: &AbsState,
+    row: &LocalRow,
 ) -> Result<Passing, FlowFault> {
-    let is_refused = search
-        .explored
-        .refuses(search.alloc, search.context, proc, refused, state)?;
+    let is_refused = search.explored.refuses(
+        search.alloc,
+        search.context,
+        proc,
+        refused,
+        &row.state,
+        &row.parts,
+    )?;
     Ok(if is_refused {
         Passing::Refused
     } else {

@@ -7,6 +7,6 @@ mod natural_loop;
 mod turns;
 
 pub use flow_graph::FlowGraph;
-pub use local_run::LocalRun;
+pub use local_run::{LocalRow, LocalRun};
 pub use natural_loop::{NaturalLoop, loops_of};
 pub use turns::turns_of;

@@ -1,18 +1,37 @@
 // Runs of a procedure from one state.
 
 use abs_state::AbsState;
-use abs_step::{Next, NextKind};
-use analysis::{FlowFault, Task, joined, sub_of};
+use abs_step::NextKind;
+use analysis::{FlowFault, Task, joined, sub_of, told_at};
 use board_fetch::fetch;
+use derived_parts::common_parts;
+use flag_letters::FlagParts;
 use inferred_rows::ContextPoint;
 use intervals::Domain;
-use row_worklist::Worklist;
+use row_worklist::{Worklist, parts_by};
 use std::alloc::Global;
 use std::collections::{BTreeMap, BTreeSet};
 use std::rc::Rc;
 
 /// After how many joins an address takes no more states.
 const JOINS: u16 = 24;
+
+/// What comes to an address: a state, and what is known of the flags there.
+#[derive(Drop)]
+pub struct LocalRow {
+    pub state: AbsState,
+    pub parts: FlagParts,
+}
+
+impl LocalRow {
+    /// A state, of whose flags nothing more is known.
+    pub fn of(state: &AbsState) -> LocalRow {
+        LocalRow {
+            state: state.copied(),
+            parts: FlagParts::empty(),
+        }
+    }
+}
 
 /// A run of a procedure from one state: the states that come to each address, joined.
 #[derive(Drop)]
@@ -21,7 +40,7 @@ pub struct LocalRun<'w> {
     /// The analysis whose exits of callees count.
     list: &'w Worklist,
     proc: u32,
-    rows: BTreeMap<u16, Rc<AbsState>>,
+    rows: BTreeMap<u16, Rc<LocalRow>>,
     joins: BTreeMap<u16, u16>,
     waiting: BTreeSet<u16>,
 }
@@ -39,10 +58,10 @@ impl<'w> LocalRun<'w> {
         }
     }
 
-    /// The state at an address, if one came there.
-    pub fn state(&self, address: u16) -> Option<&AbsState> {
+    /// What came to an address, joined, if anything did.
+    pub fn row(&self, address: u16) -> Option<&LocalRow> {
         match self.rows.get(&address) {
-            Some(state) => Some(state.as_ref()),
+            Some(row) => Some(row.as_ref()),
             None => None,
         }
     }
@@ -52,14 +71,14 @@ impl<'w> LocalRun<'w> {
         &mut self,
         alloc: Global,
         address: u16,
-        state: &AbsState,
+        arriving: LocalRow,
     ) -> Result<(), FlowFault> {
         let arrived = match self.rows.get(&address) {
-            Some(row) => match self.joined_at(address, row.as_ref(), state) {
+            Some(row) => match self.joined_at(address, row.as_ref(), &arriving) {
                 Some(both) => Rc::new(alloc, both)?,
                 None => return Ok(()),
             },
-            None => Rc::new(alloc, state.copied())?,
+            None => Rc::new(alloc, arriving)?,
         };
         if self.rows.insert(address, arrived)?.is_some() {
             let joins = self.joins.get(&address).copied().unwrap_or(0);
@@ -69,14 +88,23 @@ impl<'w> LocalRun<'w> {
         Ok(())
     }
 
-    /// The join of the state at an address and another one; None if that changes nothing, or the address takes no more.
-    fn joined_at(&self, address: u16, row: &AbsState, state: &AbsState) -> Option<AbsState> {
-        let is_had = row.mode == state.mode && row.armed == state.armed && row.covers(state);
+    /// The join of what is at an address and what comes there; None if that changes nothing, or the address takes no more.
+    fn joined_at(&self, address: u16, row: &LocalRow, arriving: &LocalRow) -> Option<LocalRow> {
+        let (one, other) = (&row.state, &arriving.state);
+        let parts = common_parts(&row.parts, &arriving.parts);
+        let is_had = one.mode == other.mode
+            && one.armed == other.armed
+            && one.covers(other)
+            && parts == row.parts;
         if is_had || self.joins.get(&address).copied().unwrap_or(0) >= JOINS {
             return None;
         }
-        let both = joined(row, state, self.task.cells().len())?;
-        if row.covers(&both) { None } else { Some(both) }
+        let state = joined(one, other, self.task.cells().len())?;
+        if one.covers(&state) && parts == row.parts {
+            None
+        } else {
+            Some(LocalRow { state, parts })
+        }
     }
 
     /// The lowest waiting address, which waits no more.
@@ -84,56 +112,31 @@ impl<'w> LocalRun<'w> {
         self.waiting.pop_first()
     }
 
-    /// The states that an address of the run sends to addresses of its procedure.
+    /// What an address of the run sends to addresses of its procedure.
     ///
     /// # Errors
     ///
     /// `NoMemory` where memory was refused.
-    pub fn sent(&self, alloc: Global, address: u16) -> Result<Vec<(u16, AbsState)>, FlowFault> {
+    pub fn sent(&self, alloc: Global, address: u16) -> Result<Vec<(u16, LocalRow)>, FlowFault> {
         let mut sent = Vec::new(alloc);
-        if let Some(state) = self.rows.get(&address) {
+        if let Some(row) = self.rows.get(&address) {
+            let row = row.as_ref();
+            let place = ContextPoint::at(self.proc, address);
             send(
-                alloc, self.task, self.list, self.proc, address, state, &mut sent,
+                alloc, self.task, self.list, place, &row.state, &row.parts, &mut sent,
             )?;
         }
         Ok(sent)
     }
 
-    /// The states that an address sends to addresses of the procedure come there.
+    /// What an address sends to addresses of the procedure comes there.
     ///
     /// # Errors
     ///
     /// `NoMemory` where memory was refused.
     pub fn go_on(&mut self, alloc: Global, address: u16) -> Result<(), FlowFault> {
-        let Some(state) = self.rows.get(&address) else {
-            return Ok(());
-        };
-        let state = state.clone()?;
-        let place = ContextPoint::at(self.proc, address).plain();
-        let judged = self
-            .list
-            .judged_at(alloc, self.task, place, state.as_ref())?;
-        let Some(nexts) = &judged.as_ref().nexts else {
-            return Ok(());
-        };
-        for next in nexts.as_slice() {
-            match next.kind {
-                NextKind::Jump => self.arrive(alloc, next.address, &next.state)?,
-                NextKind::Call => self.come_back(alloc, address, next)?,
-                NextKind::Exit => {}
-            }
-        }
-        Ok(())
-    }
-
-    /// The states after a call come to the address after it.
-    fn come_back(&mut self, alloc: Global, address: u16, next: &Next) -> Result<(), FlowFault> {
-        let Ok((_, len)) = fetch(self.task.rom(), address) else {
-            return Ok(());
-        };
-        let after = address.wrapping_add(u16::from(len));
-        for exit in self.list.exits_of(alloc, sub_of(next.address))? {
-            self.arrive(alloc, after, &next.state.after_call(&exit))?;
+        for (to, row) in self.sent(alloc, address)? {
+            self.arrive(alloc, to, row)?;
         }
         Ok(())
     }
@@ -158,8 +161,8 @@ impl<'w> LocalRun<'w> {
     }
 }
 
-/// Adds the states that a state at an address of a procedure sends to addresses of the procedure. After a call they are
-/// those from each exit of the callee.
+/// Adds what a state with flag parts at a place sends to addresses of its procedure. After a call these are the states
+/// from each exit of the callee. A restart leaves the procedure.
 ///
 /// # Errors
 ///
@@ -168,19 +171,36 @@ pub(crate) fn send(
     alloc: Global,
     task: &Task,
     list: &Worklist,
-    proc: u32,
-    address: u16,
+    place: ContextPoint,
     state: &AbsState,
-    sent: &mut Vec<(u16, AbsState)>,
+    parts: &FlagParts,
+    sent: &mut Vec<(u16, LocalRow)>,
 ) -> Result<(), FlowFault> {
-    let place = ContextPoint::at(proc, address).plain();
-    let judged = list.judged_at(alloc, task, place, state)?;
-    let Some(nexts) = &judged.as_ref().nexts else {
+    let address = place.address;
+    let judged = list.judged_at(alloc, task, place.plain(), state, parts)?;
+    let judged = judged.as_ref();
+    let Some(nexts) = &judged.nexts else {
         return Ok(());
     };
+    let told = told_at(task, address, judged.operand, state, parts);
     for next in nexts.as_slice() {
         match next.kind {
-            NextKind::Jump => sent.push((next.address, next.state.copied()))?,
+            NextKind::Jump if judged.restarts => {}
+            NextKind::Jump => {
+                let parts = parts_by(
+                    &[],
+                    state,
+                    &told,
+                    &next.effect,
+                    &next.moved,
+                    &next.state,
+                );
+                let row = LocalRow {
+                    state: next.state.copied(),
+                    parts,
+                };
+                sent.push((next.address, row))?;
+            }
             NextKind::Call => {
                 let Ok((_, len)) = fetch(task.rom(), address) else {
                     continue;
@@ -188,7 +208,7 @@ pub(crate) fn send(
                 let after = address.wrapping_add(u16::from(len));
                 let callee = sub_of(next.address);
                 for exit in list.exits_of(alloc, callee)? {
-                    sent.push((after, next.state.after_call(&exit)))?;
+                    sent.push((after, LocalRow::of(&next.state.after_call(&exit))))?;
                 }
             }
             NextKind::Exit => {}

@@ -1,6 +1,6 @@
 // The states at the head of a loop, turn by turn.
 
-use crate::local_run::{LocalRun, send};
+use crate::local_run::{LocalRow, LocalRun, send};
 use crate::natural_loop::NaturalLoop;
 use abs_state::AbsState;
 use abs_step::NextKind;
@@ -90,18 +90,13 @@ fn entering(
             continue;
         }
         let mut sent = Vec::new(alloc);
+        let place = ContextPoint::at(proc, point.address);
         send(
-            alloc,
-            task,
-            list,
-            proc,
-            point.address,
-            &row.state,
-            &mut sent,
+            alloc, task, list, place, &row.state, &row.parts, &mut sent,
         )?;
-        for (to, state) in sent {
+        for (to, next) in sent {
             if to == of.head {
-                join_into(&mut found, &state, cells);
+                join_into(&mut found, &next.state, cells);
             }
         }
     }
@@ -131,7 +126,7 @@ fn one_turn(
 ) -> Result<Turn, FlowFault> {
     let cells = task.cells().len();
     let mut run = LocalRun::new(alloc, task, list, proc);
-    run.arrive(alloc, of.head, state)?;
+    run.arrive(alloc, of.head, LocalRow::of(state))?;
     let mut again = None;
     for _ in 0..STEPS {
         let Some(address) = run.take_waiting() else {
@@ -140,11 +135,11 @@ fn one_turn(
                 None => Turn::Last,
             });
         };
-        for (to, state) in run.sent(alloc, address)? {
+        for (to, next) in run.sent(alloc, address)? {
             if to == of.head {
-                join_into(&mut again, &state, cells);
+                join_into(&mut again, &next.state, cells);
             } else if of.contains(to) {
-                run.arrive(alloc, to, &state)?;
+                run.arrive(alloc, to, next)?;
             }
         }
     }

@@ -19,7 +19,7 @@ use inferred_rows::{
 };
 use intervals::ByteRange;
 use judged_rows::JudgedRows;
-use loop_bounds::Effect;
+use loop_bounds::{Effect, Linear};
 use sent_states::{Arriving, ArrivingKind, Sent, SentState};
 use std::alloc::Global;
 use std::collections::{BTreeMap, BTreeSet};
@@ -387,7 +387,7 @@ impl Worklist {
         Ok(drops)
     }
 
-    /// Judges a state at a place, of which nothing is known of the flags but what the state says.
+    /// Judges a state with flag parts at a place.
     ///
     /// # Errors
     ///
@@ -398,11 +398,10 @@ impl Worklist {
         task: &Task,
         place: ProgramPoint,
         state: &AbsState,
+        parts: &FlagParts,
     ) -> Result<Rc<JudgedRow>, FlowFault> {
         let timed = self.is_timed(place.proc);
-        let untold = FlagParts::empty();
-        self.judged
-            .judged(alloc, task, place, timed, state, &untold)
+        self.judged.judged(alloc, task, place, timed, state, parts)
     }
 
     /// Judges a row, with its flag parts.
@@ -418,9 +417,7 @@ impl Worklist {
         row: &InferredRow,
     ) -> Result<Rc<JudgedRow>, FlowFault> {
         let place = ContextPoint::of(number).plain();
-        let timed = self.is_timed(place.proc);
-        self.judged
-            .judged(alloc, task, place, timed, &row.state, &row.parts)
+        self.judged_at(alloc, task, place, &row.state, &row.parts)
     }
 
     /// The rows that were judged, for other analyses of the ROM on the same map.
@@ -673,6 +670,7 @@ fn tightening<'t>(
         part: ContextPoint::of(number).part,
         found: setting.guide.facts_of(number),
         relates: setting.manner.relates,
+        has_flag_facts: setting.task.version() != Version::Three,
         thresholds,
         cells: setting.task.cells().len(),
     }
@@ -764,25 +762,46 @@ pub fn parts_told(
     told: &StepTold,
     arriving: &Arriving,
 ) -> ArrivingParts {
-    let is_told = !told.conditions.before().is_empty() || !told.conditions.after().is_empty();
-    if !is_told || arriving.kind != ArrivingKind::Jump {
-        return ArrivingParts {
-            parts: FlagParts::empty(),
-            from: number,
-        };
+    let parts = if arriving.kind == ArrivingKind::Jump {
+        parts_by(
+            row.relations.as_slice(),
+            &row.state,
+            told,
+            &arriving.effect,
+            &arriving.moved,
+            arriving.state(),
+        )
+    } else {
+        FlagParts::empty()
+    };
+    ArrivingParts {
+        parts,
+        from: number,
+    }
+}
+
+/// The flag parts that are known after a step from a state with these facts, in the state `after`, by what the step says
+/// beside and by its two effects.
+pub fn parts_by(
+    facts: &[Linear],
+    before: &AbsState,
+    told: &StepTold,
+    settled: &Effect,
+    moved: &Effect,
+    after: &AbsState,
+) -> FlagParts {
+    if told.conditions.before().is_empty() && told.conditions.after().is_empty() {
+        return FlagParts::empty();
     }
     let source = StepSource {
-        facts: row.relations.as_slice(),
-        before: &row.state,
-        settled: &arriving.effect,
-        moved: &arriving.moved,
+        facts,
+        before,
+        settled,
+        moved,
         linear: &told.linear,
         conditions: &told.conditions,
     };
-    ArrivingParts {
-        parts: parts_after(&source, arriving.state()),
-        from: number,
-    }
+    parts_after(&source, after)
 }
 
 /// What is known of the variables together after a step.
