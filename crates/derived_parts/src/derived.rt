@@ -75,10 +75,13 @@ fn with_old(sum: &Combination, source: &StepSource, term: Term) -> Option<Combin
 fn with_change(sum: &Combination, coefficient: i32, change: Change) -> Option<Combination> {
     match change {
         Change::Old(variable) => sum.with(coefficient, variable),
-        Change::Raised(variable) => sum.raised(coefficient)?.with(coefficient, variable),
+        Change::Raised(variable) => {
+            let raised = sum.raised(coefficient)?;
+            raised.with(coefficient, variable)
+        }
         Change::Lowered(variable) => {
-            sum.raised(coefficient.checked_neg()?)?
-                .with(coefficient, variable)
+            let lowered = sum.raised(coefficient.checked_neg()?)?;
+            lowered.with(coefficient, variable)
         }
         Change::Constant(value) => sum.raised(coefficient.checked_mul(i32::from(value))?),
         Change::Unknown => None,
