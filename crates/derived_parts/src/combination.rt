@@ -127,7 +127,7 @@ impl Combination {
         let mut joins = false;
         for term in &self.terms {
             if let Some(word) = word_of(self, *term) {
-                next = joined(&next, term.coefficient, word)?;
+                next = joined(&next, term, word)?;
                 joins = true;
             }
         }
@@ -209,12 +209,11 @@ fn word_of(bytes: &Combination, term: Term) -> Option<Variable> {
     }
 }
 
-/// A combination with a multiple of a word in place of its bytes.
-fn joined(combination: &Combination, coefficient: i32, word: Variable) -> Option<Combination> {
+/// A combination with a word in place of its bytes. `low` is the term of the low byte.
+fn joined(combination: &Combination, low: &Term, word: Variable) -> Option<Combination> {
     let halves = halves_of(&word)?;
-    let high = coefficient.checked_mul(256)?.checked_neg()?;
-    let low = coefficient.checked_neg()?;
+    let high = low.coefficient.checked_mul(256)?.checked_neg()?;
     let without_high = combination.with(high, halves.high)?;
-    let without_both = without_high.with(low, halves.low)?;
-    without_both.with(coefficient, word)
+    let without_both = without_high.with(low.coefficient.checked_neg()?, halves.low)?;
+    without_both.with(low.coefficient, word)
 }

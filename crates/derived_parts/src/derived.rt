@@ -66,13 +66,14 @@ fn with_old(sum: &Combination, source: &StepSource, term: Term) -> Option<Combin
         }
     }
     match source.moved.change(term.variable) {
-        Change::Unknown => with_change(sum, term.coefficient, source.settled.change(term.variable)),
-        change => with_change(sum, term.coefficient, change),
+        Change::Unknown => with_change(sum, &term, source.settled.change(term.variable)),
+        change => with_change(sum, &term, change),
     }
 }
 
-/// A sum with a multiple of what a change leaves.
-fn with_change(sum: &Combination, coefficient: i32, change: Change) -> Option<Combination> {
+/// A sum with a multiple of what a change leaves in the variable of a term.
+fn with_change(sum: &Combination, term: &Term, change: Change) -> Option<Combination> {
+    let coefficient = term.coefficient;
     match change {
         Change::Old(variable) => sum.with(coefficient, variable),
         Change::Raised(variable) => {
