@@ -103,14 +103,14 @@ impl Combination {
 
     /// Whether a word with bytes of its own has a term.
     pub(crate) fn has_words(&self) -> bool {
-        self.terms.iter().any(|term| term.coefficient != 0 && halves_of(term.variable).is_some())
+        self.terms.iter().any(|term| term.coefficient != 0 && halves_of(&term.variable).is_some())
     }
 
     /// The same with 256 times the high byte and the low byte in place of each word.
     pub(crate) fn byte_form(&self) -> Option<Combination> {
         let mut next = Combination::of_constant(self.constant);
         for term in &self.terms {
-            match halves_of(term.variable) {
+            match halves_of(&term.variable) {
                 Some(halves) => {
                     next = next.with(term.coefficient.checked_mul(256)?, halves.high)?;
                     next = next.with(term.coefficient, halves.low)?;
@@ -127,7 +127,7 @@ impl Combination {
         let mut joins = false;
         for term in &self.terms {
             if let Some(word) = word_of(self, *term) {
-                next = joined(&next, term.coefficient, word)?;
+                next = joined(&next, term, word)?;
                 joins = true;
             }
         }
@@ -200,8 +200,8 @@ fn word_of(bytes: &Combination, term: Term) -> Option<Variable> {
     if term.coefficient == 0 {
         return None;
     }
-    let word = word_above(term.variable)?;
-    let halves = halves_of(word)?;
+    let word = word_above(&term.variable)?;
+    let halves = halves_of(&word)?;
     if bytes.coefficient_of(halves.high) == term.coefficient.checked_mul(256)? {
         Some(word)
     } else {
@@ -209,12 +209,11 @@ fn word_of(bytes: &Combination, term: Term) -> Option<Variable> {
     }
 }
 
-/// A combination with a multiple of a word in place of its bytes.
-fn joined(combination: &Combination, coefficient: i32, word: Variable) -> Option<Combination> {
-    let halves = halves_of(word)?;
-    let high = coefficient.checked_mul(256)?.checked_neg()?;
-    combination
-        .with(high, halves.high)?
-        .with(coefficient.checked_neg()?, halves.low)?
-        .with(coefficient, word)
+/// A combination with a word in place of its bytes. `low` is the term of the low byte.
+fn joined(combination: &Combination, low: &Term, word: Variable) -> Option<Combination> {
+    let halves = halves_of(&word)?;
+    let high = low.coefficient.checked_mul(256)?.checked_neg()?;
+    let without_high = combination.with(high, halves.high)?;
+    let without_both = without_high.with(low.coefficient.checked_neg()?, halves.low)?;
+    without_both.with(low.coefficient, word)
 }

@@ -66,19 +66,23 @@ fn with_old(sum: &Combination, source: &StepSource, term: Term) -> Option<Combin
         }
     }
     match source.moved.change(term.variable) {
-        Change::Unknown => with_change(sum, term.coefficient, source.settled.change(term.variable)),
-        change => with_change(sum, term.coefficient, change),
+        Change::Unknown => with_change(sum, &term, source.settled.change(term.variable)),
+        change => with_change(sum, &term, change),
     }
 }
 
-/// A sum with a multiple of what a change leaves.
-fn with_change(sum: &Combination, coefficient: i32, change: Change) -> Option<Combination> {
+/// A sum with a multiple of what a change leaves in the variable of a term.
+fn with_change(sum: &Combination, term: &Term, change: Change) -> Option<Combination> {
+    let coefficient = term.coefficient;
     match change {
         Change::Old(variable) => sum.with(coefficient, variable),
-        Change::Raised(variable) => sum.raised(coefficient)?.with(coefficient, variable),
+        Change::Raised(variable) => {
+            let raised = sum.raised(coefficient)?;
+            raised.with(coefficient, variable)
+        }
         Change::Lowered(variable) => {
-            sum.raised(coefficient.checked_neg()?)?
-                .with(coefficient, variable)
+            let lowered = sum.raised(coefficient.checked_neg()?)?;
+            lowered.with(coefficient, variable)
         }
         Change::Constant(value) => sum.raised(coefficient.checked_mul(i32::from(value))?),
         Change::Unknown => None,

@@ -9,24 +9,36 @@ pub(crate) struct Halves {
     pub low: Variable,
 }
 
+fn high_of(word: &Variable) -> Option<Variable> {
+    match *word {
+        Variable::Bc => Some(Variable::B),
+        Variable::De => Some(Variable::D),
+        Variable::Hl => Some(Variable::H),
+        Variable::Slot(number, Part::Word) => Some(Variable::Slot(number, Part::High)),
+        _ => None,
+    }
+}
+
+fn low_of(word: &Variable) -> Option<Variable> {
+    match *word {
+        Variable::Bc => Some(Variable::C),
+        Variable::De => Some(Variable::E),
+        Variable::Hl => Some(Variable::L),
+        Variable::Slot(number, Part::Word) => Some(Variable::Slot(number, Part::Low)),
+        _ => None,
+    }
+}
+
 /// The bytes of BC, DE, HL or a slot. None for a byte, IX and IY.
-pub(crate) fn halves_of(variable: Variable) -> Option<Halves> {
-    let (high, low) = match variable {
-        Variable::Bc => (Variable::B, Variable::C),
-        Variable::De => (Variable::D, Variable::E),
-        Variable::Hl => (Variable::H, Variable::L),
-        Variable::Slot(number, Part::Word) => (
-            Variable::Slot(number, Part::High),
-            Variable::Slot(number, Part::Low),
-        ),
-        _ => return None,
-    };
+pub(crate) fn halves_of(variable: &Variable) -> Option<Halves> {
+    let high = high_of(variable)?;
+    let low = low_of(variable)?;
     Some(Halves { high, low })
 }
 
 /// The word whose low byte a variable is.
-pub(crate) fn word_above(low: Variable) -> Option<Variable> {
-    match low {
+pub(crate) fn word_above(low: &Variable) -> Option<Variable> {
+    match *low {
         Variable::C => Some(Variable::Bc),
         Variable::E => Some(Variable::De),
         Variable::L => Some(Variable::Hl),
