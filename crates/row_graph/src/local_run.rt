@@ -187,14 +187,7 @@ pub(crate) fn send(
         match next.kind {
             NextKind::Jump if judged.restarts => {}
             NextKind::Jump => {
-                let parts = parts_by(
-                    &[],
-                    state,
-                    &told,
-                    &next.effect,
-                    &next.moved,
-                    &next.state,
-                );
+                let parts = parts_by(&[], state, &told, &next.effect, &next.moved, &next.state);
                 let row = LocalRow {
                     state: next.state.copied(),
                     parts,

@@ -91,9 +91,7 @@ fn entering(
         }
         let mut sent = Vec::new(alloc);
         let place = ContextPoint::at(proc, point.address);
-        send(
-            alloc, task, list, place, &row.state, &row.parts, &mut sent,
-        )?;
+        send(alloc, task, list, place, &row.state, &row.parts, &mut sent)?;
         for (to, next) in sent {
             if to == of.head {
                 join_into(&mut found, &next.state, cells);

@@ -7,6 +7,6 @@ mod waiting;
 mod worklist;
 
 pub use worklist::{
-    Findings, RowEdge, Setting, Watch, Worklist, bytes_of, parts_by, parts_told, space_after, state_at_exit,
-    told_by,
+    Findings, RowEdge, Setting, Watch, Worklist, bytes_of, parts_by, parts_told, space_after,
+    state_at_exit, told_by,
 };
