@@ -193,8 +193,8 @@ fn made_of(
     Ok(certificate)
 }
 
-/// The certificate of what the annotations say about the whole ROM, with this version and these lists. The bounds are still missing: the
-/// depths and times of the procedures, and the potentials of the rows.
+/// The certificate of what the annotations say about the whole ROM, with this version and these lists. The bounds are
+/// still missing: the depths and times of the procedures, and the potentials of the rows.
 fn without_bounds(
     alloc: Global,
     rom: &Rom,

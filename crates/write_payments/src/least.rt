@@ -229,8 +229,8 @@ impl<'a> Payer<'a> {
         }
     }
 
-    /// The terms of the next row's potential before the step to it, rewritten in this way, if there are any and this row
-    /// has their variables.
+    /// The terms of the next row's potential before the step to it, rewritten in this way, if there are any and this
+    /// row has their variables.
     fn terms_at(
         &self,
         rewriting: &Rewriting,
