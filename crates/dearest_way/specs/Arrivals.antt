@@ -44,7 +44,7 @@ pub record ArrivesByCallee (s : SubjectView) (target : Row) (next : Next) (state
 -- a jump leads to a row, and its state arrives
 pub record ArrivesByJump (s : SubjectView) (target : Row) (next : Next) (state : AbsState) : Type 0 where
   pub lands : Lands s.cert (jump_way s next) target
-  pub state_is : state ≡ next.state
+  pub state_is : state ≡ (jump_way s next).state
 
 -- a successor of this kind leads to a row, and this state arrives
 abbrev pub ArrivesByKind : SubjectView → Row → Next → NextKind → AbsState → Type 0

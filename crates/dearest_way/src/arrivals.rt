@@ -4,7 +4,7 @@ ghost use Rattle.std.specs.Prelude.{◌≡◌, Contains, IfSome, IsTrue, Ok, Som
 ghost use Rattle.check_cover.specs.Program.{callee_at};
 ghost use Rattle.check_ways.specs.Parts.{AtSomeExit};
 ghost use Rattle.check_ways.specs.Pays.{Lands};
-ghost use Rattle.check_ways.specs.Ways.{jump_way, step_of};
+ghost use Rattle.check_ways.specs.Ways.{jump_to, step_of};
 ghost use Rattle.dearest_way.specs.Arrivals.{ArrivesAt, ArrivesBy, ArrivesByCall, ArrivesByJump, ArrivesFrom, ReturnsIn};
 
 use abs_state::AbsState;
@@ -75,24 +75,30 @@ fn arriving_by(subject: &Subject, next: &Next, target: &RowRef, cost: u32) -> Op
     }
 }
 
-/// The same by a jump.
+/// The same by a jump. A restart leaves the procedure, so it leads to none of its rows.
 fn arriving_by_jump(subject: &Subject, next: &Next, target: &RowRef, cost: u32) -> Option<AbsState>
     requires { Contains subject.now.cert.rows target.now }
     ensures { IfSome result (ArrivesByJump subject.now target.now next.now) }
 {
+    if subject.restarts() {
+        return None;
+    }
     if u32::from(next.cost) != cost {
         return None;
     }
-    if !jump_lands(subject, next, target) {
-        return None;
+    if jump_lands(subject, next, target) {
+        Some(next.state.copied())
+    } else {
+        None
     }
-    Some(next.state.copied())
 }
 
-/// Whether a jump leads to a row that is asked.
+/// Whether a jump within the row's procedure leads to a row that is asked.
 fn jump_lands(subject: &Subject, next: &Next, target: &RowRef) -> bool
     requires { Contains subject.now.cert.rows target.now }
-    ensures { IsTrue result → Lands subject.now.cert (jump_way subject.now next.now) target.now }
+    ensures { IsTrue result
+        → Lands subject.now.cert
+        (jump_to subject.now next.now subject.now.row.proc next.now.state) target.now }
 {
     if next.address != target.address || subject.row.proc != target.proc {
         return false;
