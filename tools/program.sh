@@ -424,9 +424,9 @@ ask migrate third.cert
 judge "a later version, migrated" 0 "$(cat third.cert)"$'\n' ''
 ask verify "$six.rom" third.cert
 judge "the certificate of version 3" 0 "$table" ''
-for version in 1 4 02 two ''; do
-    ask migrate "$six.cert" --to "$version"
-    judge "migrated to version '$version'" 2 '' $'bad to\ngalcert: N is "'"$version"$'", and not a version, 2 or 3\n'
+for number in 1 4 02 two ''; do
+    ask migrate "$six.cert" --to "$number"
+    judge "migrated to version '$number'" 2 '' $'bad to\ngalcert: N is "'"$number"$'", and not a version, 2 or 3\n'
 done
 # Flag facts become flag parts.
 sed 's/- - - -$/cC0 - - -/; 7!s/cC0/-/' "$six.cert" > fact.cert
