@@ -15,8 +15,8 @@ use std::alloc::Global;
 use std::collections::BTreeSet;
 use z80_decode::{ArithmeticKind, Condition, Instr, ShortCondition};
 
-/// The rows of one distance from refused ones.
-type Rows = BTreeSet<u64>;
+/// The numbers of rows.
+type NumberSet = BTreeSet<u64>;
 
 /// The condition of JP cc, JR cc, CALL cc and RET cc.
 fn condition_of(instr: &Instr) -> Option<Condition> {
@@ -68,9 +68,9 @@ fn lacking_part(
 fn rows_before(
     alloc: Global,
     steps: &IncomingSteps,
-    rows: &Rows,
-    seen: &mut Rows,
-) -> Result<Rows, FlowFault> {
+    rows: &NumberSet,
+    seen: &mut NumberSet,
+) -> Result<NumberSet, FlowFault> {
     let mut before = BTreeSet::new(alloc);
     for number in rows.iter() {
         for edge in steps.to(*number) {

@@ -5,14 +5,14 @@ use loop_bounds::{Change, Effect, Linear, Ranges, Term, Variable};
 
 /// A constant and at most three terms, in any order.
 #[derive(Drop)]
-struct Sum {
+struct StepSum {
     constant: i64,
     terms: [Option<Term>; 3],
 }
 
-impl Sum {
-    fn new(constant: i32) -> Sum {
-        Sum {
+impl StepSum {
+    fn new(constant: i32) -> StepSum {
+        StepSum {
             constant: i64::from(constant),
             terms: [None; 3],
         }
@@ -93,7 +93,7 @@ fn lesser(one: Option<Term>, other: Term) -> Option<Term> {
 
 /// What a fact after a step from a state was before it. None if it has a variable that is unknown after the step.
 pub(crate) fn before_step(fact: &Linear, effect: &Effect, source: &AbsState) -> Option<Linear> {
-    let mut sum = Sum::new(fact.constant());
+    let mut sum = StepSum::new(fact.constant());
     for term in fact.terms() {
         let coefficient = term.coefficient;
         match effect.change(term.variable) {
@@ -119,7 +119,7 @@ pub(crate) fn before_step(fact: &Linear, effect: &Effect, source: &AbsState) -> 
     sum.linear()
 }
 
-fn add_term(sum: &mut Sum, coefficient: i32, variable: Variable) {
+fn add_term(sum: &mut StepSum, coefficient: i32, variable: Variable) {
     add(
         &mut sum.terms,
         Term {

@@ -125,7 +125,7 @@ fn turned(number: i32, is_turned: bool) -> i64 {
 
 /// A linear with its terms on one side and its constant on the other.
 #[derive(Drop)]
-pub(crate) struct Sides {
+pub(crate) struct LinearSides {
     /// The terms, a positive one first.
     pub sum: String,
     /// The constant on the other side.
@@ -135,7 +135,7 @@ pub(crate) struct Sides {
 }
 
 /// The two sides of a linear.
-pub(crate) fn sides_of(alloc: Global, linear: &Linear) -> Result<Sides, AllocError> {
+pub(crate) fn sides_of(alloc: Global, linear: &Linear) -> Result<LinearSides, AllocError> {
     let terms = linear.terms();
     let mut sum = String::new(alloc);
     let has_positive = terms.iter().any(|term| term.coefficient > 0);
@@ -148,7 +148,7 @@ pub(crate) fn sides_of(alloc: Global, linear: &Linear) -> Result<Sides, AllocErr
         }
         Some(_) => add_terms(alloc, &mut sum, terms, is_turned, None)?,
     }
-    Ok(Sides {
+    Ok(LinearSides {
         sum,
         constant: turned(linear.constant(), !is_turned),
         is_turned,
@@ -159,7 +159,7 @@ pub(crate) fn sides_of(alloc: Global, linear: &Linear) -> Result<Sides, AllocErr
 /// first. `BC + DE = 43B0`, `A - B = 5`. The constant has four hexadecimal digits if a variable is a word and it is 256
 /// or more, else it is decimal.
 pub fn fact_text(alloc: Global, fact: &Linear) -> Result<String, AllocError> {
-    let Sides { sum, constant, .. } = sides_of(alloc, fact)?;
+    let LinearSides { sum, constant, .. } = sides_of(alloc, fact)?;
     if constant >= 256 && fact.terms().iter().any(|term| is_word(term.variable)) {
         format!(in alloc; "{sum} = {constant:04X}")
     } else {

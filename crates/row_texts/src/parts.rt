@@ -1,6 +1,6 @@
 // The texts of flag parts.
 
-use crate::linears::{Sides, is_word, sides_of};
+use crate::linears::{LinearSides, is_word, sides_of};
 use flag_letters::{FlagPart, Letter};
 use loop_bounds::{Linear, Term};
 use std::alloc::{AllocError, Global};
@@ -60,7 +60,7 @@ pub fn part_text(alloc: Global, part: &FlagPart) -> Result<String, AllocError> {
         let word = if is_set { "set" } else { "clear" };
         return format!(in alloc; "{flag} {word}");
     }
-    let Sides {
+    let LinearSides {
         sum,
         constant,
         is_turned,

@@ -59,7 +59,7 @@ fn are_equal(one: &Option<LinearEffect>, other: &Option<LinearEffect>) -> bool {
 
 /// A way to an address of the row's procedure: the state that arrives, the effects and the cost in T-states.
 #[derive(Drop)]
-struct Arriving<'a> {
+struct RequestedWay<'a> {
     address: u16,
     state: &'a AbsState,
     effect: &'a Effect,
@@ -68,7 +68,7 @@ struct Arriving<'a> {
     cost: u32,
 }
 
-impl<'a> Arriving<'a> {
+impl<'a> RequestedWay<'a> {
     /// The request of the rows from `start` to below `end`, counted from the row `first`.
     fn request(&self, version: Version, first: RowId, start: RowId, end: RowId) -> Request {
         let (moved, linear) = match version {
@@ -146,7 +146,7 @@ impl Requests {
         match next.kind {
             NextKind::Jump => self.add_rows(
                 subject,
-                &Arriving {
+                &RequestedWay {
                     address: next.address,
                     state: &next.state,
                     effect: &next.effect,
@@ -167,7 +167,7 @@ impl Requests {
     }
 
     /// Adds the requests of a way.
-    fn add_rows(&mut self, subject: &Subject, way: &Arriving) -> Result<(), AllocError> {
+    fn add_rows(&mut self, subject: &Subject, way: &RequestedWay) -> Result<(), AllocError> {
         let certificate = subject.certificate;
         let proc = subject.row.proc;
         let rows = certificate.rows_at(proc, way.address);
@@ -187,7 +187,7 @@ impl Requests {
     fn add_run(
         &mut self,
         subject: &Subject,
-        way: &Arriving,
+        way: &RequestedWay,
         start: RowId,
         end: RowId,
     ) -> Result<(), AllocError> {
@@ -226,7 +226,7 @@ impl Requests {
                         let way = subject.return_way(next, callee, &exit.state);
                         self.add_rows(
                             subject,
-                            &Arriving {
+                            &RequestedWay {
                                 address: way.address,
                                 state: &way.state,
                                 effect: &way.effect,
