@@ -136,6 +136,12 @@ refused_line T first mid after p new text fault has next takes =
     (text ++ 10 ∷ []) ([], sym (append-nil (text ++ 10 ∷ [])))
     (rest_of mid.bytes (text ++ 10 ∷ []) after.bytes next.given.given)
 
+-- no fault of a text is one of reading
+pub never_read : (fault : CertFault) → read_fault fault ≡ faults.Read → ⊥
+never_read (text_faults.Line n) same = cc
+never_read text_faults.Limit same = cc
+never_read text_faults.NoMemory same = cc
+
 -- the next line is too long, or it is the last one and lacks its line feed
 pub bad_end : (first mid after : DeviceState) (p : ReaderView) (fault : CertFault) →
     HasGiven first p mid → IsTooLong 1048575 mid after ⊎ IsUnended 1048575 mid after →

@@ -1,10 +1,12 @@
-use Rattle.std.proofs.Common.{◌⊎◌, Err, IsSome, Ok, ◌∷◌, ◌++◌, [], length, length-append, inl, inr, subst, ap, ◌∙◌, arith}
+use Rattle.std.proofs.Common.{◌≡◌, ◌⊎◌, Err, IsSome, Ok, ◌∷◌, ◌++◌, [], length, length-append, inl, inr, subst, ap, ◌∙◌, arith}
 use Rattle.std.proofs.lemmas.Result.{err_from_is_err_and}
 use Rattle.cert_form.specs.Reader.{lines_read}
 use Rattle.texts.specs.Device.{HasFailed, HasGrown}
 use Rattle.texts.specs.Incoming.{EndsWell, IsAmid, IsLineTaken, IsTooLong, IsUnended, TakesNone, unread_of}
 use Rattle.texts.proofs.IncomingLemmas.{fresh, fresh_ends}
-use Rattle.certificate.proofs.PiecesLemmas.{all_read, bad_end, few_lines, gave_all, gave_line, gave_none, gave_some, refused_line, source_limit, source_line, source_only, source_same, source_some}
+use Rattle.certificate.proofs.PiecesLemmas.{all_read, bad_end, few_lines, gave_all, gave_line, gave_none, gave_some, never_read, refused_line, source_limit, source_line, source_only, source_same, source_some}
+use Rattle.certificate.specs.Pieces.{read_fault}
+use Rattle.certificate.specs.declared.pieces.ReadFault.TheVariants as faults
 use Rattle.certificate.proofs.pieces.read_from.Goals as goal
 
 pub loop-reader-init : goal.loop-reader-init
@@ -69,6 +71,14 @@ returns-in_err-line-in-Ok-Feed-clause-limit g c =
     let answer = refused_line (Unit {0}) first mid after c.loop-reader.reader c.line.new.self text fault c.loop-reader.invariant.has next c.in_err-line-in-Ok-Feed.ensures.line in
     let p = err_from_is_err_and c.from_residual.result c.from_residual.ensures.1 in
     rw (p.1, p.2) (λ same. source_limit first fault answer (cc))
+
+pub returns-in_err-line-in-Ok-Feed-clause-failed : goal.returns-in_err-line-in-Ok-Feed-clause-failed
+returns-in_err-line-in-Ok-Feed-clause-failed g c =
+    let fault = c.in_err-line-in-Ok-Feed.field-0.0 in
+    let p = err_from_is_err_and c.from_residual.result c.from_residual.ensures.1 in
+    rw (p.1, p.2) (λ same.
+    let bad : read_fault fault ≡ faults.Read = cc in
+    absurd (never_read fault bad))
 
 pub returns-in-Ok-Bad-clause-only : goal.returns-in-Ok-Bad-clause-only
 returns-in-Ok-Bad-clause-only g c =
