@@ -11,7 +11,7 @@ use check_rules::{
     all_keep, all_miss_region, all_miss_rom, all_miss_unmapped, find_armed, lost_at, none_enables,
     sets_sp, sets_top,
 };
-use z80_decode::{Instr, Special};
+use z80_decode::{Instr, Register16, Special};
 
 /// The lowest of the reasons 6, 7 and 8 that applies to the data writes of a row.
 pub(crate) fn place_reason(
@@ -89,20 +89,20 @@ fn instruction_reason(
     if timed && matches!(instr, Instr::Halt) {
         return Some(Reason::HaltInNmi);
     }
-    let is_top = sets_top(place.proc == MAIN, task.said().region(), instr);
-    if sets_sp(instr) && !is_top && !restarts(task, place, timed, instr) {
+    let may_set = place.proc == MAIN || restarts(task, place, timed, instr);
+    if sets_sp(instr) && !sets_top(may_set, task.said().region(), instr) {
         return Some(Reason::SpWrite);
     }
     None
 }
 
-/// Whether an instruction is a restart: in version 3, LD SP,nn with the region's top in a called procedure without a
-/// time (docs/CHECKER.md, "Restarts").
+/// Whether an instruction is a restart: in version 3, LD SP,nn in a called procedure without a time
+/// (docs/CHECKER.md, "Restarts").
 pub(crate) fn restarts(task: &Task, place: ProgramPoint, timed: bool, instr: &Instr) -> bool {
     let is_sub = place.proc != MAIN && place.proc != NMI;
     match task.version() {
         Version::One | Version::Two => false,
-        Version::Three => is_sub && !timed && sets_top(true, task.said().region(), instr),
+        Version::Three => is_sub && !timed && matches!(instr, Instr::LoadPair(Register16::Sp, _)),
     }
 }
 

@@ -44,7 +44,7 @@ use Rattle.cert_lines.specs.declared.row.Row.{Row}
 use Rattle.cert_lines.specs.declared.version.Version.{Version}
 use Rattle.cert_lines.specs.declared.version.Version.TheVariants.{One, Two, Three}
 use Rattle.cert_form.specs.Contents.{CertificateView, map_of_board}
-use Rattle.check_rules.specs.Table.{HasNoStack, FitsDepth, entry_bytes}
+use Rattle.check_rules.specs.Table.{HasNoStack, FitsDepth, RestartsAtTop, entry_bytes}
 use Rattle.check_steps.specs.Told.{refinement_by}
 use Rattle.check_ways.specs.Ways.{CallsCallee, EntersCallee, GoesOn, SubjectView, arrival_at_entry as entry_arrival, nexts_from, restarts, step_by, told_of, writes_from}
 use Rattle.check_laws.proofs.EntryLemmas.{all_own}
@@ -122,9 +122,9 @@ module _ (rom : List ℕ) (cert : CertificateView) (acc : AcceptsInForm rom cert
   overwrites (inl none) some = absurd (some none.main none.empty)
   overwrites (inr all) some = all
 
-  sets_top : restarts subject ≡ false → SetsTop (is_main c.row.proc) cert.region j.instr ⊎ (restarts subject ≡ true) → SetsTop (is_main c.row.proc) cert.region j.instr
+  sets_top : restarts subject ≡ false → SetsTop (is_main c.row.proc) cert.region j.instr ⊎ RestartsAtTop subject j.instr → SetsTop (is_main c.row.proc) cert.region j.instr
   sets_top plain (inl sets) = sets
-  sets_top plain (inr restart) = let both : false ≡ true = sym plain ∙ restart in absurd (cc)
+  sets_top plain (inr restart) = let both : false ≡ true = sym plain ∙ restart.0 in absurd (cc)
 
   in_order : restarts subject ≡ false → IsInOrder (ground_for rom cert) cert.region running c.row.state j.instr (writes_from subject) (nexts_from subject)
   in_order plain = record {

@@ -63,6 +63,7 @@ use Rattle.check_cover.specs.declared.program.Callee.{Callee}
 use Rattle.cert_lines.specs.declared.version.Version.{Version}
 use Rattle.cert_lines.specs.declared.version.Version.TheVariants.{Three}
 use Rattle.cert_form.specs.Contents.{CertificateView, map_of_board}
+use Rattle.board_laws.specs.Uses.{sets_sp}
 use Rattle.check_rules.specs.Table.{IsTimed}
 use Rattle.check_steps.specs.Restarts.{restarted}
 use Rattle.check_ways.specs.Ways.{IsWay, SubjectView, jump_way, nexts_from, restarts, step_by, told_of, writes_from}
@@ -71,7 +72,7 @@ use Rattle.check_laws.proofs.Going.{IsTrueOfStep, goes, is_before, numbers_after
 use Rattle.check_laws.proofs.Judging.{Judged, subject_of}
 use Rattle.check_laws.proofs.Narrowing.{tells_carry}
 use Rattle.check_laws.proofs.Procs.{nmi_covered, sub_not_main}
-use Rattle.check_laws.proofs.Restarts.{IsRestart, restart_is}
+use Rattle.check_laws.proofs.Restarts.{IsRestart, IsRestartBy, restart_at_top, restart_is}
 use Rattle.check_laws.proofs.ReturnLemmas.{restart_leads}
 use Rattle.check_laws.specs.Chain.{AcceptsInForm, Chain, Has, Waiting, waiting_words}
 use Rattle.check_laws.specs.Comes.{Steps}
@@ -292,9 +293,18 @@ module _ (rom : List ℕ) (cert : CertificateView) (acc : AcceptsInForm rom cert
           pays = λ timed. absurd (not_timed timed);
         }
 
+  -- reason 20 does not apply to the row, so SP is set to the region's top
+  at_top : IsRestartBy cert.version c.of.proc j.instr → IsRestart cert.version c.of.proc cert.region.top j.instr
+  at_top r =
+      let sets : sets_sp j.instr ≡ true = subst (λ (i : Instr). sets_sp i ≡ true) (sym r.loads) refl in
+      elim (j.consistent reasons.SpWrite j.instr refl sets) [
+        | inl own ↦ restart_at_top cert.version c.of.proc (is_main c.row.proc) cert.region j.instr r own
+        | inr both ↦ restart_at_top cert.version c.of.proc true cert.region j.instr r both.1
+      ]
+
   pub restart_executes : IsMainOrTimed lowest → restarts here_subject ≡ true → Executed rom cert lowest under c s env
   restart_executes root on =
-      let r = restart_is cert.version c.of.proc cert.region.top j.instr on in
+      let r = at_top (restart_is cert.version c.of.proc j.instr on) in
       let load_here = load root r on in
       record {
         instr = j.instr;

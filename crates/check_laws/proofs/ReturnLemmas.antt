@@ -212,15 +212,15 @@ load_refined s moved nn before now h = record {
   registers = h.registers;
 }
 
-restart_refined : (s : SubjectView) (moved : Effect) (before now : Seen) (version : Version) (decoded : Result Instr DecodeFault) → restarts_by version s.proc s.cert.region.top decoded ≡ true → CameRefinedIfSome (refinement_by version (told_of s decoded) moved) before now
+restart_refined : (s : SubjectView) (moved : Effect) (before now : Seen) (version : Version) (decoded : Result Instr DecodeFault) → restarts_by version s.proc decoded ≡ true → CameRefinedIfSome (refinement_by version (told_of s decoded) moved) before now
     → CameRefinedIfSome (refinement_by version (told_of s decoded) moved) before (entered now)
 restart_refined s moved before now One decoded e h = tt
 restart_refined s moved before now Two decoded e h = tt
 restart_refined s moved before now Three (Err fault) e h = missing _ e
 restart_refined s moved before now Three (Ok instr) e h =
-    let r = restart_is Three s.proc s.cert.region.top instr e in
+    let r = restart_is Three s.proc instr e in
     let at : CameRefined (adds s moved instr) before now → CameRefined (adds s moved instr) before (entered now) =
-    subst (λ (i : Instr). CameRefined (adds s moved i) before now → CameRefined (adds s moved i) before (entered now)) (sym r.loads) (λ k. load_refined s moved s.cert.region.top before now k) in
+    subst (λ (i : Instr). CameRefined (adds s moved i) before now → CameRefined (adds s moved i) before (entered now)) (sym r.loads) (λ k. load_refined s moved r.word before now k) in
     at h
 
 pub restart_leads : (s : SubjectView) (next : Next) (entry later : Entry) (before now : Seen) → IsInForm s.cert → restarts s ≡ true → Steps s next entry before now → Covered s.cert (jump_way s next).arrival (jump_way s next).state

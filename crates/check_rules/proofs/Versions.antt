@@ -21,7 +21,7 @@ use Rattle.cert_lines.specs.declared.version.Version.TheVariants.{One, Two, Thre
 use Rattle.cert_form.specs.Contents.{CertificateView}
 use Rattle.cert_form.specs.Migrated.{migrated_version}
 use Rattle.check_rules.specs.Acceptance.{Accepts, AreConsistent, Begins, CoversEntries, EntryFails, FitsRom, IsRefused, WholeRefused}
-use Rattle.check_rules.specs.Table.{HasNoStack, IsConsistent, FitsDepth, IsLowest, Passes}
+use Rattle.check_rules.specs.Table.{RestartsAtTop, HasNoStack, IsConsistent, FitsDepth, IsLowest, Passes}
 use Rattle.check_ways.specs.Pays.{LeadsToRow, Pays, PaysCall}
 use Rattle.check_steps.specs.Restarts.{restarted, restarts_by}
 use Rattle.check_steps.specs.Returned.{effect_back, effect_of_call}
@@ -79,10 +79,10 @@ plain_entry Two early = refl
 plain_entry Three early = absurd early
 
 -- no instruction restarts
-never_restarts : (v : Version) (proc : Proc) (top : ℕ) (decoded : Result Instr DecodeFault) → IsEarly v → restarts_by v proc top decoded ≡ false
-never_restarts One proc top decoded early = refl
-never_restarts Two proc top decoded early = refl
-never_restarts Three proc top decoded early = absurd early
+never_restarts : (v : Version) (proc : Proc) (decoded : Result Instr DecodeFault) → IsEarly v → restarts_by v proc decoded ≡ false
+never_restarts One proc decoded early = refl
+never_restarts Two proc decoded early = refl
+never_restarts Three proc decoded early = absurd early
 
 plain_back : (v : Version) (effect : Effect) (exit : AbsState) → IsEarly v → effect_back v effect exit ≡ effect_of_call effect exit
 plain_back One effect exit early = refl
@@ -130,7 +130,7 @@ jump_by s next restarted_there refined = record {
 plain_jump : (s : SubjectView) (next : Next) → IsEarly s.cert.version → jump_way s next ≡ jump_by s next false None
 plain_jump s next early =
     ap (λ (b : Bool). jump_by s next b (refinement_by s.cert.version (told_of s s.decoded) next.moved))
-    (never_restarts s.cert.version s.proc s.cert.region.top s.decoded early)
+    (never_restarts s.cert.version s.proc s.decoded early)
     ∙ ap (λ (r : Option RefinementView). jump_by s next false r) (plain_arrival s.cert.version (told_of s s.decoded) next.moved early)
 
 same_jump : (v : Version) (s : SubjectView) (next : Next) → IsEarly s.cert.version → IsEarly v → jump_way s next ≡ jump_way (moved v s) next
@@ -300,11 +300,11 @@ stack_kept : (v : Version) (s : SubjectView) → Passes s reasons.StackOverwrite
 stack_kept v s (inl none) = inl (has_no_stack v s none)
 stack_kept v s (inr all) = inr all
 
-sets_top : (v : Version) (s : SubjectView) (instr : Instr) → IsEarly s.cert.version → SetsTop (is_main s.row.proc) s.cert.region instr ⊎ (restarts s ≡ true) →
-    SetsTop (is_main s.row.proc) s.cert.region instr ⊎ (restarts (moved v s) ≡ true)
+sets_top : (v : Version) (s : SubjectView) (instr : Instr) → IsEarly s.cert.version → SetsTop (is_main s.row.proc) s.cert.region instr ⊎ RestartsAtTop s instr →
+    SetsTop (is_main s.row.proc) s.cert.region instr ⊎ RestartsAtTop (moved v s) instr
 sets_top v s instr old (inl top) = inl top
 sets_top v s instr old (inr there) =
-    absurd (false≢true (sym (never_restarts s.cert.version s.proc s.cert.region.top s.decoded old) ∙ there))
+    absurd (false≢true (sym (never_restarts s.cert.version s.proc s.decoded old) ∙ there.0))
 
 passes : (v : Version) (s : SubjectView) (reason : Reason) → IsEarly s.cert.version → IsEarly v → Passes s reason → Passes (moved v s) reason
 passes v s reasons.IoSpace old new h = not_refused v s reasons.IoSpace old new h

@@ -80,9 +80,13 @@ pub record FitsDepth (s : SubjectView) : Type 0 where
 abbrev pub RanksFall : SubjectView → Type 0
 RanksFall s = (next : Next) (callee : Callee) → CallsCallee s next callee → callee.proc.rank < s.proc.rank
 
--- an instruction that sets SP is main's LD SP,nn with the region's top, or a restart
+-- a restart by LD SP,nn with the region's top
+abbrev pub RestartsAtTop : SubjectView → Instr → Type 0
+RestartsAtTop s instr = (restarts s ≡ true) × SetsTop true s.cert.region instr
+
+-- an instruction that sets SP is main's LD SP,nn with the region's top, or a restart by it
 abbrev pub SetsTopAlone : SubjectView → Type 0
-SetsTopAlone s = (instr : Instr) → s.decoded ≡ Ok instr → sets_sp instr ≡ true → SetsTop (is_main s.row.proc) s.cert.region instr ⊎ (restarts s ≡ true)
+SetsTopAlone s = (instr : Instr) → s.decoded ≡ Ok instr → sets_sp instr ≡ true → SetsTop (is_main s.row.proc) s.cert.region instr ⊎ RestartsAtTop s instr
 
 -- ---- the NMI
 

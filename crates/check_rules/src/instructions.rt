@@ -45,15 +45,16 @@ fn never_halts(subject: &Subject) -> bool
     !is_timed(&subject.proc) || !matches!(subject.decoded, Ok(Instr::Halt))
 }
 
-/// Whether the instruction does not set SP, or is main's LD SP,nn with the region's top, or a restart.
+/// Whether the instruction does not set SP, or is main's LD SP,nn with the region's top, or a restart by it.
 fn sets_top_alone(subject: &Subject) -> bool
     ensures { IsTrue result ↔ Passes subject.now Reason.SpWrite }
 {
     match &subject.decoded {
         Ok(instr) => {
+            let region = subject.certificate.region();
             !sets_sp(instr)
-                || sets_top(subject.row.proc == 0, subject.certificate.region(), instr)
-                || subject.restarts()
+                || sets_top(subject.row.proc == 0, region, instr)
+                || (subject.restarts() && sets_top(true, region, instr))
         }
         Err(_) => true,
     }

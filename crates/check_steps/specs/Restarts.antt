@@ -1,5 +1,5 @@
 -- When an instruction restarts the program, and the state after it (docs/CHECKER.md, "Restarts").
-use Rattle.std.specs.Prelude.{ℕ, ◌==◌, ◌&&◌, Bool, true, false, [], None, Result, Ok, is_some, not}
+use Rattle.std.specs.Prelude.{◌&&◌, Bool, true, false, [], None, Result, Ok, is_some, not}
 use Rattle.abs_state.specs.declared.pairs.Pairs.{Pairs}
 use Rattle.abs_state.specs.declared.state.AbsState.{AbsState}
 use Rattle.cert_lines.specs.declared.proc.Proc.{Proc}
@@ -18,15 +18,16 @@ is_sub Main = false
 is_sub Nmi = false
 is_sub Sub = true
 
--- LD SP,nn with this top
-abbrev pub loads_top : ℕ → Instr → Bool
-loads_top top (LoadPair words.Sp nn) = nn == top
-loads_top top _ = false
+-- LD SP,nn
+abbrev pub loads_sp : Instr → Bool
+loads_sp (LoadPair words.Sp nn) = true
+loads_sp _ = false
 
--- a called procedure without a time sets SP to the top of the region, in version 3: the machine goes on in main
-abbrev pub restarts_by : Version → Proc → ℕ → Result Instr DecodeFault → Bool
-restarts_by Three proc top (Ok instr) = is_sub proc.kind && (not (is_some proc.time) && loads_top top instr)
-restarts_by _ proc top decoded = false
+-- a called procedure without a time sets SP, in version 3: the machine goes on in main (reason 20 asks for the top of
+-- the region)
+abbrev pub restarts_by : Version → Proc → Result Instr DecodeFault → Bool
+restarts_by Three proc (Ok instr) = is_sub proc.kind && (not (is_some proc.time) && loads_sp instr)
+restarts_by _ proc decoded = false
 
 abbrev pub without_origin : Pair → Pair
 without_origin pair = record pair { origin = None }

@@ -1,7 +1,7 @@
 // Restarts: LD SP,nn with which a called procedure without a time leaves all that called it.
 
 ghost use Rattle.std.specs.Prelude.{◌≡◌};
-ghost use Rattle.check_steps.specs.Restarts.{is_sub, loads_top, restarted, restarts_by, without_origin, without_origins};
+ghost use Rattle.check_steps.specs.Restarts.{is_sub, loads_sp, restarted, restarts_by, without_origin, without_origins};
 
 use abs_state::{AbsState, Pairs};
 use cert_lines::{Proc, ProcKind, Version};
@@ -18,29 +18,24 @@ fn is_sub(kind: ProcKind) -> bool
     }
 }
 
-/// Whether an instruction is LD SP,nn with this word.
-fn loads_top(top: u16, instr: &Instr) -> bool
-    ensures { result ≡ loads_top top instr.now }
+/// Whether an instruction is LD SP,nn.
+fn loads_sp(instr: &Instr) -> bool
+    ensures { result ≡ loads_sp instr.now }
 {
     match instr {
-        Instr::LoadPair(Register16::Sp, word) => *word == top,
+        Instr::LoadPair(Register16::Sp, _) => true,
         _ => false,
     }
 }
 
-/// Whether what is decoded in a procedure is a restart: in version 3, LD SP,nn with the region's top in a called
-/// procedure without a time.
-pub fn restarts_by(
-    version: Version,
-    proc: &Proc,
-    top: u16,
-    decoded: &Result<Instr, DecodeFault>,
-) -> bool
-    ensures { result ≡ restarts_by version proc.now top decoded.now }
+/// Whether what is decoded in a procedure is a restart: in version 3, LD SP,nn in a called procedure without a time.
+/// Reason 20 refuses words other than the region's top.
+pub fn restarts_by(version: Version, proc: &Proc, decoded: &Result<Instr, DecodeFault>) -> bool
+    ensures { result ≡ restarts_by version proc.now decoded.now }
 {
     match (version, decoded) {
         (Version::Three, Ok(instr)) => {
-            is_sub(proc.kind) && proc.time.is_none() && loads_top(top, instr)
+            is_sub(proc.kind) && proc.time.is_none() && loads_sp(instr)
         }
         _ => false,
     }

@@ -114,7 +114,7 @@ pub record WayView : Type 0 where
 -- ---- restarts
 
 abbrev pub restarts : SubjectView → Bool
-restarts s = restarts_by s.cert.version s.proc s.cert.region.top s.decoded
+restarts s = restarts_by s.cert.version s.proc s.decoded
 
 -- the procedure and the state in which a jump arrives
 abbrev pub proc_after : SubjectView → ℕ

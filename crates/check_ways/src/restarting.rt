@@ -14,8 +14,7 @@ impl<'a> Subject<'a> {
     pub fn restarts(&self) -> bool
         ensures { result ≡ restarts self.now }
     {
-        let top = self.certificate.region().top;
-        restarts_by(self.certificate.version(), &self.proc, top, &self.decoded)
+        restarts_by(self.certificate.version(), &self.proc, &self.decoded)
     }
 
     /// The procedure in which a jump of the row arrives.
