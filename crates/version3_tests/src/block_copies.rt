@@ -6,7 +6,8 @@ use command_samples::{TABLE, rows_text};
 /// Two copies to places that follow each other: LD SP,4400h; LD HL,0015h; LD DE,4100h; LD BC,4; LDIR; LD BC,4; LDIR;
 /// JR -2; eight bytes.
 pub const TWO_COPIES: Program = Program {
-    main: b"\x31\x00\x44\x21\x15\x00\x11\x00\x41\x01\x04\x00\xED\xB0\x01\x04\x00\xED\xB0\x18\xFE\x01\x00\x02\x00\x03\x00\x04\x00",
+    main: b"\x31\x00\x44\x21\x15\x00\x11\x00\x41\x01\x04\x00\xED\xB0\x01\x04\x00\xED\xB0\x18\xFE\x01\x00\x02\
+        \x00\x03\x00\x04\x00",
     routine: b"",
     certificate: rows_text!(
         3, "rom 29\nmap galaxian\nstack 4380 4400\nbudget -\nproc main 0000 0 0 -";
@@ -25,7 +26,8 @@ pub const TWO_COPIES: Program = Program {
 /// Four copies that a loop by B makes: LD SP,4400h; LD IX,4100h; LD B,4; 0009: PUSH BC; PUSH IX; POP DE; LD HL,001Fh;
 /// LD BC,8; LDIR; LD BC,0010h; ADD IX,BC; POP BC; DJNZ 0009; JR -2; eight bytes. A split tells the turns apart.
 pub const FOUR_COPIES: Program = Program {
-    main: b"\x31\x00\x44\xDD\x21\x00\x41\x06\x04\xC5\xDD\xE5\xD1\x21\x1F\x00\x01\x08\x00\xED\xB0\x01\x10\x00\xDD\x09\xC1\x10\xEC\x18\xFE\x01\x00\x02\x00\x03\x00\x04\x00",
+    main: b"\x31\x00\x44\xDD\x21\x00\x41\x06\x04\xC5\xDD\xE5\xD1\x21\x1F\x00\x01\x08\x00\xED\xB0\x01\x10\x00\
+        \xDD\x09\xC1\x10\xEC\x18\xFE\x01\x00\x02\x00\x03\x00\x04\x00",
     routine: b"",
     certificate: indexed_text!(
         "rom 39\nmap galaxian\nstack 4380 4400\nbudget -\nproc main 0000 0 4 -\nsplit 0 0009 B";

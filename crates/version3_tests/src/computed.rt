@@ -3,10 +3,11 @@
 use crate::worked::Program;
 use command_samples::{TABLE, rows_text};
 
-/// LD SP,4400h; 0003: LD A,(4000h); AND 1; ADD A,A; LD HL,0017h; ADD A,L; LD L,A; LD A,0; ADC A,H; LD H,A; LD A,(HL);
-/// INC HL; LD H,(HL); LD L,A; JP (HL); two words 0003h. The carry of ADD A,L is known at ADC A,H.
+/// LD SP,4400h; 0003: LD A,(4000h); AND 1; ADD A,A; LD HL,0017h; ADD A,L; LD L,A; LD A,0; ADC A,H; LD H,A;
+/// LD A,(HL); INC HL; LD H,(HL); LD L,A; JP (HL); two words 0003h. The carry of ADD A,L is known at ADC A,H.
 pub const JUMP_TABLE: Program = Program {
-    main: b"\x31\x00\x44\x3A\x00\x40\xE6\x01\x87\x21\x17\x00\x85\x6F\x3E\x00\x8C\x67\x7E\x23\x66\x6F\xE9\x03\x00\x03\x00",
+    main: b"\x31\x00\x44\x3A\x00\x40\xE6\x01\x87\x21\x17\x00\x85\x6F\x3E\x00\x8C\x67\x7E\x23\x66\x6F\xE9\x03\
+        \x00\x03\x00",
     routine: b"",
     certificate: rows_text!(
         3, "rom 27\nmap galaxian\nstack 4380 4400\nbudget -\nproc main 0000 0 0 -\nsplit 0 0008 A";
@@ -41,10 +42,11 @@ pub const JUMP_TABLE: Program = Program {
     table: TABLE,
 };
 
-/// LD SP,4400h; 0003: LD A,(4000h); LD C,A; LD A,1; SUB C; JR C,0003; LD B,0; LD HL,0015h; ADD HL,BC three times; JP (HL);
-/// 0015: JP 0003h; JP 0003h. C is 0 or 1 where 1 - C does not borrow.
+/// LD SP,4400h; 0003: LD A,(4000h); LD C,A; LD A,1; SUB C; JR C,0003; LD B,0; LD HL,0015h; ADD HL,BC three times;
+/// JP (HL); 0015: JP 0003h; JP 0003h. C is 0 or 1 where 1 - C does not borrow.
 pub const JUMPS_APART: Program = Program {
-    main: b"\x31\x00\x44\x3A\x00\x40\x4F\x3E\x01\x91\x38\xF7\x06\x00\x21\x15\x00\x09\x09\x09\xE9\xC3\x03\x00\xC3\x03\x00",
+    main: b"\x31\x00\x44\x3A\x00\x40\x4F\x3E\x01\x91\x38\xF7\x06\x00\x21\x15\x00\x09\x09\x09\xE9\xC3\x03\x00\
+        \xC3\x03\x00",
     routine: b"",
     certificate: rows_text!(
         3, "rom 27\nmap galaxian\nstack 4380 4400\nbudget -\nproc main 0000 0 0 -\nsplit 0 000E C";

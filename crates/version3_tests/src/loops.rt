@@ -70,7 +70,8 @@ pub const PAGES: Program = Program {
 /// Four times four objects of 16 bytes: LD SP,4400h; LD IX,4100h; LD DE,0010h; LD C,4; 000C: LD B,4;
 /// 000E: LD (IX+0),A; ADD IX,DE; DJNZ 000E; DEC C; JR NZ,000C; JR -2.
 pub const OBJECTS: Program = Program {
-    main: b"\x31\x00\x44\xDD\x21\x00\x41\x11\x10\x00\x0E\x04\x06\x04\xDD\x77\x00\xDD\x19\x10\xF9\x0D\x20\xF4\x18\xFE",
+    main: b"\x31\x00\x44\xDD\x21\x00\x41\x11\x10\x00\x0E\x04\x06\x04\xDD\x77\x00\xDD\x19\x10\xF9\x0D\x20\xF4\
+        \x18\xFE",
     routine: b"",
     certificate: indexed_text!(
         "rom 26\nmap galaxian\nstack 4380 4400\nbudget -\nproc main 0000 0 0 -";
