@@ -8,6 +8,8 @@ mod block_copies;
 #[cfg(test)]
 mod called;
 #[cfg(test)]
+mod changed_lines;
+#[cfg(test)]
 mod computed;
 #[cfg(test)]
 mod loops;
