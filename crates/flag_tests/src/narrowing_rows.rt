@@ -11,8 +11,8 @@ use std::alloc::Global;
 /// A range of bytes; None if the outcome has no successor.
 type Left = Option<(u8, u8)>;
 
-/// A conditional jump, a letter, a constant and the coefficient of A (0 for none), the range of A, and what is left of
-/// it where the jump is taken, and where it is not.
+/// A conditional jump, call or return, a letter, a constant and the coefficient of A (0 for none), the range of A, and
+/// what is left of it where it is taken, and where it is not.
 type Row = (u8, Letter, i32, i32, (u8, u8), Left, Left);
 
 const JP_NZ: u8 = 0xC2;
@@ -30,6 +30,12 @@ const JP_PE: u8 = 0xEA;
 const JP_P: u8 = 0xF2;
 
 const JP_M: u8 = 0xFA;
+
+const JR_C: u8 = 0x38;
+
+const CALL_C: u8 = 0xDC;
+
+const RET_M: u8 = 0xF8;
 
 const ANY: (u8, u8) = (0, 255);
 
@@ -150,6 +156,34 @@ const BELOW: &[Row] = &[
         ANY,
         Some((0, 127)),
         Some((128, 255)),
+    ),
+    // The same at a relative jump, at a call and at a return
+    (
+        JR_C,
+        Letter::CarryIfBelow,
+        -64,
+        1,
+        ANY,
+        Some((0, 63)),
+        Some((64, 255)),
+    ),
+    (
+        CALL_C,
+        Letter::CarryIfBelow,
+        -64,
+        1,
+        ANY,
+        Some((0, 63)),
+        Some((64, 255)),
+    ),
+    (
+        RET_M,
+        Letter::SignIfBelow,
+        127,
+        -1,
+        ANY,
+        Some((128, 255)),
+        Some((0, 127)),
     ),
     // 3 * A is below 10 up to 3
     (
