@@ -151,3 +151,49 @@ fn becomes_constant(alloc: Global) -> bool {
 fn one_value_is_a_constant(rt: HostRuntime) {
     assert!(rt; becomes_constant(rt.alloc()));
 }
+
+/// An instruction with bytes behind it, HL being 0002 or 0003; the range of A, the carry if a part of the row tells it,
+/// and the range of A after it.
+type Ranged = (&'static [u8], (u8, u8), Option<bool>, (u8, u8));
+
+const RANGES: &[Ranged] = &[
+    // OR A; AND A: the range stays
+    (b"\xB7\0", (5, 9), None, (5, 9)),
+    (b"\xA7\0", (5, 9), None, (5, 9)),
+    // OR 50h; XOR 50h: it moves
+    (b"\xF6\x50", (1, 2), None, (0x51, 0x52)),
+    (b"\xEE\x50", (1, 2), None, (0x51, 0x52)),
+    // ADC A,(HL); SBC A,(HL): 10h or 20h
+    (b"\x8E\0\x10\x20", (1, 2), Some(false), (0x11, 0x22)),
+    (b"\x8E\0\x10\x20", (1, 2), Some(true), (0x12, 0x23)),
+    (b"\x8E\0\x10\x20", (1, 2), None, (0x11, 0x23)),
+    (b"\x9E\0\x10\x20", (64, 64), Some(false), (0x20, 0x30)),
+    (b"\x9E\0\x10\x20", (64, 64), Some(true), (0x1F, 0x2F)),
+    (b"\x9E\0\x10\x20", (64, 64), None, (0x1F, 0x30)),
+    // Both results wrap, and only one
+    (b"\x9E\0\x10\x20", (0, 15), Some(false), (0xE0, 0xFF)),
+    (b"\x9E\0\x10\x20", (0, 16), Some(false), (0, 255)),
+    (b"\x9E\0\x10\x20", (0, 16), Some(true), (0xDF, 0xFF)),
+];
+
+fn is_ranged(alloc: Global, row: &Ranged) -> bool {
+    let &(rom, a, carry, after) = row;
+    let told = match carry {
+        Some(true) => parts(&[part(Letter::CarryIfBelow, no_terms(-1))]),
+        Some(false) => parts(&[part(Letter::CarryIfBelow, no_terms(0))]),
+        None => FlagParts::empty(),
+    };
+    let mut state = with_a(a.0, a.1);
+    state.pairs.hl = Pair::of_word(words(2, 3));
+    match refined(alloc, rom, &state, &told) {
+        Some(step) => a_after(&step) == Some(bytes(after.0, after.1)),
+        None => false,
+    }
+}
+
+#[test]
+fn ranges_that_are_left(rt: HostRuntime) {
+    for (place, row) in RANGES.iter().enumerate() {
+        assert!(rt; is_ranged(rt.alloc(), row), "{place} of RANGES, from 0");
+    }
+}

@@ -8,4 +8,6 @@ mod effects;
 #[cfg(test)]
 mod narrowing;
 #[cfg(test)]
+mod narrowing_rows;
+#[cfg(test)]
 mod setting;

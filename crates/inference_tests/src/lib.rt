@@ -11,3 +11,5 @@ mod refused;
 mod routines;
 #[cfg(test)]
 mod suggested;
+#[cfg(test)]
+mod version_three;

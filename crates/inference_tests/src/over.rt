@@ -59,6 +59,13 @@ pub fn accepts_in_three(alloc: Global, rom: &[u8], given: &str) -> bool {
         && answer.kept.starts_with(b"galcert 3\n")
 }
 
+/// Whether `check --infer` refuses a ROM with these given annotations, for a certificate of version `most` at most, and
+/// keeps none.
+pub fn refuses(alloc: Global, rom: &[u8], given: &str, most: Version) -> bool {
+    let answer = inferred(alloc, rom, given.as_bytes(), TRIALS, most);
+    answer.status == 1 && answer.kept.is_empty()
+}
+
 /// The status of `suggest` for a ROM with these given annotations, and the file that it prints.
 pub fn suggested(alloc: Global, rom: &[u8], given: &str) -> (u8, Vec<u8>) {
     let (mut rom, mut given) = (Bytes::whole(rom), Bytes::whole(given.as_bytes()));

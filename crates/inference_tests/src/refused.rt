@@ -1,19 +1,10 @@
-// Programs that need what a certificate cannot say, or what is not found.
+// Programs that need what a certificate of no version can say, or what is not found.
 
-use crate::over::accepts;
+use crate::over::refuses;
+use certificate::Version;
 
 /// A ROM, and what is given.
 const ROWS: &[(&[u8], &str)] = &[
-    // Loop DEC BC / LD A,B / OR C / JR NZ, fact HL+BC.
-    (
-        b"\x31\x00\x44\x21\x00\x40\x01\x80\x03\x36\x00\x23\x0B\x78\xB1\x20\xF8\x18\xFE\x00",
-        "low = 17280\ntop = 17408\n",
-    ),
-    // Fact stops at DEC BC (no fact at l1 possible).
-    (
-        b"\x31\x00\x44\x21\x00\x40\x01\x00\x03\x36\x00\x23\x0B\x78\xB1\x20\xF8\x18\xFE",
-        "low = 17280\ntop = 17408\n",
-    ),
     // Table index by ADD A,L / JR NC / INC H before JP (HL).
     (
         b"\x31\x00\x44\x3A\x00\x40\xE6\x01\x87\x21\x16\x00\x85\x6F\x30\x01\x24\x7E\x23\x66\x6F\xE9\x03\x00\x03\x00",
@@ -34,19 +25,9 @@ const ROWS: &[(&[u8], &str)] = &[
         b"\x31\x00\x44\x18\xFE\x00\x00\x00\x00\x00\x00\x00\x00\x00\x00\x00\x00\x00\x00\x00\x00\x00\x00\x00\x00\x00\x00\x00\x00\x00\x00\x00\x00\x00\x00\x00\x00\x00\x00\x00\x00\x00\x00\x00\x00\x00\x00\x00\x00\x00\x00\x00\x00\x00\x00\x00\x00\x00\x00\x00\x00\x00\x00\x00\x00\x00\x00\x00\x00\x00\x00\x00\x00\x00\x00\x00\x00\x00\x00\x00\x00\x00\x00\x00\x00\x00\x00\x00\x00\x00\x00\x00\x00\x00\x00\x00\x00\x00\x00\x00\x00\x00\xF5\xC5\x3A\x00\x40\x06\x00\x04\xD6\x0A\x30\xFB\xC1\xF1\xED\x45",
         "low = 17280\ntop = 17408\nnmi = true\nbudget = 50000\n",
     ),
-    // Game over from a subroutine: LD SP,4400h / JP main.
-    (
-        b"\x31\x00\x44\xCD\x08\x00\x18\xFB\x3A\x00\x60\xB7\xC8\x31\x00\x44\xC3\x03\x00",
-        "low = 17280\ntop = 17408\n",
-    ),
     // Handler calls the dispatcher again (recursion by states).
     (
         b"\x31\x00\x44\xCD\x08\x00\x18\xFB\x3A\x00\x40\xB7\xC8\xAF\x32\x00\x40\xCD\x08\x00\xC9",
-        "low = 17280\ntop = 17408\n",
-    ),
-    // DEC BC loop, fact at l1, l1+2, l1+3 only and A,C... BC below 8000.
-    (
-        b"\x31\x00\x44\x21\x00\x40\x01\x80\x03\x36\x00\x23\x0B\x78\xB1\x20\xF8\x18\xFE",
         "low = 17280\ntop = 17408\n",
     ),
     // Dropped return: two call sites of b in one procedure, both inline.
@@ -59,24 +40,9 @@ const ROWS: &[(&[u8], &str)] = &[
         b"\x31\x00\x44\xED\x5B\x00\x41\xD5\xC9",
         "low = 17280\ntop = 17408\n",
     ),
-    // Bound by SUB n / JR C (SDCC's every comparison), in a subroutine.
-    (
-        b"\x31\x00\x44\xCD\x08\x00\x18\xFB\x3A\x00\x40\x6F\xD6\x40\xD0\x26\x43\x36\x01\xC9",
-        "low = 17280\ntop = 17408\n",
-    ),
     // Byte argument: PUSH AF / INC SP.
     (
         b"\x31\x00\x44\xF5\x33\xCD\x0A\x00\x18\xF9\xC9",
-        "low = 17280\ntop = 17408\n",
-    ),
-    // Two-level IX loop: 4 x 4 objects by C and B.
-    (
-        b"\x31\x00\x44\xDD\x21\x00\x41\x11\x10\x00\x0E\x04\x06\x04\xDD\x77\x00\xDD\x19\x10\xF9\x0D\x20\xF4\x18\xFE",
-        "low = 17280\ntop = 17408\n",
-    ),
-    // Bit test bounds nothing: BIT 7,A / RET NZ, then A below 80h.
-    (
-        b"\x31\x00\x44\xCD\x08\x00\x18\xFB\x3A\x00\x40\xCB\x7F\xC0\x6F\x26\x43\x36\x01\xC9",
         "low = 17280\ntop = 17408\n",
     ),
     // INC (HL) / LD A,(HL) / CP 3 / RET C / LD (HL),0: a counter kept by RAM, used as an index later.
@@ -84,16 +50,21 @@ const ROWS: &[(&[u8], &str)] = &[
         b"\x31\x00\x44\xCD\x12\x00\x3A\x00\x40\x87\x6F\x26\x43\xCD\x1D\x00\x18\xF1\x21\x00\x40\x34\x7E\xFE\x03\xD8\x36\x00\xC9\x36\x01\xC9",
         "low = 17280\ntop = 17408\n",
     ),
-    // M01 rewritten: loop on H by a split of 4 pages, exit by BIT 2,H.
-    (
-        b"\x21\x00\x40\x36\x00\x2C\x20\xFB\x24\x7C\xFE\x44\x20\xF5\x31\x00\x44\x18\xFE",
-        "low = 17280\ntop = 17408\n",
-    ),
 ];
 
 #[test]
 fn what_is_not_found_is_refused(rt: HostRuntime) {
     for (row, &(rom, given)) in ROWS.iter().enumerate() {
-        assert!(rt; !accepts(rt.alloc(), rom, given), "row {row}");
+        assert!(rt; refuses(rt.alloc(), rom, given, Version::Two), "row {row}");
+    }
+}
+
+#[test]
+fn what_is_not_found_is_refused_in_version_3(rt: HostRuntime) {
+    for (row, &(rom, given)) in ROWS.iter().enumerate() {
+        assert!(rt;
+            refuses(rt.alloc(), rom, given, Version::Three),
+            "row {row}"
+        );
     }
 }
