@@ -5,7 +5,7 @@ use crate::called::{ABANDONED, BELOW_128, BOUNDED};
 use crate::computed::PICTURE;
 use crate::loops::{COUNTED_FILL, FILL, OBJECTS};
 use crate::timed::{COUNTED_DOWN, TENS};
-use crate::worked::Edit::{self, Both, Code, Text};
+use crate::worked::Edit::{self, Code, Text};
 use crate::worked::Program;
 use std::alloc::Global;
 use std::test::Fail;
@@ -118,15 +118,10 @@ const RESTARTS: &[NearMiss] = &[
         ),
         "refused 000D 12 NotCovered\n",
     ),
-    // LD SP,43FEh is no restart, so the subroutine goes on, and it has a row there
+    // LD SP,43FEh leads to main too, but it is not the top
     (
         ABANDONED,
-        Both(
-            0x0E,
-            b"\xFE\x43",
-            "end\n",
-            "row 1 0010 s 0 * * * * * * * * * * - - - -\nend\n",
-        ),
+        Code(0x0E, b"\xFE\x43"),
         "refused 000D 20 SpWrite\n",
     ),
     // A turn takes 24 T-states

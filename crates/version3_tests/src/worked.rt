@@ -14,12 +14,11 @@ pub struct Program {
     pub table: &'static str,
 }
 
-/// An edit: a part of the certificate and what stands in its place, bytes of the ROM from an address on, or both.
+/// An edit: a part of the certificate and what stands in its place, or bytes of the ROM from an address on.
 #[derive(Clone, Copy)]
 pub enum Edit {
     Text(&'static str, &'static str),
     Code(usize, &'static [u8]),
-    Both(usize, &'static [u8], &'static str, &'static str),
 }
 
 impl Program {
@@ -54,10 +53,6 @@ impl Program {
             Edit::Code(start, bytes) => {
                 let rom = self.with_code(alloc, start, bytes)?;
                 is_refused(alloc, rom.as_slice(), self.certificate, &[], line)
-            }
-            Edit::Both(start, bytes, old, new) => {
-                let rom = self.with_code(alloc, start, bytes)?;
-                is_refused(alloc, rom.as_slice(), self.certificate, &[(old, new)], line)
             }
         }
     }
