@@ -48,8 +48,9 @@ pub fn migrate_on<B: Source, W: Sink>(
         Ok(certificate) => certificate,
         Err(stop) => return stop.status(),
     };
-    let Ok(migrated) = migrate_to(version, certificate) else {
-        return ExitStatus::OutOfMemory.code();
+    let migrated = match migrate_to(version, certificate) {
+        Ok(migrated) => migrated,
+        Err(_) => return ExitStatus::OutOfMemory.code(),
     };
     match write(&migrated, out) {
         Ok(()) => ExitStatus::Done.code(),
