@@ -147,17 +147,23 @@ pub(crate) fn closure_of(
             let Some(ground) = found else {
                 return Ok(None);
             };
-            for claim in [ground.fact.map(Claim::Fact), ground.part.map(Claim::Part)] {
-                if let Some(claim) = claim {
-                    todo.push(Wanted {
-                        row: edge.from,
-                        claim,
-                    })?;
-                }
-            }
+            want(&mut todo, edge.from, &ground)?;
         }
     }
     Ok(None)
+}
+
+/// Adds what a ground takes of a row.
+fn want(todo: &mut Vec<Wanted>, row: u64, ground: &PartGround) -> Result<(), FlowFault> {
+    if let Some(fact) = ground.fact {
+        let claim = Claim::Fact(fact);
+        todo.push(Wanted { row, claim })?;
+    }
+    if let Some(part) = ground.part {
+        let claim = Claim::Part(part);
+        todo.push(Wanted { row, claim })?;
+    }
+    Ok(())
 }
 
 /// Whether a wanted claim is there already.
