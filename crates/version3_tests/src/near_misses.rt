@@ -15,6 +15,12 @@ type NearMiss = (Program, Edit, &'static str);
 
 /// Flag parts with another letter or linear, or left out.
 const PARTS: &[NearMiss] = &[
+    // The sign turned: C is set where L is above 64
+    (
+        BOUNDED,
+        Text(" c-64+1*L,", " c64-1*L,"),
+        "refused 000C 12 NotCovered\n",
+    ),
     (
         BOUNDED,
         Text(" c-64+1*L,", " c-65+1*L,"),
