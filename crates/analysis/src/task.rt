@@ -52,7 +52,7 @@ impl<'a> Task<'a> {
 
     /// The same task by the rules of another version.
     pub fn with_version(self, version: Version) -> Task<'a>
-        ensures { result ≡ self }
+        ensures { result ≡ self.entry }
     {
         Task { version, ..self }
     }
