@@ -15,11 +15,11 @@ type NearMiss = (Program, Edit, &'static str);
 
 /// Flag parts with another letter or linear, or left out.
 const PARTS: &[NearMiss] = &[
-    // The sign turned: C is set where L is above 64
+    // The sign turned, C where L is above 64: RET NC leaves as much to the caller as without the part
     (
         BOUNDED,
         Text(" c-64+1*L,", " c64-1*L,"),
-        "refused 000C 12 NotCovered\n",
+        "refused 0003 12 NotCovered\n",
     ),
     (
         BOUNDED,
