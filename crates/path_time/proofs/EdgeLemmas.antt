@@ -8,7 +8,8 @@ use Rattle.call_graph.specs.Calls.{Calls, IsCallOrder, Occurs}
 use Rattle.call_graph.specs.declared.edge.Edge.{Edge}
 use Rattle.cert_lines.specs.declared.row.Row.{Row}
 use Rattle.cert_form.specs.Contents.{CertificateView}
-use Rattle.check_ways.specs.Pays.{Lands, LieBetween}
+use Rattle.check_ways.proofs.RestartLemmas.{own_jump, timed_stays}
+use Rattle.check_ways.specs.Pays.{IsWalked, Lands, LieBetween}
 use Rattle.check_ways.specs.Ways.{IsWay, SubjectView, WayView}
 use Rattle.path_time.specs.Links.{AreLinks, edge_of_link}
 use Rattle.path_time.specs.Walks.{Belongs, MayComeNext}
@@ -50,9 +51,10 @@ next_calls rom cert proc links from to are belongs next =
 
 -- ---- rows of the procedure
 
-landed_of : (s : SubjectView) (way : WayView) (target : Row) → IsWay s way → Lands s.cert way target → target.proc ≡ s.row.proc
-landed_of s way target (inl jump) lands = lands.at.of ∙ ap (λ (w : WayView). w.arrival.proc) jump.is
-landed_of s way target (inr back) lands = lands.at.of ∙ ap (λ (w : WayView). w.arrival.proc) back.is
+landed_of : (s : SubjectView) (way : WayView) (target : Row) → IsWalked s → IsWay s way → Lands s.cert way target → target.proc ≡ s.row.proc
+landed_of s way target walked (inl jump) lands =
+    lands.at.of ∙ ap (λ (w : WayView). w.arrival.proc) (jump.is ∙ sym (own_jump s jump.next (timed_stays s walked.timed)))
+landed_of s way target walked (inr back) lands = lands.at.of ∙ ap (λ (w : WayView). w.arrival.proc) back.is
 
 -- a row that may come next is of the same procedure
 pub next_belongs : (rom : List ℕ) (cert : CertificateView) (proc from to cost : ℕ) → Belongs cert proc from → LieBetween rom cert from to cost → Belongs cert proc to
@@ -61,7 +63,7 @@ next_belongs rom cert proc from to cost belongs lie =
     record {
       row = lie.target;
       is = lie.is_to;
-      of = landed_of lie.subject lie.lies.way lie.target lie.lies.leads.is_way lie.lies.leads.lands ∙ ap (λ (r : Row). r.proc) same ∙ belongs.of;
+      of = landed_of lie.subject lie.lies.way lie.target lie.lies.walked lie.lies.leads.is_way lie.lies.leads.lands ∙ ap (λ (r : Row). r.proc) same ∙ belongs.of;
     }
 
 pub link_belongs : (rom : List ℕ) (cert : CertificateView) (proc : ℕ) (links : List Link) (link : Link) → AreLinks rom cert proc links → Contains links link →
