@@ -7,8 +7,9 @@ use intervals::Pair;
 use std::alloc::{AllocError, Global};
 use std::test::Fail;
 
-/// An instruction with bytes behind it, the carry before it if a part of the row tells it, the conditions before, and
-/// those after. HL is 0002: a byte of the ROM if there are three, and else unknown.
+/// Four columns. The first holds the bytes of an instruction and what follows it in the ROM. The second is the carry
+/// before it, if a part of the row tells the carry. The last two are the conditions before it and those after it. HL is
+/// 0002: it addresses a byte of the ROM if the row has three bytes, and an unknown byte otherwise.
 type Row = (&'static [u8], Option<bool>, &'static str, &'static str);
 
 const UNKNOWN: Option<bool> = None;

@@ -44,7 +44,8 @@ fn with_small_b() -> AbsState {
     state
 }
 
-/// The part of Z says nothing of C, that of L narrows L, and that of B leaves nothing where C is clear.
+/// The row has three flag parts. The part `of_a` tells Z, so it says nothing where C is tested. The part `of_l` narrows
+/// the range of L. Where B is below 32, the part `of_b` leaves nothing if C is clear.
 #[test]
 fn what_leaves_nothing_is_preferred(rt: HostRuntime) {
     let row = parts(&[of_a(), of_l(), of_b()]);

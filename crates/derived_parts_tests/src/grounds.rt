@@ -101,7 +101,7 @@ fn a_wrong_part_has_no_ground(rt: HostRuntime) {
     assert!(rt; found == Some(None));
 }
 
-/// SUB 10 with A from 10 on: A + 10 - L is 0 behind it if A - L is before it.
+/// SUB 10, where A is at least 10. The claim after it, A + 10 - L = 0, needs the fact A - L = 0 before it.
 #[test]
 fn a_moved_fact_needs_a_fact(rt: HostRuntime) {
     let facts = [a_less(Variable::B), a_less(Variable::L)];

@@ -72,7 +72,7 @@ fn merge_parts(
     Ok(())
 }
 
-/// Adds a fact to those of a row, of which there are fewer than four.
+/// Adds a fact to a row. It stays without the fact if it has four already.
 pub(crate) fn add_fact(
     table: &mut BTreeMap<u64, Facts>,
     row: u64,
