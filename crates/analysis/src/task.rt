@@ -57,7 +57,7 @@ impl<'a> Task<'a> {
         Task { version, ..self }
     }
 
-    /// By the rules of which version rows are judged. Those of versions 1 and 2 are the same.
+    /// The version whose rules judge the rows. Versions 1 and 2 have the same rules.
     pub fn version(&self) -> Version {
         self.version
     }

@@ -45,9 +45,9 @@ follow_map R S change kept [] follow = tt
 follow_map R S change kept (x ∷ []) follow = tt
 follow_map R S change kept (x ∷ y ∷ xs) follow = (kept x y follow.0, follow_map R S change kept (y ∷ xs) follow.1)
 
--- ---- rows that say by flag parts what they said by flag facts
+-- ---- rows whose flag facts are written as flag parts
 
--- the rows whose turn has come are told by flag parts
+-- the first n rows have flag parts in place of flag facts
 pub record Told (shapes : List (List Slot)) (before after : List (List FlagPart)) (old new : List NumberedRow) (n : ℕ) : Type 0 where
   pub numbered : HaveNumbers shapes after new
   pub told : map (as_told shapes after) new ≡ first_changed row_with_parts n (map (as_told shapes before) old)

@@ -133,7 +133,7 @@ pub entered_values : (effect : Effect) (before now : Seen) → CameBy effect bef
 entered_values effect before now came (Slot number part) there = absurd (omega (arith, there))
 entered_values effect before now came v there = came v tt
 
--- an arrival of which nothing is told but where its values come from
+-- nothing is known of an arrival but where its values come from
 pub untold_came : (version : Version) (moved : Effect) (before now : Seen) → CameBy moved before now → CameRefinedIfSome (refinement_by version untold moved) before now
 untold_came One moved before now came = tt
 untold_came Two moved before now came = tt

@@ -1,4 +1,4 @@
--- The state that flag parts leave at a condition holds of each machine of which the row and its parts hold.
+-- Flag parts narrow a state at a condition. The state that is left holds of each machine for which the row and its parts hold.
 use Rattle.std.proofs.Common.{◌≡◌, ℕ, Bool, true, cond, List, [], ◌∷◌, Option, Some, None, IsTrue, ℤ, pos, refl, sym, ap, subst, arith}
 use Rattle.std.specs.Prelude.{◌+ℤ◌, ◌↔◌, IsSomeAnd}
 use Rattle.std.specs.List.{AllByRecursion}

@@ -76,7 +76,7 @@ callee_time_fits c form entry callee called = time_fits callee.proc.time (each_c
 
 -- ---- the step of a row
 
--- what is told of a step depends on the row alone
+-- the conditions and linear effects of a step depend on the row alone
 pub same_step : {X : Type 0} (f : GroundView → ℕ → Bool → Instr → List FlagPart → AbsState → X) (g h : GroundView) (a b : ℕ) (i j : Bool) (instr : Instr)
     (p q : List FlagPart) (s t : AbsState) → g ≡ h → a ≡ b → i ≡ j → p ≡ q → s ≡ t → f g a i instr p s ≡ f h b j instr q t
 same_step f g h a b i j instr p q s t same_ground same_address same_inline same_parts same_state =

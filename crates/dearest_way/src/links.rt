@@ -28,6 +28,20 @@ pub(crate) struct Link {
     pub(crate) worth: i64,
 }
 
+impl Link {
+    /// The row to which the link leads, as a request. Its step changes nothing.
+    fn request(&self) -> Request {
+        Request {
+            start: self.to,
+            end: self.to.saturating_add(1),
+            cost: self.cost,
+            effect: Effect::unchanged(),
+            moved: Effect::unchanged(),
+            linear: None,
+        }
+    }
+}
+
 /// The links from a row, and the T-states of its exit.
 #[derive(Drop)]
 pub(crate) struct Links {
@@ -167,14 +181,7 @@ impl Links {
     pub(crate) fn requests(&self, alloc: Global) -> Result<Requests, AllocError> {
         let mut of_rows = Vec::new(alloc);
         for link in &self.to {
-            of_rows.push(Request {
-                start: link.to,
-                end: link.to.saturating_add(1),
-                cost: link.cost,
-                effect: Effect::unchanged(),
-                moved: Effect::unchanged(),
-                linear: None,
-            })?;
+            of_rows.push(link.request())?;
         }
         Ok(Requests {
             of_rows,

@@ -4,6 +4,7 @@ use abs_state::AbsState;
 use flag_letters::{FlagPart, FlagParts};
 use flag_parts::{known_carry, narrow};
 use loop_bounds::{Linear, Ranges};
+use refined_step::opposite;
 use z80_decode::Condition;
 
 /// The parts that the other row has too, in the order of the first one.
@@ -114,18 +115,4 @@ fn gain_by(
 /// Whether a variable of a linear has another range in the second state, which lies in the first.
 fn is_smaller(linear: &Linear, left: &AbsState, less: &AbsState) -> bool {
     linear.terms().iter().any(|term| left.range(term.variable) != less.range(term.variable))
-}
-
-/// The condition that is met where this one is not.
-fn opposite(condition: Condition) -> Condition {
-    match condition {
-        Condition::NotZero => Condition::Zero,
-        Condition::Zero => Condition::NotZero,
-        Condition::NotCarry => Condition::Carry,
-        Condition::Carry => Condition::NotCarry,
-        Condition::ParityOdd => Condition::ParityEven,
-        Condition::ParityEven => Condition::ParityOdd,
-        Condition::Plus => Condition::Minus,
-        Condition::Minus => Condition::Plus,
-    }
 }

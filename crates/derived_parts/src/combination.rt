@@ -217,3 +217,15 @@ fn joined(combination: &Combination, low: &Term, word: Variable) -> Option<Combi
     let without_both = without_high.with(low.coefficient.checked_neg()?, halves.low)?;
     without_both.with(low.coefficient, word)
 }
+
+/// The negation of a linear. None where a number gets too great.
+pub fn negated(linear: &Linear) -> Option<Linear> {
+    let mut result = Linear::of_constant(linear.constant().checked_neg()?)?;
+    for term in linear.terms() {
+        result = result.with_term(Term {
+            coefficient: term.coefficient.checked_neg()?,
+            variable: term.variable,
+        })?;
+    }
+    Some(result)
+}

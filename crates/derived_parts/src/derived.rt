@@ -6,7 +6,7 @@ use crate::images::{Image, Images, NOTHING, images_of};
 use abs_state::AbsState;
 use check_claims::StepSource;
 use flag_letters::{FlagParts, Letter};
-use loop_bounds::{Change, Linear, Term};
+use loop_bounds::{Change, Effect, Linear, Ranges, Term};
 
 /// Flag parts that are known to hold after a step, in the state after it: at most eight, the simplest first. A part is
 /// simpler if fewer of its coefficients are above 1 in size, then if it has fewer terms. `source` knows each of them,
@@ -87,6 +87,25 @@ fn with_change(sum: &Combination, term: &Term, change: Change) -> Option<Combina
         Change::Constant(value) => sum.raised(coefficient.checked_mul(i32::from(value))?),
         Change::Unknown => None,
     }
+}
+
+/// A linear over the variables after a step as one over those before it, in the state `before`. A variable that stays, or
+/// is copied, and has one value there counts as that value. None if a variable is unknown after the step, or where a
+/// number gets too great.
+pub fn linear_before(linear: &Linear, effect: &Effect, before: &AbsState) -> Option<Linear> {
+    let mut sum = Combination::of_constant(linear.constant());
+    for term in linear.terms() {
+        let change = effect.change(term.variable);
+        let value = match &change {
+            Change::Old(variable) => before.range(*variable).value(),
+            _ => None,
+        };
+        sum = match value {
+            Some(value) => with_change(&sum, term, Change::Constant(value))?,
+            None => with_change(&sum, term, change)?,
+        };
+    }
+    sum.linear()
 }
 
 /// Tries what a combination over the variables before a step says with each fact put in for one of its variables. So

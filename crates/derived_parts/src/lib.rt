@@ -11,5 +11,6 @@ mod images;
 mod words;
 
 pub use choosing::{carry_part, common_parts, narrowing_part};
-pub use derived::parts_after;
+pub use combination::negated;
+pub use derived::{linear_before, parts_after};
 pub use grounds::{PartGround, PartStep, fact_ground_of, ground_of};

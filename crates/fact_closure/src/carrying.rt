@@ -2,10 +2,10 @@
 
 use crate::closure::{IncomingSteps, has};
 use crate::needs::add_fact;
-use crate::rewriting::before_step;
 use analysis::FlowFault;
 use annotations::FactNote;
 use cert_fields::Facts;
+use derived_parts::linear_before;
 use inferred_rows::ContextPoint;
 use loop_bounds::Linear;
 use row_worklist::{RowEdge, Worklist};
@@ -82,7 +82,7 @@ fn before_edge(
         return None;
     }
     let source = list.row(edge.from)?;
-    let before = before_step(fact, &edge.effect, &source.state)?;
+    let before = linear_before(fact, &edge.effect, &source.state)?;
     if before.terms().is_empty() {
         None
     } else {

@@ -1,13 +1,12 @@
 // All facts and flag parts from which a wanted one follows.
 
 use crate::needs::{Needs, add_fact, add_part};
-use crate::rewriting::{before_step, negated};
 use abs_state::AbsState;
 use analysis::{FlowFault, MAIN, NMI, facts_at};
 use board_fetch::fetch;
 use cert_fields::Facts;
 use cert_lines::Version;
-use derived_parts::{PartGround, PartStep, fact_ground_of, ground_of};
+use derived_parts::{PartGround, PartStep, fact_ground_of, ground_of, linear_before, negated};
 use flag_letters::{FlagPart, FlagParts};
 use inferred_rows::{ContextPoint, Guide};
 use loop_bounds::Linear;
@@ -215,7 +214,7 @@ fn fact_before(
     let Some(source) = of.related.row(edge.from) else {
         return Ok(None);
     };
-    match before_step(fact, &edge.effect, &source.state) {
+    match linear_before(fact, &edge.effect, &source.state) {
         Some(before) if !before.terms().is_empty() => Ok(Some(PartGround {
             part: None,
             fact: Some(before),

@@ -7,7 +7,6 @@ mod closure;
 mod needed;
 mod needs;
 mod parting;
-mod rewriting;
 
 pub use carrying::{LoopFact, carried_facts};
 pub use needed::{FactSearch, NeededFacts, facts_and_rows, needed_facts};

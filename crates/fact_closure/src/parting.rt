@@ -10,28 +10,14 @@ use derived_parts::{carry_part, narrowing_part};
 use flag_letters::{FlagPart, FlagParts, MOST_PARTS};
 use inferred_rows::{ContextPoint, Guide, InferredRow, Manner};
 use loop_bounds::Variable;
+use refined_step::tested_condition;
 use row_worklist::{Setting, Worklist};
 use std::alloc::Global;
 use std::collections::BTreeSet;
-use z80_decode::{ArithmeticKind, Condition, Instr, ShortCondition};
+use z80_decode::{ArithmeticKind, Instr};
 
 /// The numbers of rows.
 type NumberSet = BTreeSet<u64>;
-
-/// The condition of JP cc, JR cc, CALL cc and RET cc.
-fn condition_of(instr: &Instr) -> Option<Condition> {
-    match instr {
-        Instr::JumpIf(condition, _) | Instr::CallIf(condition, _) | Instr::ReturnIf(condition) =>
-            Some(*condition),
-        Instr::JumpRelativeIf(condition, _) => Some(match condition {
-            ShortCondition::NotZero => Condition::NotZero,
-            ShortCondition::Zero => Condition::Zero,
-            ShortCondition::NotCarry => Condition::NotCarry,
-            ShortCondition::Carry => Condition::Carry,
-        }),
-        _ => None,
-    }
-}
 
 /// Whether an instruction adds or subtracts with the carry.
 fn reads_carry(instr: &Instr) -> bool {
@@ -55,7 +41,7 @@ fn lacking_part(
     let Ok((instr, _)) = fetch(setting.task.rom(), address) else {
         return None;
     };
-    if let Some(condition) = condition_of(&instr) {
+    if let Some(condition) = tested_condition(&instr) {
         return narrowing_part(parts, &plain.parts, condition, &plain.state);
     }
     if reads_carry(&instr) && carry_part(&plain.parts, &plain.state).is_none() {

@@ -372,46 +372,35 @@ fn of_two_variables_one_has_to_be_known(rt: HostRuntime) {
     assert!(rt; leave_both(rt.alloc(), JP_Z, &state, &told, same, other));
 }
 
+/// C is set exactly if A is below 40h.
+fn if_a_below_64() -> FlagPart {
+    part(Letter::CarryIfBelow, one_term(-64, 1, Variable::A))
+}
+
+/// C is set exactly if L is below A.
+fn if_l_below_a() -> FlagPart {
+    part(
+        Letter::CarryIfBelow,
+        two_terms(0, -1, Variable::A, 1, Variable::L),
+    )
+}
+
 /// A is below 40h, and L is below A. The second part sees what the first one left.
 #[test]
 fn parts_narrow_in_their_order(rt: HostRuntime) {
-    let first = part(Letter::CarryIfBelow, one_term(-64, 1, Variable::A));
-    let second = part(
-        Letter::CarryIfBelow,
-        two_terms(0, -1, Variable::A, 1, Variable::L),
-    );
     let state = with_a_and_l((0, 255), (0, 255));
-    let above = ((64, 255), (64, 255));
-    assert!(rt;
-        leave_both(
-            rt.alloc(),
-            JP_C,
-            &state,
-            &[first, second],
-            ((1, 63), (0, 62)),
-            above
-        )
-    );
-    let above = ((64, 255), (0, 255));
-    assert!(rt;
-        leave_both(
-            rt.alloc(),
-            JP_C,
-            &state,
-            &[second, first],
-            ((1, 63), (0, 254)),
-            above
-        )
-    );
+    let told = [if_a_below_64(), if_l_below_a()];
+    let (below, above) = (((1, 63), (0, 62)), ((64, 255), (64, 255)));
+    assert!(rt; leave_both(rt.alloc(), JP_C, &state, &told, below, above));
+    let told = [if_l_below_a(), if_a_below_64()];
+    let (below, above) = (((1, 63), (0, 254)), ((64, 255), (0, 255)));
+    assert!(rt; leave_both(rt.alloc(), JP_C, &state, &told, below, above));
 }
 
 /// A part that is never met drops the outcome, whatever the others say.
 #[test]
 fn one_part_drops_an_outcome(rt: HostRuntime) {
-    let told = parts(&[
-        part(Letter::CarryIfBelow, one_term(-64, 1, Variable::A)),
-        part(Letter::CarryIfBelow, no_terms(0)),
-    ]);
+    let told = parts(&[if_a_below_64(), part(Letter::CarryIfBelow, no_terms(0))]);
     match refined(rt.alloc(), &[JP_C, 0, 0], &with_a(0, 255), &told) {
         Some(step) => assert!(rt;
             leaves(&step, true, None) && leaves(&step, false, Some((64, 255)))

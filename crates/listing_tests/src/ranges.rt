@@ -249,49 +249,82 @@ fn flags(rt: HostRuntime) -> Result<(), Fail> {
     Ok(())
 }
 
-/// A letter, a constant and terms of a flag part, and its text.
-type PartRow = (Letter, i32, &'static [(i32, Variable)], &'static str);
-
-const PARTS: &[PartRow] = &[
-    (Letter::CarryIfBelow, -64, &[(1, Variable::L)], "C: L < 40"),
-    (Letter::Zero, -64, &[(1, Variable::L)], "Z: L = 40"),
-    (Letter::Zero, 0, &[(1, Variable::Bc)], "Z: BC = 0"),
-    (Letter::Zero, -5, &[(1, Variable::Hl)], "Z: HL = 0005"),
-    (Letter::ZeroIfBelow, -128, &[(1, Variable::A)], "Z: A < 80"),
-    // The sign is turned where no term is positive: 127 - A is below 0 where A is above 127.
-    (Letter::SignIfBelow, 127, &[(-1, Variable::A)], "S: A > 7F"),
-    (Letter::CarryIfBelow, 191, &[(-1, Variable::A)], "C: A > BF"),
-    (Letter::Zero, 3, &[(-1, Variable::B)], "Z: B = 03"),
-    (
-        Letter::CarryIfBelow,
-        0,
-        &[(1, Variable::A), (-1, Variable::B)],
-        "C: A - B < 0",
-    ),
-    (
-        Letter::CarryIfBelow,
-        -300,
-        &[(2, Variable::A), (1, Variable::C)],
-        "C: 2*A + C < 300",
-    ),
-    // Below a negative number: never.
-    (Letter::CarryIfBelow, 5, &[(1, Variable::A)], "C: A < -5"),
-    (Letter::CarryIfBelow, 0, &[], "C clear"),
-    (Letter::CarryIfBelow, -1, &[], "C set"),
-    (Letter::Zero, 0, &[], "Z set"),
-    (Letter::Zero, 7, &[], "Z clear"),
-    (Letter::SignIfBelow, -1, &[], "S set"),
-];
+/// Whether a flag part has this text.
+fn is_part(
+    alloc: Global,
+    letter: Letter,
+    constant: i32,
+    terms: &[(i32, Variable)],
+    expected: &str,
+) -> Result<bool, Fail> {
+    let Some(linear) = linear(constant, terms) else {
+        return Err(Fail::new("no linear"));
+    };
+    let text = part_text(alloc, &FlagPart { letter, linear })?;
+    Ok(text.as_str() == expected)
+}
 
 #[test]
 fn flag_parts(rt: HostRuntime) -> Result<(), Fail> {
-    for (row, &(letter, constant, terms, expected)) in PARTS.iter().enumerate() {
-        let Some(linear) = linear(constant, terms) else {
-            return Err(Fail::new("no linear"));
-        };
-        let text = part_text(rt.alloc(), &FlagPart { letter, linear })?;
-        assert!(rt; text.as_str() == expected, "row {row}");
-    }
+    let alloc = rt.alloc();
+    let (a, b, l) = (Variable::A, Variable::B, Variable::L);
+    assert!(rt; is_part(alloc, Letter::CarryIfBelow, -64, &[(1, l)], "C: L < 40")?);
+    assert!(rt; is_part(alloc, Letter::Zero, -64, &[(1, l)], "Z: L = 40")?);
+    assert!(rt; is_part(alloc, Letter::Zero, 0, &[(1, Variable::Bc)], "Z: BC = 0")?);
+    assert!(rt;
+        is_part(
+            alloc,
+            Letter::Zero,
+            -5,
+            &[(1, Variable::Hl)],
+            "Z: HL = 0005"
+        )?
+    );
+    assert!(rt; is_part(alloc, Letter::ZeroIfBelow, -128, &[(1, a)], "Z: A < 80")?);
+    assert!(rt;
+        is_part(
+            alloc,
+            Letter::CarryIfBelow,
+            0,
+            &[(1, a), (-1, b)],
+            "C: A - B < 0"
+        )?
+    );
+    let terms = [(2, a), (1, Variable::C)];
+    assert!(rt;
+        is_part(
+            alloc,
+            Letter::CarryIfBelow,
+            -300,
+            &terms,
+            "C: 2*A + C < 300"
+        )?
+    );
+    Ok(())
+}
+
+/// The sign is turned where no term is positive: 127 - A is below 0 where A is above 127.
+#[test]
+fn turned_flag_parts(rt: HostRuntime) -> Result<(), Fail> {
+    let alloc = rt.alloc();
+    let (a, b) = (Variable::A, Variable::B);
+    assert!(rt; is_part(alloc, Letter::SignIfBelow, 127, &[(-1, a)], "S: A > 7F")?);
+    assert!(rt; is_part(alloc, Letter::CarryIfBelow, 191, &[(-1, a)], "C: A > BF")?);
+    assert!(rt; is_part(alloc, Letter::Zero, 3, &[(-1, b)], "Z: B = 03")?);
+    Ok(())
+}
+
+/// A is never below a negative number. A part without variables says what the flag is.
+#[test]
+fn known_flags(rt: HostRuntime) -> Result<(), Fail> {
+    let alloc = rt.alloc();
+    let below = [(1, Variable::A)];
+    assert!(rt; is_part(alloc, Letter::CarryIfBelow, 5, &below, "C: A < -5")?);
+    assert!(rt; is_part(alloc, Letter::CarryIfBelow, 0, &[], "C clear")?);
+    assert!(rt; is_part(alloc, Letter::CarryIfBelow, -1, &[], "C set")?);
+    assert!(rt; is_part(alloc, Letter::Zero, 0, &[], "Z set")?);
+    assert!(rt; is_part(alloc, Letter::Zero, 7, &[], "Z clear")?);
+    assert!(rt; is_part(alloc, Letter::SignIfBelow, -1, &[], "S set")?);
     Ok(())
 }
 

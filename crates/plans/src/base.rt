@@ -17,7 +17,7 @@ pub struct Base<'g> {
     pub board: BoardMap,
     /// The notes that stay. Its region, budget and map are already in the fields above.
     pub given: &'g Given,
-    /// By the rules of which version rows are judged. Those of versions 1 and 2 are the same.
+    /// The version whose rules judge the rows. Versions 1 and 2 have the same rules.
     pub version: Version,
 }
 

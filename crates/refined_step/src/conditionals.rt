@@ -33,8 +33,8 @@ fn of_short(condition: ShortCondition) -> Condition
     }
 }
 
-/// The condition of JP cc, JR cc, CALL cc and RET cc.
-pub(crate) fn tested_condition(instr: &Instr) -> Option<Condition>
+/// The condition of JP cc, JR cc, CALL cc and RET cc. None for other instructions.
+pub fn tested_condition(instr: &Instr) -> Option<Condition>
     ensures { result ≡ tested_condition instr.now }
 {
     match instr {
@@ -46,7 +46,7 @@ pub(crate) fn tested_condition(instr: &Instr) -> Option<Condition>
 }
 
 /// The condition that is met where this one is not.
-fn opposite(condition: Condition) -> Condition
+pub fn opposite(condition: Condition) -> Condition
     ensures { result ≡ opposite condition }
 {
     match condition {

@@ -6,4 +6,5 @@ mod conditionals;
 mod refined;
 mod sharpening;
 
+pub use conditionals::{opposite, tested_condition};
 pub use refined::{RefinedStep, refined_step};

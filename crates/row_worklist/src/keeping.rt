@@ -1,6 +1,7 @@
 // What an analysis takes over from another one.
 
-use crate::worklist::{Setting, Worklist};
+use crate::setting::Setting;
+use crate::worklist::Worklist;
 use analysis::FlowFault;
 use board_fetch::fetch;
 use inferred_rows::{ContextPoint, InferredRow};

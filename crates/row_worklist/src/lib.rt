@@ -2,11 +2,12 @@
 // the visit of a row changes.
 #![tactic(auto)]
 
+mod judged_steps;
 mod keeping;
+mod setting;
 mod waiting;
 mod worklist;
 
-pub use worklist::{
-    Findings, RowEdge, Setting, Watch, Worklist, bytes_of, parts_by, parts_told, space_after,
-    state_at_exit, told_by,
-};
+pub use judged_steps::{bytes_of, parts_by, parts_told, space_after, state_at_exit, told_by};
+pub use setting::{Setting, Watch};
+pub use worklist::{Findings, RowEdge, Worklist};

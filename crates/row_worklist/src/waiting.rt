@@ -1,6 +1,7 @@
 // The places that wait, and which refused row ends the analysis.
 
-use crate::worklist::{Watch, Worklist};
+use crate::setting::Watch;
+use crate::worklist::Worklist;
 use analysis::FlowFault;
 use std::alloc::Global;
 use std::collections::BTreeSet;

@@ -2,16 +2,15 @@
 
 ghost use Rattle.std.specs.Prelude.{◌≡◌, ◌+◌, ◌*◌};
 
+use crate::judged_steps::{bytes_of, nexts_of, parts_told, space_after, state_at_exit, told_by};
+use crate::setting::{Setting, Watch};
 use abs_state::AbsState;
 use abs_step::{Next, NextKind, Reason};
 use affine::Space;
-use analysis::{FlowFault, JudgedRow, MAIN, NMI, ProgramPoint, Task, facts_at, sub_of, told_at};
+use analysis::{FlowFault, JudgedRow, MAIN, NMI, ProgramPoint, Task, facts_at, sub_of};
 use board_fetch::fetch;
 use cert_form::{PROC_LIMIT, ROW_LIMIT};
 use cert_lines::Version;
-use check_claims::StepSource;
-use check_steps::StepTold;
-use derived_parts::parts_after;
 use flag_letters::FlagParts;
 use inferred_rows::{
     ArrivingParts, CLASSES, ContextPoint, Guide, InferredRow, JoinOutcome, Manner, NO_ROW,
@@ -19,42 +18,12 @@ use inferred_rows::{
 };
 use intervals::ByteRange;
 use judged_rows::JudgedRows;
-use loop_bounds::{Effect, Linear};
+use loop_bounds::Effect;
 use sent_states::{Arriving, ArrivingKind, Sent, SentState};
 use std::alloc::Global;
 use std::collections::{BTreeMap, BTreeSet};
 use std::rc::Rc;
 use z80_moves::NMI_ADDRESS;
-
-/// What an inferring analysis works on.
-#[derive(Clone, Copy)]
-pub struct Setting<'s> {
-    pub task: &'s Task<'s>,
-    pub guide: &'s Guide,
-    pub manner: Manner,
-}
-
-/// Which rows end an analysis if they are refused before the fixpoint is reached.
-#[derive(Clone, Copy, PartialEq, Eq)]
-pub enum Watch {
-    Nothing,
-    /// The rows at an address.
-    Address(u16),
-    /// The same. Where an analysis goes on from the rows of another one, called procedures come first.
-    Callees(u16),
-    Everything,
-}
-
-impl Watch {
-    /// Whether a row at an address ends the analysis if it is refused.
-    fn is_at(self, address: u16) -> bool {
-        match self {
-            Watch::Nothing => false,
-            Watch::Address(at) | Watch::Callees(at) => at == address,
-            Watch::Everything => true,
-        }
-    }
-}
 
 /// A step from a row to another.
 #[derive(Clone, Copy)]
@@ -676,14 +645,6 @@ fn tightening<'t>(
     }
 }
 
-/// The successors to which an analysis goes on from a judged row.
-fn nexts_of<'j>(manner: Manner, judged: &'j JudgedRow) -> &'j [Next] {
-    match &judged.nexts {
-        Some(nexts) if manner.explores || judged.reason.is_none() => nexts.as_slice(),
-        _ => &[],
-    }
-}
-
 /// A copy of a row. A function of its own, since room for a row is cleared when it begins.
 #[inline(never)]
 fn copy_of(alloc: Global, row: &InferredRow) -> Result<Rc<InferredRow>, FlowFault> {
@@ -709,26 +670,6 @@ pub struct Findings {
     pub drops: bool,
 }
 
-/// The most bytes of slots at a judged row and its successors.
-pub fn bytes_of(manner: Manner, row: &InferredRow, judged: &JudgedRow) -> u16 {
-    let mut bytes = row.state.shape.bytes();
-    for next in nexts_of(manner, judged) {
-        bytes = bytes.max(next.state.shape.bytes());
-    }
-    bytes
-}
-
-/// The state in which a judged row leaves its procedure, if it does.
-pub fn state_at_exit<'j>(manner: Manner, judged: &'j JudgedRow) -> Option<&'j AbsState> {
-    let mut exit = None;
-    for next in nexts_of(manner, judged) {
-        if next.kind == NextKind::Exit {
-            exit = Some(&next.state);
-        }
-    }
-    exit
-}
-
 /// A state at an entry.
 fn entering<'s>(to: ContextPoint, state: &'s AbsState) -> Arriving<'s> {
     Arriving {
@@ -737,83 +678,5 @@ fn entering<'s>(to: ContextPoint, state: &'s AbsState) -> Arriving<'s> {
         effect: Effect::unchanged(),
         moved: Effect::unchanged(),
         kind: ArrivingKind::Jump,
-    }
-}
-
-/// What the step of a judged row says beside its successors. Nothing is said before version 3, nor in an analysis that keeps
-/// no relations.
-pub fn told_by(setting: Setting, number: u64, row: &InferredRow, judged: &JudgedRow) -> StepTold {
-    if !setting.manner.relates || setting.task.version() != Version::Three {
-        return StepTold::none();
-    }
-    told_at(
-        setting.task,
-        ContextPoint::of(number).address,
-        judged.operand,
-        &row.state,
-        &row.parts,
-    )
-}
-
-/// What a state that a row sends tells of the flags where it arrives. A call or a return tells nothing.
-pub fn parts_told(
-    number: u64,
-    row: &InferredRow,
-    told: &StepTold,
-    arriving: &Arriving,
-) -> ArrivingParts {
-    let parts = if arriving.kind == ArrivingKind::Jump {
-        parts_by(
-            row.relations.as_slice(),
-            &row.state,
-            told,
-            &arriving.effect,
-            &arriving.moved,
-            arriving.state(),
-        )
-    } else {
-        FlagParts::empty()
-    };
-    ArrivingParts {
-        parts,
-        from: number,
-    }
-}
-
-/// The flag parts that are known after a step from a state with these facts, in the state `after`, by what the step says
-/// beside and by its two effects.
-pub fn parts_by(
-    facts: &[Linear],
-    before: &AbsState,
-    told: &StepTold,
-    settled: &Effect,
-    moved: &Effect,
-    after: &AbsState,
-) -> FlagParts {
-    if told.conditions.before().is_empty() && told.conditions.after().is_empty() {
-        return FlagParts::empty();
-    }
-    let source = StepSource {
-        facts,
-        before,
-        settled,
-        moved,
-        linear: &told.linear,
-        conditions: &told.conditions,
-    };
-    parts_after(&source, after)
-}
-
-/// What is known of the variables together after a step.
-pub fn space_after(manner: Manner, space: &Space, told: &StepTold, arriving: &Arriving) -> Space {
-    if !manner.relates {
-        return Space::full();
-    }
-    let slots = arriving.state().shape.len();
-    match &told.linear {
-        Some(linear) if arriving.kind == ArrivingKind::Jump => {
-            space.after_linear(&arriving.effect, slots, linear.variable, &linear.linear)
-        }
-        _ => space.after(&arriving.effect, slots),
     }
 }
