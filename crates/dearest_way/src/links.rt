@@ -181,11 +181,23 @@ impl Links {
     pub(crate) fn requests(&self, alloc: Global) -> Result<Requests, AllocError> {
         let mut of_rows = Vec::new(alloc);
         for link in &self.to {
-            of_rows.push(link.request())?;
+            add_request(&mut of_rows, link.request())?;
         }
         Ok(Requests {
             of_rows,
             leaving: None,
         })
     }
+}
+
+/// Adds a request. One that begins where the last one ends is joined with it, and the greater cost stays.
+fn add_request(requests: &mut Vec<Request>, next: Request) -> Result<(), AllocError> {
+    match requests.last_mut() {
+        Some(last) if last.end == next.start => {
+            last.end = next.end;
+            last.cost = last.cost.max(next.cost);
+        }
+        _ => requests.push(next)?,
+    }
+    Ok(())
 }

@@ -61,11 +61,11 @@ struct Wanted {
 
 /// Where claims are followed.
 #[derive(Clone, Copy)]
-pub(crate) struct Followed<'f> {
+pub(crate) struct Followed<'f, 'i> {
     pub setting: Setting<'f>,
     /// The rows of an analysis with relations.
     pub related: &'f Worklist,
-    pub incoming: &'f IncomingSteps,
+    pub incoming: &'i IncomingSteps,
 }
 
 /// Whether a row is that of the entry of main or of the NMI routine, where nothing is known.
@@ -134,22 +134,31 @@ pub(crate) fn closure_of(
         if is_entry(wanted.row) || !has_room(of.setting, table, &needs, &wanted) {
             return Ok(None);
         }
-        match wanted.claim {
-            Claim::Fact(fact) => add_fact(&mut needs.facts, wanted.row, fact)?,
-            Claim::Part(part) => add_part(&mut needs.parts, wanted.row, part)?,
+        match &wanted.claim {
+            Claim::Fact(fact) => add_fact(&mut needs.facts, wanted.row, *fact)?,
+            Claim::Part(part) => add_part(&mut needs.parts, wanted.row, *part)?,
         }
         for edge in of.incoming.to(wanted.row) {
-            let found = match wanted.claim {
-                Claim::Fact(fact) => fact_before(alloc, of, edge, &fact)?,
-                Claim::Part(part) => part_before(alloc, of, edge, &part)?,
-            };
-            let Some(ground) = found else {
+            let Some(ground) = ground_before(alloc, of, edge, &wanted)? else {
                 return Ok(None);
             };
             want(&mut todo, edge.from, &ground)?;
         }
     }
     Ok(None)
+}
+
+/// The claim of the row before a step of which a wanted claim after it is made; None if it cannot be told.
+fn ground_before(
+    alloc: Global,
+    of: Followed,
+    edge: &RowEdge,
+    wanted: &Wanted,
+) -> Result<Option<PartGround>, FlowFault> {
+    match &wanted.claim {
+        Claim::Fact(fact) => fact_before(alloc, of, edge, fact),
+        Claim::Part(part) => part_before(alloc, of, edge, part),
+    }
 }
 
 /// Adds what a ground takes of a row.
@@ -179,7 +188,7 @@ fn is_had(table: &Guide, needs: &Needs, wanted: &Wanted) -> bool {
 /// Whether a row has room for a wanted claim.
 fn has_room(setting: Setting, table: &Guide, needs: &Needs, wanted: &Wanted) -> bool {
     let row = &wanted.row;
-    match wanted.claim {
+    match &wanted.claim {
         Claim::Fact(_) => {
             let said = facts_at(setting.task.said().facts(), ContextPoint::of(*row).address);
             let taken = count(table.facts.get(row))
@@ -204,7 +213,7 @@ fn nothing() -> PartGround {
     }
 }
 
-/// Of what claim of the row before a step a fact after it is made; None if it cannot be told.
+/// The claim of the row before a step of which a fact after it is made; None if it cannot be told.
 fn fact_before(
     alloc: Global,
     of: Followed,

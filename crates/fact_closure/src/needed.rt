@@ -282,7 +282,7 @@ impl<'s> FactSearch<'s> {
     }
 
     /// Where claims are followed.
-    pub(crate) fn followed<'f>(&'f self, incoming: &'f IncomingSteps) -> Followed<'f> {
+    pub(crate) fn followed<'i>(&self, incoming: &'i IncomingSteps) -> Followed<'s, 'i> {
         Followed {
             setting: self.setting,
             related: self.related,

@@ -153,7 +153,7 @@ impl<'s> FactSearch<'s> {
                 return Ok(());
             };
             rest = without(&rest, &part);
-            if of.is_some_and(|variable| !says_of(&part.linear, &variable)) {
+            if !is_asked(&of, &part) {
                 continue;
             }
             let claim = Claim::Part(part);
@@ -194,6 +194,14 @@ impl<'s> FactSearch<'s> {
             }
         }
         Ok(())
+    }
+}
+
+/// Whether a part says something of a variable, if one is asked for.
+fn is_asked(of: &Option<Variable>, part: &FlagPart) -> bool {
+    match of {
+        Some(variable) => says_of(&part.linear, variable),
+        None => true,
     }
 }
 
