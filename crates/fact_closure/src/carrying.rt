@@ -1,6 +1,6 @@
 // A fact at the head of a loop, carried over the loop.
 
-use crate::closure::{IncomingSteps, has};
+use crate::closure::{FACTS, IncomingSteps, STEPS, has};
 use crate::needs::add_fact;
 use analysis::FlowFault;
 use annotations::FactNote;
@@ -11,12 +11,6 @@ use loop_bounds::Linear;
 use row_worklist::{RowEdge, Worklist};
 use std::alloc::Global;
 use std::collections::BTreeMap;
-
-/// The most facts of a row.
-const FACTS: usize = 4;
-
-/// The most facts of rows through which one fact is followed.
-const STEPS: u32 = 20_000;
 
 /// A fact that holds at the head of a loop, and is to be carried over the loop.
 #[derive(Clone, Copy)]

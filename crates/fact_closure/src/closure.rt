@@ -15,10 +15,10 @@ use sent_states::ArrivingKind;
 use std::alloc::Global;
 
 /// The most facts of a row.
-const FACTS: usize = 4;
+pub(crate) const FACTS: usize = 4;
 
-/// The most rows through which one wanted fact or part is followed.
-const STEPS: u32 = 20_000;
+/// The most facts or parts of rows through which one fact or part is followed.
+pub(crate) const STEPS: u32 = 20_000;
 
 /// The steps that come to each row.
 #[derive(Drop)]
