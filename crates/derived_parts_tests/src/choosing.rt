@@ -1,8 +1,8 @@
 // Common parts, and parts that are worth more than others.
-use crate::setting::{any_state, bytes, l_less_64, part, parts, with_a};
+use crate::setting::{any_state, bytes, carry_set, l_less_64, part, parts, with_a};
 use abs_state::AbsState;
 use derived_parts::{carry_part, common_parts, narrowing_part};
-use flag_conditions::{no_terms, one_term};
+use flag_conditions::one_term;
 use flag_letters::{FlagPart, FlagParts, Letter};
 use intervals::{ByteRange, Pair};
 use loop_bounds::Variable;
@@ -31,9 +31,8 @@ fn common_parts_are_in_order(rt: HostRuntime) {
 
 #[test]
 fn a_constant_makes_the_carry_known(rt: HostRuntime) {
-    let set = part(Letter::CarryIfBelow, no_terms(-1));
-    let row = parts(&[of_a(), of_l(), set]);
-    assert!(rt; carry_part(&row, &any_state()) == Some(set));
+    let row = parts(&[of_a(), of_l(), carry_set()]);
+    assert!(rt; carry_part(&row, &any_state()) == Some(carry_set()));
     assert!(rt; carry_part(&parts(&[of_a(), of_l()]), &any_state()) == None);
 }
 

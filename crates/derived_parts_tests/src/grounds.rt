@@ -1,7 +1,7 @@
 // What claims after a step follow from.
-use crate::setting::{Claimed, a_less, bytes, ground, l_less_64, part, with_a};
+use crate::setting::{Claimed, a_less, bytes, carry_set, ground, l_less_64, part, with_a};
 use derived_parts::PartGround;
-use flag_conditions::{no_terms, one_term, two_terms};
+use flag_conditions::{one_term, two_terms};
 use flag_letters::{FlagPart, Letter};
 use intervals::{ByteRange, Pair};
 use loop_bounds::{Linear, Variable};
@@ -69,10 +69,14 @@ fn a_carried_part_needs_the_part(rt: HostRuntime) {
     assert!(rt; needs(found, Some(of_l()), None));
 }
 
+/// C is set exactly if A is below 64.
+fn of_a() -> FlagPart {
+    part(Letter::CarryIfBelow, one_term(-64, 1, Variable::A))
+}
+
 /// LD A,1: the part of A goes on as one of L.
 #[test]
 fn a_carried_copy_needs_both(rt: HostRuntime) {
-    let of_a = part(Letter::CarryIfBelow, one_term(-64, 1, Variable::A));
     let facts = [a_less(Variable::L)];
     let claim = Claimed::Part(of_l());
     let found = ground(
@@ -80,10 +84,10 @@ fn a_carried_copy_needs_both(rt: HostRuntime) {
         &[0x3E, 1],
         &with_a(0, 255),
         &facts,
-        &[of_a],
+        &[of_a()],
         &claim,
     );
-    assert!(rt; needs(found, Some(of_a), Some(a_less(Variable::L))));
+    assert!(rt; needs(found, Some(of_a()), Some(a_less(Variable::L))));
 }
 
 #[test]
@@ -119,14 +123,13 @@ fn a_moved_fact_needs_a_fact(rt: HostRuntime) {
 
 /// ADC A,1 with C set makes A 2 more: it needs to be known that C is set.
 fn needs_carry(alloc: Global) -> bool {
-    let set = part(Letter::CarryIfBelow, no_terms(-1));
     let facts = [a_less(Variable::L)];
     let mut state = with_a(0, 10);
     state.pairs.hl = Pair::of_bytes(ByteRange::full(), bytes(0, 10));
     let claim = Claimed::Fact(two_terms(-2, 1, Variable::A, -1, Variable::L));
-    let row = [part(Letter::Zero, l_less_64()), set];
+    let row = [part(Letter::Zero, l_less_64()), carry_set()];
     let found = ground(alloc, &[0xCE, 1], &state, &facts, &row, &claim);
-    needs(found, Some(set), Some(a_less(Variable::L)))
+    needs(found, Some(carry_set()), Some(a_less(Variable::L)))
 }
 
 #[test]

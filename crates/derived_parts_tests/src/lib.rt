@@ -8,4 +8,6 @@ mod derived;
 #[cfg(test)]
 mod grounds;
 #[cfg(test)]
+mod rewritten;
+#[cfg(test)]
 mod setting;

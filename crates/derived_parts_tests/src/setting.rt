@@ -6,7 +6,7 @@ use address_map::{Map, Rom};
 use board_fetch::fetch;
 use check_claims::StepSource;
 use derived_parts::{PartGround, PartStep, fact_ground_of, ground_of, parts_after};
-use flag_conditions::{one_term, two_terms};
+use flag_conditions::{no_terms, one_term, two_terms};
 use flag_letters::{FlagPart, FlagParts, Letter};
 use intervals::{ByteRange, Pair};
 use loop_bounds::{Linear, Variable};
@@ -52,6 +52,11 @@ pub fn parts(list: &[FlagPart]) -> FlagParts {
 /// -64 + L
 pub fn l_less_64() -> Linear {
     one_term(-64, 1, Variable::L)
+}
+
+/// C is set.
+pub fn carry_set() -> FlagPart {
+    part(Letter::CarryIfBelow, no_terms(-1))
 }
 
 /// A - v, for a variable behind A.

@@ -2,7 +2,7 @@
 
 use crate::block_copies::{FOUR_COPIES, TWO_COPIES};
 use crate::called::{ABANDONED, BELOW_128, BOUNDED};
-use crate::computed::{JUMP_TABLE, JUMPS_APART, PICTURE};
+use crate::computed::{JUMP_TABLE, JUMPS_APART, PICTURE, REPLACED};
 use crate::loops::{COUNTED_FILL, FILL, OBJECTS, PAGES};
 use crate::timed::{COUNTED_DOWN, COUNTED_UP, TENS};
 use crate::worked::Program;
@@ -19,6 +19,7 @@ const PROGRAMS: &[Program] = &[
     JUMP_TABLE,
     JUMPS_APART,
     PICTURE,
+    REPLACED,
     BOUNDED,
     BELOW_128,
     ABANDONED,

@@ -62,3 +62,16 @@ pub const ABANDONED: Program = Program {
     ),
     table: CALLED_TABLE,
 };
+
+/// `ABANDONED` with a time of the subroutine, and potentials that pay for each step.
+pub const TIMED: &str = rows_text!(
+    3, "rom 19\nmap galaxian\nstack 4380 4400\nbudget -\nproc main 0000 1 2 -\nproc sub 0008 0 2 100";
+    "0000 u 0" "* * * *" "- - - -",
+    "0003 s 0" "* * * *" "- - - -",
+    "0006 s 0" "0000-00FF:00-00:00-FF * * *" "- - - -",
+    "0010 s 0" "0100-FFFF:01-FF:00-FF * * *" "- - - -";
+    "1 0008 s 0" "*@AF *@BC *@DE *@HL" "- - - 100",
+    "1 000B s 0" "* *@BC *@DE *@HL" "- - - 87",
+    "1 000C s 0" "* *@BC *@DE *@HL" "z0+1*A - - 83",
+    "1 000D s 0" "0100-FFFF:01-FF:00-FF *@BC *@DE *@HL" "- - - 78"
+);

@@ -234,23 +234,6 @@ const OF_COUNTED_DOWN: &[Change] = &[
     (16, "z0+1*C", "z-1+1*C", ""),
 ];
 
-const PROGRAMS: &[(Program, &[Change])] = &[
-    (FILL, OF_FILL),
-    (COUNTED_FILL, OF_COUNTED_FILL),
-    (PAGES, OF_PAGES),
-    (OBJECTS, OF_OBJECTS),
-    (TWO_COPIES, OF_TWO_COPIES),
-    (FOUR_COPIES, OF_FOUR_COPIES),
-    (JUMP_TABLE, OF_JUMP_TABLE),
-    (JUMPS_APART, OF_JUMPS_APART),
-    (BOUNDED, OF_BOUNDED),
-    (BELOW_128, OF_BELOW_128),
-    (ABANDONED, OF_ABANDONED),
-    (COUNTED_UP, OF_COUNTED_UP),
-    (TENS, OF_TENS),
-    (COUNTED_DOWN, OF_COUNTED_DOWN),
-];
-
 /// The text with a part of a line replaced. The first line has the number 1.
 fn with_line(alloc: Global, text: &str, change: &Change) -> Result<String, Fail> {
     let &(number, old, new, _) = change;
@@ -295,13 +278,79 @@ fn first_other(
 }
 
 #[test]
-fn none_is_covered(rt: HostRuntime) -> Result<(), Fail> {
-    for (place, (program, changes)) in PROGRAMS.iter().enumerate() {
-        let other = first_other(rt.alloc(), program, changes)?;
-        assert!(rt;
-            other.is_none(),
-            "line {other:?} of program {place}, from 0"
-        );
-    }
+fn of_fill(rt: HostRuntime) -> Result<(), Fail> {
+    let other = first_other(rt.alloc(), &FILL, OF_FILL)?;
+    assert!(rt; other.is_none(), "line {other:?}");
+    Ok(())
+}
+
+#[test]
+fn of_counted_fill(rt: HostRuntime) -> Result<(), Fail> {
+    let other = first_other(rt.alloc(), &COUNTED_FILL, OF_COUNTED_FILL)?;
+    assert!(rt; other.is_none(), "line {other:?}");
+    Ok(())
+}
+
+#[test]
+fn of_pages(rt: HostRuntime) -> Result<(), Fail> {
+    let other = first_other(rt.alloc(), &PAGES, OF_PAGES)?;
+    assert!(rt; other.is_none(), "line {other:?}");
+    Ok(())
+}
+
+#[test]
+fn of_objects(rt: HostRuntime) -> Result<(), Fail> {
+    let other = first_other(rt.alloc(), &OBJECTS, OF_OBJECTS)?;
+    assert!(rt; other.is_none(), "line {other:?}");
+    Ok(())
+}
+
+#[test]
+fn of_two_copies(rt: HostRuntime) -> Result<(), Fail> {
+    let other = first_other(rt.alloc(), &TWO_COPIES, OF_TWO_COPIES)?;
+    assert!(rt; other.is_none(), "line {other:?}");
+    Ok(())
+}
+
+#[test]
+fn of_four_copies(rt: HostRuntime) -> Result<(), Fail> {
+    let other = first_other(rt.alloc(), &FOUR_COPIES, OF_FOUR_COPIES)?;
+    assert!(rt; other.is_none(), "line {other:?}");
+    Ok(())
+}
+
+#[test]
+fn of_jumps(rt: HostRuntime) -> Result<(), Fail> {
+    let other = first_other(rt.alloc(), &JUMP_TABLE, OF_JUMP_TABLE)?;
+    assert!(rt; other.is_none(), "line {other:?}");
+    let other = first_other(rt.alloc(), &JUMPS_APART, OF_JUMPS_APART)?;
+    assert!(rt; other.is_none(), "line {other:?}");
+    Ok(())
+}
+
+#[test]
+fn of_called(rt: HostRuntime) -> Result<(), Fail> {
+    let other = first_other(rt.alloc(), &BOUNDED, OF_BOUNDED)?;
+    assert!(rt; other.is_none(), "line {other:?}");
+    let other = first_other(rt.alloc(), &BELOW_128, OF_BELOW_128)?;
+    assert!(rt; other.is_none(), "line {other:?}");
+    let other = first_other(rt.alloc(), &ABANDONED, OF_ABANDONED)?;
+    assert!(rt; other.is_none(), "line {other:?}");
+    Ok(())
+}
+
+#[test]
+fn of_counted_up(rt: HostRuntime) -> Result<(), Fail> {
+    let other = first_other(rt.alloc(), &COUNTED_UP, OF_COUNTED_UP)?;
+    assert!(rt; other.is_none(), "line {other:?}");
+    Ok(())
+}
+
+#[test]
+fn of_counted_down(rt: HostRuntime) -> Result<(), Fail> {
+    let other = first_other(rt.alloc(), &TENS, OF_TENS)?;
+    assert!(rt; other.is_none(), "line {other:?}");
+    let other = first_other(rt.alloc(), &COUNTED_DOWN, OF_COUNTED_DOWN)?;
+    assert!(rt; other.is_none(), "line {other:?}");
     Ok(())
 }

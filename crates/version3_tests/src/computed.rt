@@ -90,3 +90,20 @@ pub const PICTURE: Program = Program {
     ),
     table: TABLE,
 };
+
+/// LD SP,4400h; 0003: LD A,(4000h); CP 40h; LD A,5; JR C,0003; JR 0003. After CP the carry tells of an A that LD A,5
+/// replaces: it says nothing of 5.
+pub const REPLACED: Program = Program {
+    main: b"\x31\x00\x44\x3A\x00\x40\xFE\x40\x3E\x05\x38\xF7\x18\xF5",
+    routine: b"",
+    certificate: rows_text!(
+        3, "rom 14\nmap galaxian\nstack 4380 4400\nbudget -\nproc main 0000 0 0 -";
+        "0000 u 0" "* * * *" "- - - -",
+        "0003 s 0" "* * * *" "- - - -",
+        "0006 s 0" "* * * *" "- - - -",
+        "0008 s 0" "* * * *" "c-64+1*A - - -",
+        "000A s 0" "0500-05FF:05-05:00-FF * * *" "- - - -",
+        "000C s 0" "0500-05FF:05-05:00-FF * * *" "- - - -";
+    ),
+    table: TABLE,
+};

@@ -1,8 +1,8 @@
 // Accepted programs with one edit each, of the certificate or of the ROM, and the answer.
 
 use crate::block_copies::TWO_COPIES;
-use crate::called::{ABANDONED, BELOW_128, BOUNDED};
-use crate::computed::PICTURE;
+use crate::called::{ABANDONED, BELOW_128, BOUNDED, TIMED};
+use crate::computed::{PICTURE, REPLACED};
 use crate::loops::{COUNTED_FILL, FILL, OBJECTS};
 use crate::timed::{COUNTED_DOWN, TENS};
 use crate::worked::Edit::{self, Code, Text};
@@ -50,6 +50,15 @@ const PARTS: &[NearMiss] = &[
         COUNTED_FILL,
         Text("z0+1*BC", "c0+1*BC"),
         "refused 000E 12 NotCovered\n",
+    ),
+    // 5 is below 64, but the carry was set by the A before LD A,5. With this part JR C would always jump
+    (
+        REPLACED,
+        Text(
+            "000A s 0 0500-05FF:05-05:00-FF * * * * * * * * * - ",
+            "000A s 0 0500-05FF:05-05:00-FF * * * * * * * * * c-59 ",
+        ),
+        "refused 0008 12 NotCovered\n",
     ),
 ];
 
@@ -213,6 +222,18 @@ fn of_code(rt: HostRuntime) -> Result<(), Fail> {
 fn of_restarts_and_times(rt: HostRuntime) -> Result<(), Fail> {
     let other = first_other(rt.alloc(), RESTARTS)?;
     assert!(rt; other.is_none(), "{other:?} of RESTARTS, from 0");
+    Ok(())
+}
+
+/// In a procedure with a time LD SP,4400h is no restart, though each of its rows pays for its step.
+#[test]
+fn of_a_timed_restart(rt: HostRuntime) -> Result<(), Fail> {
+    let timed = Program {
+        certificate: TIMED,
+        ..ABANDONED
+    };
+    let unchanged = Text("rom 19", "rom 19");
+    assert!(rt; timed.is_refused_after(rt.alloc(), unchanged, "refused 000D 20 SpWrite\n")?);
     Ok(())
 }
 
