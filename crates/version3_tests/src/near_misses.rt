@@ -225,7 +225,8 @@ fn of_restarts_and_times(rt: HostRuntime) -> Result<(), Fail> {
     Ok(())
 }
 
-/// In a procedure with a time LD SP,4400h is no restart, though each of its rows pays for its step.
+/// In a procedure with a time LD SP,4400h is no restart, though each of its rows pays for its step. It leads on in its
+/// procedure, which has no row there.
 #[test]
 fn of_a_timed_restart(rt: HostRuntime) -> Result<(), Fail> {
     let timed = Program {
@@ -233,7 +234,7 @@ fn of_a_timed_restart(rt: HostRuntime) -> Result<(), Fail> {
         ..ABANDONED
     };
     let unchanged = Text("rom 19", "rom 19");
-    assert!(rt; timed.is_refused_after(rt.alloc(), unchanged, "refused 000D 20 SpWrite\n")?);
+    assert!(rt; timed.is_refused_after(rt.alloc(), unchanged, "refused 000D 12 NotCovered\n")?);
     Ok(())
 }
 
