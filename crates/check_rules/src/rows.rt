@@ -1,6 +1,6 @@
 // The lowest reason that applies to a row.
 
-ghost use Rattle.std.specs.Prelude.{◌≡◌, OnOk, IfErr, Ok, Err};
+ghost use Rattle.std.specs.Prelude.{◌≡◌, OnOk, IfOk, IfErr, Ok, Err};
 ghost use Rattle.check_rules.specs.Table.{IsConsistent, IsLowest, PassesBelow, TellsLowest};
 ghost use Rattle.check_ways.specs.Ways.{IsTold, step_of, writes_from};
 
@@ -9,10 +9,11 @@ use crate::saved::check_saved;
 use crate::stack::{fits_depth, ranks_fall, row_fits_depth};
 use crate::writes::{check_cells, check_enabling, check_places};
 use abs_draft::DataWrite;
-use abs_step::{Next, Reason};
+use abs_step::{Next, Nexts, Reason};
+use cert_lines::Version;
 use check_cover::Coverer;
 use check_steps::StepTold;
-use check_ways::{Subject, SubjectStep, goes_on, pays};
+use check_ways::{Subject, goes_on, pays};
 use std::alloc::Global;
 
 /// Judges a row by the table of reasons (docs/CHECKER.md, "The table of reasons"). The coverer searches the rows of the
@@ -27,14 +28,62 @@ pub fn check_row(alloc: Global, subject: &Subject, coverer: &mut Coverer) -> Res
     ensures err { IfErr result (λ reason. IsLowest subject.now reason) }
     ensures same { coverer.new ≡ coverer.old }
 {
-    let SubjectStep {
-        writes,
-        answer,
-        told,
-    } = subject.row_step(alloc);
+    // A step is as large as several states, so none is moved.
+    match &subject.decoded {
+        Ok(instr) => match subject.certificate.version() {
+            Version::One | Version::Two => {
+                let step = subject.plain_step(alloc, instr);
+                check_step(
+                    subject,
+                    step.writes.as_slice(),
+                    &step.answer,
+                    subject.untold(),
+                    coverer,
+                )
+            }
+            Version::Three => check_any(alloc, subject, coverer),
+        },
+        Err(_) => check_any(alloc, subject, coverer),
+    }
+}
+
+/// Judges a row of any version.
+fn check_any(alloc: Global, subject: &Subject, coverer: &mut Coverer) -> Result<(), Reason>
+    requires { coverer.old ≡ subject.now.cert }
+    ensures ok { OnOk result (IsConsistent subject.now) }
+    ensures err { IfErr result (λ reason. IsLowest subject.now reason) }
+    ensures same { coverer.new ≡ coverer.old }
+{
+    let step = subject.row_step(alloc);
+    check_step(
+        subject,
+        step.writes.as_slice(),
+        &step.answer,
+        &step.told,
+        coverer,
+    )
+}
+
+/// Judges a row whose step gives these data writes, and these successors or this reason.
+fn check_step(
+    subject: &Subject,
+    writes: &[DataWrite],
+    answer: &Result<Nexts, Reason>,
+    told: &StepTold,
+    coverer: &mut Coverer,
+) -> Result<(), Reason>
+    requires told { IsTold subject.now told.now }
+    requires successors { IfOk answer.now (λ nexts. step_of subject.now ≡ Ok nexts.items) }
+    requires reason { IfErr answer.now (λ reason. step_of subject.now ≡ Err reason) }
+    requires writes { writes.now ≡ writes_from subject.now }
+    requires coverer { coverer.old ≡ subject.now.cert }
+    ensures ok { OnOk result (IsConsistent subject.now) }
+    ensures err { IfErr result (λ reason. IsLowest subject.now reason) }
+    ensures same { coverer.new ≡ coverer.old }
+{
     match answer {
-        Ok(nexts) => check_going(subject, writes.as_slice(), nexts.as_slice(), &told, coverer),
-        Err(refusal) => Err(lowest_of_refused(subject, writes.as_slice(), refusal)),
+        Ok(nexts) => check_going(subject, writes, nexts.as_slice(), told, coverer),
+        Err(refusal) => Err(lowest_of_refused(subject, writes, *refusal)),
     }
 }
 

@@ -6,7 +6,7 @@ ghost use Rattle.abs_state.specs.Entries.{callee_entry};
 ghost use Rattle.check_cover.specs.Covering.{Covered};
 ghost use Rattle.check_cover.specs.Program.{callee_at};
 ghost use Rattle.check_ways.specs.Parts.{AtEachExit, CallGoesOn, IsCoveredWay, NextGoesOn, OnEachExit, OnEachLeft, ReturnCovered, WideCovered};
-ghost use Rattle.check_ways.specs.Ways.{GoesOn, IsTold, arrival_at_entry, jump_way, step_of};
+ghost use Rattle.check_ways.specs.Ways.{GoesOn, IsTold, arrival_at_entry, jump_way, state_after, step_of};
 
 use crate::subject::Subject;
 use abs_draft::settled;
@@ -14,7 +14,7 @@ use abs_state::AbsState;
 use abs_step::{Next, NextKind};
 use cert_contents::RowId;
 use check_cover::{Callee, Coverer, callee_at};
-use check_steps::{StepTold, effect_back};
+use check_steps::{StepTold, effect_back, restarted};
 use check_tables::{Left, ProcExits};
 
 /// Whether a jump arrives in a covered state.
@@ -23,14 +23,29 @@ fn jump_is_covered(subject: &Subject, next: &Next, told: &StepTold, coverer: &mu
     ensures exact { IsTrue result ↔ IsCoveredWay coverer.old (jump_way subject.now next.now) }
     ensures same { coverer.new ≡ coverer.old }
 {
-    let arrival = subject.arrival_at(
-        subject.proc_after(),
-        next.address,
-        &next.effect,
-        &next.moved,
-        told,
-    );
-    coverer.covers(&arrival, &subject.state_after(next))
+    if subject.restarts() {
+        jump_to_is_covered(subject, next, told, &restarted(&next.state), coverer)
+    } else {
+        jump_to_is_covered(subject, next, told, &next.state, coverer)
+    }
+}
+
+/// Whether a jump that arrives in this state is covered.
+fn jump_to_is_covered(
+    subject: &Subject,
+    next: &Next,
+    told: &StepTold,
+    state: &AbsState,
+    coverer: &mut Coverer,
+) -> bool
+    requires told { IsTold subject.now told.now }
+    requires state { state.now ≡ state_after subject.now next.now.state }
+    ensures exact { IsTrue result ↔ IsCoveredWay coverer.old (jump_way subject.now next.now) }
+    ensures same { coverer.new ≡ coverer.old }
+{
+    let proc = subject.proc_after();
+    let arrival = subject.arrival_at(proc, next.address, &next.effect, &next.moved, told);
+    coverer.covers(&arrival, state)
 }
 
 /// Whether a call enters its callee in a covered state.

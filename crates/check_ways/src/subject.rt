@@ -159,8 +159,9 @@ impl<'a> Subject<'a> {
         }
     }
 
-    /// The abstract step of the row's instruction.
-    fn plain_step(&self, alloc: Global, instr: &Instr) -> RowStep
+    /// The data writes of the row's instruction, and its successors or the reason, by the rules of versions 1 and 2. As
+    /// `row_step`, but nothing is moved.
+    pub fn plain_step(&self, alloc: Global, instr: &Instr) -> RowStep
         requires decoded { self.now.decoded ≡ Ok instr.now }
         ensures writes { result.writes.items ≡ writes_from self.now }
         ensures ok { IfOk result.answer (λ nexts. step_by Two self.now instr.now ≡ Ok nexts.items) }
@@ -248,8 +249,8 @@ impl<'a> Subject<'a> {
         }
     }
 
-    /// What is said of a way without conditions.
-    pub(crate) fn untold(&self) -> &StepTold
+    /// No linear effect and no conditions: those of a call and a return, and of each step before version 3.
+    pub fn untold(&self) -> &StepTold
         ensures { result.now ≡ untold }
     {
         &self.nothing
