@@ -148,7 +148,7 @@ pub(crate) fn closure_of(
     Ok(None)
 }
 
-/// The claim of the row before a step of which a wanted claim after it is made; None if it cannot be told.
+/// What a wanted claim after a step asks of the row before the step. None if this is not known.
 fn ground_before(
     alloc: Global,
     of: Followed,
@@ -213,7 +213,7 @@ fn nothing() -> PartGround {
     }
 }
 
-/// The claim of the row before a step of which a fact after it is made; None if it cannot be told.
+/// What a fact after a step asks of the row before the step. None if this is not known.
 fn fact_before(
     alloc: Global,
     of: Followed,

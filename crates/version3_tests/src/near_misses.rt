@@ -7,6 +7,7 @@ use crate::loops::{COUNTED_FILL, FILL, OBJECTS};
 use crate::timed::{COUNTED_DOWN, TENS};
 use crate::worked::Edit::{self, Code, Text};
 use crate::worked::Program;
+use command_samples::verify_whole;
 use std::alloc::Global;
 use std::test::Fail;
 
@@ -228,14 +229,9 @@ fn of_restarts_and_times(rt: HostRuntime) -> Result<(), Fail> {
 /// In a procedure with a time LD SP,4400h is no restart, though each of its rows pays for its step. It leads on in its
 /// procedure, which has no row there.
 #[test]
-fn of_a_timed_restart(rt: HostRuntime) -> Result<(), Fail> {
-    let timed = Program {
-        certificate: TIMED,
-        ..ABANDONED
-    };
-    let unchanged = Text("rom 19", "rom 19");
-    assert!(rt; timed.is_refused_after(rt.alloc(), unchanged, "refused 000D 12 NotCovered\n")?);
-    Ok(())
+fn of_a_timed_restart(rt: HostRuntime) {
+    let after = verify_whole(rt.alloc(), ABANDONED.main, TIMED);
+    assert!(rt; after.is(1, "refused 000D 12 NotCovered\n"));
 }
 
 #[test]
