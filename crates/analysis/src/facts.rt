@@ -2,7 +2,7 @@
 
 use abs_state::AbsState;
 use annotations::FactNote;
-use loop_bounds::{Linear, Variable};
+use cert_fields::stays_within;
 
 /// The facts at an address. The facts have to be sorted by address.
 pub fn facts_at(facts: &[FactNote], address: u16) -> &[FactNote] {
@@ -15,19 +15,11 @@ pub fn facts_at(facts: &[FactNote], address: u16) -> &[FactNote] {
     }
 }
 
-/// Whether each slot that a linear names has a number below `slots`.
-pub fn names_slots_below(linear: &Linear, slots: usize) -> bool {
-    linear.terms().iter().all(|term| match term.variable {
-        Variable::Slot(number, _) => usize::from(number.number()) < slots,
-        _ => true,
-    })
-}
-
 /// Tightens a state by facts, each once and in their order. A fact that names a slot which the state does not have is
 /// left out; the first fact that leaves nothing ends it.
 pub(crate) fn tighten_by(facts: &[FactNote], state: &mut AbsState) {
     for note in facts {
-        if names_slots_below(&note.fact, state.shape.len()) && !state.tighten(&note.fact) {
+        if stays_within(&note.fact, state.shape.len()) && !state.tighten(&note.fact) {
             return;
         }
     }

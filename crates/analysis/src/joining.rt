@@ -58,12 +58,8 @@ fn grown_shape(before: &Shape, joined: &Shape) -> Shape {
     let slots = before.slots();
     for place in 0..slots.len() {
         if let (Some(old), Some(new)) = (slots.get(place), joined.slots().get(place)) {
-            let _old = shape.replace(
-                place,
-                Slot {
-                    pair: grown_pair(old.pair, new.pair),
-                },
-            );
+            let pair = grown_pair(old.pair, new.pair);
+            let _old = shape.replace(place, Slot { pair });
         }
     }
     shape
@@ -129,12 +125,8 @@ fn widest_shape(shape: &Shape) -> Shape {
     let mut widest = shape.copied();
     for place in 0..shape.len() {
         if let Some(slot) = shape.slots().get(place) {
-            let _old = widest.replace(
-                place,
-                Slot {
-                    pair: widest_pair(slot.pair),
-                },
-            );
+            let pair = widest_pair(slot.pair);
+            let _old = widest.replace(place, Slot { pair });
         }
     }
     widest

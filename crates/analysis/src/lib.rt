@@ -12,11 +12,11 @@ mod reasons;
 mod task;
 mod ways;
 
-pub use facts::{facts_at, names_slots_below};
+pub use facts::facts_at;
 pub use fault::FlowFault;
 pub use flow::Flow;
 pub use joining::{joined, widest};
 pub use noted::Noted;
 pub use program_point::{MAIN, NMI, ProgramPoint, sub_of};
 pub use task::Task;
-pub use ways::{JudgedRow, judged_row, told_at};
+pub use ways::{JudgedRow, judged_row};

@@ -11,12 +11,8 @@ use abs_state::AbsState;
 use abs_step::{Nexts, Reason, RowStep, row_step};
 use board_fetch::fetch;
 use cert_lines::Version;
-use check_steps::StepTold;
-use flag_conditions::conditions;
 use flag_letters::FlagParts;
-use flag_parts::known_carry;
 use intervals::ByteRange;
-use linear_effects::linear_effect;
 use refined_step::{RefinedStep, refined_step};
 use smallvec::SmallVec;
 use std::alloc::Global;
@@ -65,7 +61,9 @@ pub fn judged_row(
     } = step_at(alloc, task, place, &instr, len, state, parts);
     match answer {
         Ok(nexts) => {
-            let reason = reason_of(task, place, timed, &instr, state, writes.as_slice(), &nexts);
+            let all = writes.as_slice();
+            let later = later_reason(task, place, timed, &instr, state, all, nexts.as_slice());
+            let reason = place_reason(task, place, state, all).or(later);
             JudgedRow {
                 writes,
                 nexts: Some(nexts),
@@ -140,43 +138,6 @@ fn step_at(
                 operand,
             }
         }
-    }
-}
-
-/// What the refined step of a row says beside its successors; nothing before version 3. `operand` is the range of the
-/// byte in work at the end of the row's instruction.
-pub fn told_at(
-    task: &Task,
-    address: u16,
-    operand: ByteRange,
-    state: &AbsState,
-    parts: &FlagParts,
-) -> StepTold {
-    match (task.version(), fetch(task.rom(), address)) {
-        (Version::Three, Ok((instr, _))) => {
-            let carry = known_carry(parts, state);
-            StepTold {
-                linear: linear_effect(&instr, &state.pairs, operand, carry),
-                conditions: conditions(&instr, operand, parts, carry),
-            }
-        }
-        _ => StepTold::none(),
-    }
-}
-
-/// The lowest reason that applies to a row with these writes and successors.
-fn reason_of(
-    task: &Task,
-    place: ProgramPoint,
-    timed: bool,
-    instr: &Instr,
-    state: &AbsState,
-    writes: &[DataWrite],
-    nexts: &Nexts,
-) -> Option<Reason> {
-    match place_reason(task, place, state, writes) {
-        Some(reason) => Some(reason),
-        None => later_reason(task, place, timed, instr, state, writes, nexts.as_slice()),
     }
 }
 

@@ -22,7 +22,7 @@ pub use facts::{Facts, facts_field};
 pub use flag::flag_fact_field;
 pub use linear::{linear_field, potential_field};
 pub use linear_spelling::{add_linear, add_potential};
-pub use linear_values::{is_linear, stays_within};
+pub use linear_values::{is_below, is_linear, stays_within};
 pub use list_spelling::{add_facts, add_flag_fact, add_mode, add_register, add_shape};
 pub use names::{mode_field, register_field};
 pub use pair::pair_field;

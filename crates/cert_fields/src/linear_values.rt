@@ -21,8 +21,8 @@ pub fn is_linear(linear: &Linear)
     }
 }
 
-/// Whether a variable is no slot, or one with a number below `slots`.
-fn is_below(variable: Variable, slots: usize) -> bool
+/// Whether a variable is no slot, or a slot with a number below `slots` (docs/CERTIFICATE.md, "Rows").
+pub fn is_below(variable: Variable, slots: usize) -> bool
     ensures { IsTrue result ↔ IsBelow slots variable }
 {
     u128::from(variable.rank()) < 12 + 3 * slots as u128

@@ -1,6 +1,7 @@
 // Rows.
 
 ghost use Rattle.std.specs.Prelude.{◌≡◌, ◌↔◌, IsTrue};
+ghost use Rattle.abs_state.specs.Covers.{OverlapsState};
 ghost use Rattle.abs_state.specs.declared.mode.Mode.TheVariants.{Unset};
 ghost use Rattle.cert_lines.specs.Row.{ArePairs, IsPlace, IsRow, place_of};
 ghost use Rattle.cert_lines.specs.Version.{flag_form};
@@ -175,5 +176,13 @@ impl<'a> RowRef<'a> {
             flag: self.flag,
             shape: self.shape.copied(),
         }
+    }
+
+    /// Whether the row's state overlaps another one: the shapes have one length, and in each pair and each slot the ranges
+    /// share a value (docs/CHECKER.md, "Paying"). States are large, so none is copied.
+    pub fn overlaps(&self, state: &AbsState) -> bool
+        ensures { IsTrue result ↔ OverlapsState self.now.state state.now }
+    {
+        self.pairs.overlaps(&state.pairs) && self.shape.overlaps(&state.shape)
     }
 }

@@ -4,9 +4,9 @@ use crate::calls::RankedDepth;
 use crate::fault::WriterFault;
 use crate::layout::Layout;
 use abs_state::FlagFact;
-use analysis::{Flow, Noted, ProgramPoint, Task, facts_at, names_slots_below};
+use analysis::{Flow, Noted, ProgramPoint, Task, facts_at};
 use annotations::{Annotations, FactNote};
-use cert_fields::Facts;
+use cert_fields::{Facts, stays_within};
 use cert_form::SPLIT_LIMIT;
 use certificate::{BoardMap, Proc, Row, Split, Version};
 use flag_letters::FlagParts;
@@ -76,7 +76,7 @@ pub(crate) fn facts_fit(said: &Annotations, flow: &Flow) -> bool {
 fn facts_of(notes: &[FactNote], shape: &Shape) -> Facts {
     let mut facts = Facts::none();
     for note in notes {
-        if names_slots_below(&note.fact, shape.len()) {
+        if stays_within(&note.fact, shape.len()) {
             let _room = facts.push(note.fact);
         }
     }

@@ -7,8 +7,6 @@ mod both_ways;
 #[cfg(test)]
 mod flag_fields;
 #[cfg(test)]
-mod made;
-#[cfg(test)]
 mod migrated;
 #[cfg(test)]
 mod programs;

@@ -82,13 +82,12 @@ const COUNTS: &[Case] = &[
     (UNSET, Same(",*", 64), " -\nend\n", Some(Line(6))),
     // The rest of the line has to be in form
     (SLOTS, Same(",*", 64), " +1\nend\n", Some(Line(6))),
-    // Facts and terms
+    // Facts and terms; the size of a number is no count
     (ROW, NONE, "- 1+1*A,2,3,4 - -\nend\n", None),
     (ROW, NONE, "- 1+1*A,2,3,4,5 - -\nend\n", Some(Limit)),
     (ROW, NONE, "- - - 1+1*A+1*B+1*C\nend\n", None),
     (ROW, NONE, "- - - 1+1*A+1*B+1*C+1*D\nend\n", Some(Limit)),
     (ROW, NONE, "- - - 1+1*A+1*B+1*C+1*C\nend\n", Some(Line(6))),
-    // The size of a number is no count
     (ROW, NONE, "- - - 1000000000+1000000*A\nend\n", None),
     (ROW, NONE, "- - - 1000000001\nend\n", Some(Line(6))),
     (ROW, NONE, "- - - 0+1000001*A\nend\n", Some(Line(6))),

@@ -27,7 +27,8 @@ use Rattle.cert_form.specs.Contents.{CertificateView}
 use Rattle.cert_lines.specs.declared.version.Version.{Version}
 use Rattle.cert_lines.specs.declared.version.Version.TheVariants.{One, Two, Three}
 use Rattle.cert_form.specs.Form.{IsInForm}
-use Rattle.check_steps.specs.Told.{refinement_by, untold}
+use Rattle.check_steps.specs.Told.{refinement_by}
+use Rattle.refined_step.specs.Told.{untold}
 use Rattle.check_ways.specs.Ways.{SubjectView, arrival_at_entry as entry_arrival}
 use Rattle.check_laws.specs.Comes.{CameBy, CameRefinedIfSome, Comes, Steps, entered}
 use Rattle.check_laws.specs.RowHolds.{IsHeld}

@@ -2,6 +2,7 @@
 
 ghost use Rattle.std.specs.Prelude.{◌≡◌, OnOk, IfOk, IfErr, Ok, Err};
 ghost use Rattle.check_rules.specs.Table.{IsConsistent, IsLowest, PassesBelow, TellsLowest};
+ghost use Rattle.cert_lines.specs.declared.version.Version.TheVariants.{Three};
 ghost use Rattle.check_ways.specs.Ways.{IsTold, step_of, writes_from};
 
 use crate::instructions::{check_instruction, is_timed};
@@ -12,9 +13,10 @@ use abs_draft::DataWrite;
 use abs_step::{Next, Nexts, Reason};
 use cert_lines::Version;
 use check_cover::Coverer;
-use check_steps::StepTold;
 use check_ways::{Subject, goes_on, pays};
+use refined_step::StepTold;
 use std::alloc::Global;
+use z80_decode::Instr;
 
 /// Judges a row by the table of reasons (docs/CHECKER.md, "The table of reasons"). The coverer searches the rows of the
 /// same certificate. No memory is taken.
@@ -41,14 +43,38 @@ pub fn check_row(alloc: Global, subject: &Subject, coverer: &mut Coverer) -> Res
                     coverer,
                 )
             }
-            Version::Three => check_any(alloc, subject, coverer),
+            Version::Three => check_refined(alloc, subject, instr, coverer),
         },
-        Err(_) => check_any(alloc, subject, coverer),
+        Err(_) => check_undecoded(alloc, subject, coverer),
     }
 }
 
-/// Judges a row of any version.
-fn check_any(alloc: Global, subject: &Subject, coverer: &mut Coverer) -> Result<(), Reason>
+/// Judges a row of version 3. Its step is large: in `check_row` itself, rows of all versions would take room for it.
+fn check_refined(
+    alloc: Global,
+    subject: &Subject,
+    instr: &Instr,
+    coverer: &mut Coverer,
+) -> Result<(), Reason>
+    requires decoded { subject.now.decoded ≡ Ok instr.now }
+    requires version { subject.now.cert.version ≡ Three }
+    requires coverer { coverer.old ≡ subject.now.cert }
+    ensures ok { OnOk result (IsConsistent subject.now) }
+    ensures err { IfErr result (λ reason. IsLowest subject.now reason) }
+    ensures same { coverer.new ≡ coverer.old }
+{
+    let step = subject.refined_step(alloc, instr);
+    check_step(
+        subject,
+        step.writes.as_slice(),
+        &step.answer,
+        &step.told,
+        coverer,
+    )
+}
+
+/// Judges any row. `check_row` needs it only where no instruction is decoded.
+fn check_undecoded(alloc: Global, subject: &Subject, coverer: &mut Coverer) -> Result<(), Reason>
     requires { coverer.old ≡ subject.now.cert }
     ensures ok { OnOk result (IsConsistent subject.now) }
     ensures err { IfErr result (λ reason. IsLowest subject.now reason) }

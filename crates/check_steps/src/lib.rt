@@ -1,4 +1,4 @@
-// What comes with a step of a row: what the refined step says beside its answer, the effect back from a call, and
+// What comes with a step of a row: what the refined step adds to an arrival, the effect back from a call, and
 // restarts (docs/CHECKER.md, "Successors, calls and exits" and "Restarts").
 #![tactic(auto)]
 
@@ -8,4 +8,4 @@ mod told;
 
 pub use restarts::{restarted, restarts_by};
 pub use returned::{effect_back, effect_of_call};
-pub use told::{StepTold, refinement};
+pub use told::refinement;

@@ -13,7 +13,7 @@ use address_map::{Map, Rom};
 use cert_contents::{Certificate, RowId};
 use cert_lines::RowRef;
 use check_cover::{Callee, callee_at};
-use check_ways::{Subject, is_lone, may_have_exit, overlaps_state};
+use check_ways::{Subject, is_lone, may_have_exit};
 use std::alloc::Global;
 
 /// The greater of two numbers, or the only one.
@@ -84,8 +84,7 @@ fn jump_lands(subject: &Subject, next: &Next, target: &RowRef) -> bool
     if next.address != target.address || subject.row.proc != target.proc {
         return false;
     }
-    overlaps_state(target, &next.state)
-        || is_lone(subject.certificate, subject.row.proc, next.address)
+    target.overlaps(&next.state) || is_lone(subject.certificate, subject.row.proc, next.address)
 }
 
 /// The T-states between two rows by one successor; None if it does not lead there. The first is no restart.

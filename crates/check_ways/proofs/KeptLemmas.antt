@@ -19,7 +19,8 @@ use Rattle.cert_form.specs.Form.{IsInForm}
 use Rattle.check_ways.proofs.ReturnLemmas.{left_in_form, numbered_tells}
 use Rattle.check_ways.specs.Parts.{AnyExit, IsExitAt, OnEachExit, OnEachLeft, OnSomeExit}
 use Rattle.check_steps.specs.Returned.{effect_back}
-use Rattle.check_steps.specs.Told.{refinement_by, untold}
+use Rattle.check_steps.specs.Told.{refinement_by}
+use Rattle.refined_step.specs.Told.{untold}
 use Rattle.check_ways.specs.Ways.{SubjectView, IsExit, WayView, behind_of, call_cost, return_way}
 use Rattle.check_tables.specs.Lefts.{AreLeft, IsLeft, left_of, mode_number, numbered_mode, state_of}
 use Rattle.check_tables.specs.Tables.{AreExits, ProcExitsView}

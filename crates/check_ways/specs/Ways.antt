@@ -22,10 +22,11 @@ use Rattle.cert_form.specs.Contents.{CertificateView}
 use Rattle.z80_decode.specs.Spelling.{spelling}
 use Rattle.z80_decode.specs.declared.fault.DecodeFault.{DecodeFault}
 use Rattle.z80_decode.specs.declared.instr.Instr.{Instr}
-use Rattle.refined_step.specs.Refined.{refined_answer, step_conditions, step_effect}
+use Rattle.refined_step.specs.Refined.{refined_answer, step_told}
+use Rattle.refined_step.specs.Told.{StepToldView, untold}
 use Rattle.check_steps.specs.Restarts.{restarted, restarts_by}
 use Rattle.check_steps.specs.Returned.{effect_back}
-use Rattle.check_steps.specs.Told.{StepToldView, refinement_by, untold}
+use Rattle.check_steps.specs.Told.{refinement_by}
 
 -- ---- rows
 
@@ -68,10 +69,8 @@ step_of s = step_for s s.decoded
 
 -- what the refined step says of what is decoded at a row
 abbrev pub told_of : SubjectView → Result Instr DecodeFault → StepToldView
-told_of s (Ok instr) = record {
-  linear = step_effect (ground_for s.rom s.cert) s.row.address (is_inline s.cert s.row.address) instr s.row.parts s.row.state;
-  conditions = step_conditions (ground_for s.rom s.cert) s.row.address (is_inline s.cert s.row.address) instr s.row.parts s.row.state;
-}
+told_of s (Ok instr) =
+    step_told (ground_for s.rom s.cert) s.row.address (is_inline s.cert s.row.address) instr s.row.parts s.row.state
 told_of s (Err fault) = untold
 
 -- this is what the step says of the row; before version 3 anything is

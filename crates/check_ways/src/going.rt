@@ -14,8 +14,9 @@ use abs_state::AbsState;
 use abs_step::{Next, NextKind};
 use cert_contents::RowId;
 use check_cover::{Callee, Coverer, callee_at};
-use check_steps::{StepTold, effect_back, restarted};
+use check_steps::{effect_back, restarted};
 use check_tables::{Left, ProcExits};
+use refined_step::StepTold;
 
 /// Whether a jump arrives in a covered state.
 fn jump_is_covered(subject: &Subject, next: &Next, told: &StepTold, coverer: &mut Coverer) -> bool
@@ -127,8 +128,7 @@ fn returns_are_covered(
     }
 }
 
-/// Whether the state after the call from the join of the callee's exits is covered plainly. False where tables have no
-/// such join.
+/// Whether the state after the call from the join of the callee's exits is covered plainly. False without such a join.
 fn wide_is_covered(subject: &Subject, next: &Next, exits: &ProcExits, coverer: &mut Coverer) -> bool
     ensures found { IsTrue result
         → IfSome exits.now.wide (WideCovered coverer.old subject.now next.now) }

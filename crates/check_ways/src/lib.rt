@@ -3,7 +3,7 @@
 
 mod exits;
 mod going;
-mod overlapping;
+mod only_row;
 mod paying;
 mod restarting;
 mod subject;
@@ -11,7 +11,7 @@ mod ways;
 
 pub use exits::may_have_exit;
 pub use going::goes_on;
-pub use overlapping::{is_lone, overlaps_state};
-pub use paying::{cost_before, pays};
+pub use only_row::is_lone;
+pub use paying::{constant_sum, cost_before, pays, potential_of};
 pub use subject::{Subject, SubjectStep};
 pub use ways::Way;

@@ -8,7 +8,7 @@ ghost use Rattle.check_ways.specs.Parts.{AtEachExit, CallPays, NextPays, AreNumb
 ghost use Rattle.check_ways.specs.Pays.{IsLone, IsWithinTime, Pays, PaysCall, PaysOut, PaysTo, constant_sum, cost_before, potential_of};
 ghost use Rattle.check_ways.specs.Ways.{IsTold, behind_of, step_of};
 
-use crate::overlapping::is_lone;
+use crate::only_row::is_lone;
 use crate::subject::Subject;
 use crate::ways::Way;
 use abs_step::{Next, NextKind};
@@ -17,13 +17,13 @@ use cert_contents::RowId;
 use cert_lines::{ProcKind, RowRef, Version};
 use check_cover::{Callee, callee_at};
 use check_payments::pays_either_way;
-use check_steps::StepTold;
 use check_tables::Left;
 use loop_bounds::{Effect, Linear, decreases};
+use refined_step::StepTold;
 use t_states::NMI_COST;
 
-/// A row's potential. A row without one counts as 0 for the others.
-fn potential_of(row: &RowRef) -> Linear
+/// A row's potential, in T-states. A row without one counts as 0 for the others (docs/CHECKER.md, "Paying").
+pub fn potential_of(row: &RowRef) -> Linear
     ensures { result ≡ potential_of row.now }
 {
     match row.potential {
@@ -273,8 +273,8 @@ pub fn cost_before(kind: ProcKind) -> u32
     }
 }
 
-/// T-states as a linear.
-fn linear_of(time: u32) -> Linear
+/// A number of T-states as a linear.
+pub fn constant_sum(time: u32) -> Linear
     requires { time ≤ 1000000000 }
     ensures { result ≡ constant_sum time }
 {
@@ -288,7 +288,7 @@ fn linear_of(time: u32) -> Linear
 fn is_within_time(subject: &Subject) -> bool
     ensures { IsTrue result ↔ IsWithinTime subject.now.proc subject.now.row }
 {
-    let left = linear_of(subject.time());
+    let left = constant_sum(subject.time());
     let to = potential_of(&subject.row);
     let before = cost_before(subject.proc.kind);
     let state = &subject.state;

@@ -6,7 +6,8 @@ ghost use Rattle.cert_form.specs.Contents.{map_of_board};
 ghost use Rattle.board_fetch.specs.Decoded.{StandsAt};
 ghost use Rattle.check_ways.specs.Parts.{IsTopOf};
 ghost use Rattle.z80_decode.specs.Spelling.{spelling};
-ghost use Rattle.check_steps.specs.Told.{refinement_by, untold};
+ghost use Rattle.check_steps.specs.Told.{refinement_by};
+ghost use Rattle.refined_step.specs.Told.{untold};
 ghost use Rattle.check_ways.specs.Ways.{IsSubject, IsTold, behind_of, step_by, step_of, told_of, writes_from};
 
 use abs_draft::{DataWrite, Ground};
@@ -18,10 +19,10 @@ use call_graph::ProcId;
 use cert_contents::{Certificate, RowId};
 use cert_lines::{Proc, RowRef, Version};
 use check_cover::{Arrival, is_inline};
-use check_steps::{StepTold, refinement};
+use check_steps::refinement;
 use check_tables::Tables;
 use loop_bounds::{Effect, Linear};
-use refined_step::{RefinedStep, refined_step};
+use refined_step::{RefinedStep, StepTold, refined_step};
 use smallvec::SmallVec;
 use std::alloc::Global;
 use std::marker::Model;
@@ -63,7 +64,7 @@ impl<'a> Model for Subject<'a> {
     ghost use Rattle.std.specs.Prelude.{◌≡◌, IfOk, IfSome, length};
     ghost use Rattle.z80_decode.specs.Spelling.{spelling};
     ghost use Rattle.cert_form.specs.Contents.{map_of_board};
-    ghost use Rattle.check_steps.specs.Told.{untold};
+    ghost use Rattle.refined_step.specs.Told.{untold};
     ghost use Rattle.check_ways.specs.Ways.{SubjectView, IsSubject, behind_of};
 
     ghost Value = { SubjectView };
@@ -79,8 +80,7 @@ impl<'a> Model for Subject<'a> {
 }
 
 impl<'a> Subject<'a> {
-    /// The row with this number; None if there is none. The map has to be that of the certificate, for a ROM of this
-    /// length.
+    /// The row with this number; None if there is none. The map has to be the certificate's, for a ROM of this length.
     pub fn of(
         rom: &'a Rom<'a>,
         map: &'a Map,
@@ -181,14 +181,13 @@ impl<'a> Subject<'a> {
         )
     }
 
-    /// The refined step of the row's instruction.
-    fn refined_step(&self, alloc: Global, instr: &Instr) -> RefinedStep
+    /// The same by the rules of version 3, with what the step says beside.
+    pub fn refined_step(&self, alloc: Global, instr: &Instr) -> RefinedStep
         requires decoded { self.now.decoded ≡ Ok instr.now }
         ensures writes { result.writes.items ≡ writes_from self.now }
         ensures ok { IfOk result.answer (λ nexts. step_by Three self.now instr.now ≡ Ok nexts.items) }
         ensures err { IfErr result.answer (λ reason. step_by Three self.now instr.now ≡ Err reason) }
-        ensures linear { result.linear ≡ (told_of self.now (Ok instr.now)).linear }
-        ensures conditions { result.conditions ≡ (told_of self.now (Ok instr.now)).conditions }
+        ensures told { result.told ≡ told_of self.now (Ok instr.now) }
     {
         // By the form, there are at most 256 cells.
         self.certificate.is_in_form();
@@ -275,19 +274,18 @@ fn plain(step: RowStep) -> SubjectStep
 fn refined(step: RefinedStep) -> SubjectStep
     ensures writes { result.writes ≡ step.writes }
     ensures answer { result.answer ≡ step.answer }
-    ensures told { result.told ≡ record { linear = step.linear; conditions = step.conditions } }
+    ensures told { result.told ≡ step.told }
 {
     let RefinedStep {
         writes,
         answer,
-        conditions,
-        linear,
+        told,
         ..
     } = step;
     SubjectStep {
         writes,
         answer,
-        told: StepTold { linear, conditions },
+        told,
     }
 }
 

@@ -7,7 +7,7 @@ ghost use Rattle.cert_lines.specs.declared.row.Row.{Row};
 ghost use Rattle.check_ways.specs.Pays.{Lands};
 ghost use Rattle.check_ways.specs.Ways.{IsTold, call_cost, jump_way, return_way};
 
-use crate::overlapping::{is_lone, overlaps_state};
+use crate::only_row::is_lone;
 use crate::subject::Subject;
 use abs_draft::settled;
 use abs_state::AbsState;
@@ -16,8 +16,9 @@ use call_graph::ProcId;
 use cert_contents::{Certificate, RowId};
 use cert_lines::{RowRef, Version};
 use check_cover::Callee;
-use check_steps::{StepTold, effect_back};
+use check_steps::effect_back;
 use loop_bounds::{Effect, Linear};
+use refined_step::StepTold;
 use std::marker::Model;
 use std::ops::Range;
 
@@ -127,7 +128,7 @@ impl<'a> Way<'a> {
     pub(crate) fn asks(&self, lone: bool, row: &RowRef) -> bool
         ensures { IsTrue result ↔ (IsTrue lone ⊎ OverlapsState row.now.state self.now.state) }
     {
-        lone || overlaps_state(row, &self.state)
+        lone || row.overlaps(&self.state)
     }
 
     /// Whether the way arrives at this row of the certificate, and the row is asked.

@@ -13,9 +13,40 @@ use crate::options::{
 use clap::{Arg, ArgAction, Command};
 use std::alloc::{AllocError, Global};
 
+/// The commands.
+#[derive(Clone, Copy)]
+enum Name {
+    Check,
+    Suggest,
+    Explain,
+    Verify,
+    Run,
+    List,
+    Longest,
+    Report,
+    Diff,
+    Migrate,
+    Help,
+}
+
+/// In the order of the help: what judges a program and plays it, what shows an accepted program, and the others.
+const NAMES: &[Name] = &[
+    Name::Check,
+    Name::Suggest,
+    Name::Explain,
+    Name::Verify,
+    Name::Run,
+    Name::List,
+    Name::Longest,
+    Name::Report,
+    Name::Diff,
+    Name::Migrate,
+    Name::Help,
+];
+
 /// The command line (docs/PROGRAM.md). The error is refused memory.
 pub fn command_line<'a>(alloc: Global) -> Result<Command<'a>, AllocError> {
-    let line = Command::new(alloc, "galcert")
+    let mut line = Command::new(alloc, "galcert")
         .about("Verifies Z80 program ROMs of the Galaxian arcade board")
         .long_about(GALCERT)
         .after_long_help(STATUSES)
@@ -24,159 +55,183 @@ pub fn command_line<'a>(alloc: Global) -> Result<Command<'a>, AllocError> {
         .subcommand_required(true)
         .disable_help_subcommand(true)
         .arg(color_option(alloc))?;
-    with_others(alloc, with_views(alloc, with_judging(alloc, line)?)?)
+    for name in NAMES {
+        line = line.subcommand(command_of(alloc, *name)?)?;
+    }
+    Ok(line)
 }
 
-/// Adds the commands that judge a program, and play it.
-fn with_judging<'a>(alloc: Global, line: Command<'a>) -> Result<Command<'a>, AllocError> {
-    line.subcommand(check_command(alloc)?)?
-        .subcommand(suggest_command(alloc)?)?
-        .subcommand(explain_command(alloc)?)?
-        .subcommand(verify_command(alloc)?)?
-        .subcommand(run_command(alloc)?)
-}
-
-/// Adds the commands that show an accepted program.
-fn with_views<'a>(alloc: Global, line: Command<'a>) -> Result<Command<'a>, AllocError> {
-    line.subcommand(list_command(alloc)?)?
-        .subcommand(longest_command(alloc)?)?
-        .subcommand(report_command(alloc)?)?
-        .subcommand(diff_command(alloc)?)
-}
-
-/// Adds the other commands.
-fn with_others<'a>(alloc: Global, line: Command<'a>) -> Result<Command<'a>, AllocError> {
-    line.subcommand(migrate_command(alloc)?)?
-        .subcommand(help_command(alloc)?)
+fn command_of<'a>(alloc: Global, name: Name) -> Result<Command<'a>, AllocError> {
+    match name {
+        Name::Check => check_command(alloc),
+        Name::Suggest => suggest_command(alloc),
+        Name::Explain => explain_command(alloc),
+        Name::Verify => verify_command(alloc),
+        Name::Run => run_command(alloc),
+        Name::List => list_command(alloc),
+        Name::Longest => longest_command(alloc),
+        Name::Report => report_command(alloc),
+        Name::Diff => diff_command(alloc),
+        Name::Migrate => migrate_command(alloc),
+        Name::Help => help_command(alloc),
+    }
 }
 
 fn check_command<'a>(alloc: Global) -> Result<Command<'a>, AllocError> {
+    let kept = cert_option(alloc)?;
+    let args = vec![in alloc;
+        rom(alloc),
+        annot(alloc),
+        infer_option(alloc),
+        trials_option(alloc),
+        version_at_most_option(alloc),
+        kept,
+        symbols_option(alloc),
+        listing_option(alloc),
+        unneeded_option(alloc),
+        max_stack_option(alloc),
+        max_nmi_option(alloc),
+        quiet_option(alloc),
+        json_option(alloc),
+    ]?;
     command(alloc, "check", CHECK)
         .about("Makes a certificate for a ROM, and prints the table or the refusal")
-        .arg(rom(alloc))?
-        .arg(annot(alloc))?
-        .arg(infer_option(alloc))?
-        .arg(trials_option(alloc))?
-        .arg(version_at_most_option(alloc))?
-        .arg(cert_option(alloc)?)?
-        .arg(symbols_option(alloc))?
-        .arg(listing_option(alloc))?
-        .arg(unneeded_option(alloc))?
-        .arg(max_stack_option(alloc))?
-        .arg(max_nmi_option(alloc))?
-        .arg(quiet_option(alloc))?
-        .arg(json_option(alloc))
+        .args(args)
 }
 
 fn suggest_command<'a>(alloc: Global) -> Result<Command<'a>, AllocError> {
+    let args = vec![in alloc;
+        rom(alloc),
+        annot(alloc),
+        trials_option(alloc),
+        output_option(alloc),
+        symbols_option(alloc),
+        listing_option(alloc),
+        quiet_option(alloc),
+        json_option(alloc),
+    ]?;
     command(alloc, "suggest", SUGGEST)
         .about("Finds annotations for a ROM, and prints them as a file")
-        .arg(rom(alloc))?
-        .arg(annot(alloc))?
-        .arg(trials_option(alloc))?
-        .arg(output_option(alloc))?
-        .arg(symbols_option(alloc))?
-        .arg(listing_option(alloc))?
-        .arg(quiet_option(alloc))?
-        .arg(json_option(alloc))
+        .args(args)
 }
 
 fn verify_command<'a>(alloc: Global) -> Result<Command<'a>, AllocError> {
+    let args = vec![in alloc;
+        rom(alloc),
+        cert(alloc),
+        symbols_option(alloc),
+        listing_option(alloc),
+        max_stack_option(alloc),
+        max_nmi_option(alloc),
+        quiet_option(alloc),
+        json_option(alloc),
+    ]?;
     command(alloc, "verify", VERIFY)
         .about("Checks a certificate for a ROM, and prints the table or the refusal")
-        .arg(rom(alloc))?
-        .arg(cert(alloc))?
-        .arg(symbols_option(alloc))?
-        .arg(listing_option(alloc))?
-        .arg(max_stack_option(alloc))?
-        .arg(max_nmi_option(alloc))?
-        .arg(quiet_option(alloc))?
-        .arg(json_option(alloc))
+        .args(args)
 }
 
 fn run_command<'a>(alloc: Global) -> Result<Command<'a>, AllocError> {
-    command(alloc, "run", RUN)
-        .about("Checks, then plays an input for at most STEPS events")
-        .arg(rom(alloc))?
-        .arg(cert(alloc))?
-        .arg(file(
+    let args = vec![in alloc;
+        rom(alloc),
+        cert(alloc),
+        file(
             alloc,
             "INPUT",
             "The input: a reset and the environments of events",
-        ))?
-        .arg(file(
+        ),
+        file(
             alloc,
             "STEPS",
             "The most events that are played, a decimal of at most 4294967295",
-        ))?
-        .arg(symbols_option(alloc))?
-        .arg(listing_option(alloc))?
-        .arg(trace_option(alloc))?
-        .arg(until_nmi_option(alloc))?
-        .arg(dump_option(alloc))?
-        .arg(json_option(alloc))
+        ),
+        symbols_option(alloc),
+        listing_option(alloc),
+        trace_option(alloc),
+        until_nmi_option(alloc),
+        dump_option(alloc),
+        json_option(alloc),
+    ]?;
+    command(alloc, "run", RUN)
+        .about("Checks, then plays an input for at most STEPS events")
+        .args(args)
 }
 
 fn migrate_command<'a>(alloc: Global) -> Result<Command<'a>, AllocError> {
+    let args = vec![in alloc; cert(alloc), to_option(alloc)]?;
     command(alloc, "migrate", MIGRATE)
         .about("Prints a certificate in version 2 or 3")
-        .arg(cert(alloc))?
-        .arg(to_option(alloc))
+        .args(args)
 }
 
 fn explain_command<'a>(alloc: Global) -> Result<Command<'a>, AllocError> {
+    let args = vec![in alloc;
+        rom(alloc),
+        second(alloc),
+        infer_option(alloc),
+        trials_option(alloc),
+        max_option(alloc),
+        symbols_option(alloc),
+        listing_option(alloc),
+        json_option(alloc),
+    ]?;
     command(alloc, "explain", EXPLAIN)
         .about(
             "Says why a ROM is refused and what helps; with a number for ROM, what that reason means",
         )
-        .arg(rom(alloc))?
-        .arg(second(alloc))?
-        .arg(infer_option(alloc))?
-        .arg(trials_option(alloc))?
-        .arg(max_option(alloc))?
-        .arg(symbols_option(alloc))?
-        .arg(listing_option(alloc))?
-        .arg(json_option(alloc))
+        .args(args)
 }
 
 fn list_command<'a>(alloc: Global) -> Result<Command<'a>, AllocError> {
+    let args = vec![in alloc;
+        rom(alloc),
+        cert(alloc),
+        symbols_option(alloc),
+        listing_option(alloc),
+        json_option(alloc),
+    ]?;
     command(alloc, "list", LIST)
         .about("Checks, then prints a listing with what the certificate says of each instruction")
-        .arg(rom(alloc))?
-        .arg(cert(alloc))?
-        .arg(symbols_option(alloc))?
-        .arg(listing_option(alloc))?
-        .arg(json_option(alloc))
+        .args(args)
 }
 
 fn longest_command<'a>(alloc: Global) -> Result<Command<'a>, AllocError> {
+    let args = vec![in alloc;
+        rom(alloc),
+        cert(alloc),
+        entry(alloc),
+        rows_option(alloc),
+        symbols_option(alloc),
+        listing_option(alloc),
+        json_option(alloc),
+    ]?;
     command(alloc, "longest", LONGEST)
         .about("Checks, then prints where the T-states of a procedure go")
-        .arg(rom(alloc))?
-        .arg(cert(alloc))?
-        .arg(entry(alloc))?
-        .arg(rows_option(alloc))?
-        .arg(symbols_option(alloc))?
-        .arg(listing_option(alloc))?
-        .arg(json_option(alloc))
+        .args(args)
 }
 
 fn report_command<'a>(alloc: Global) -> Result<Command<'a>, AllocError> {
+    let args = vec![in alloc;
+        rom(alloc),
+        cert(alloc),
+        symbols_option(alloc),
+        listing_option(alloc),
+    ]?;
     command(alloc, "report", REPORT)
         .about("Checks, then prints a report as a page of HTML")
-        .arg(rom(alloc))?
-        .arg(cert(alloc))?
-        .arg(symbols_option(alloc))?
-        .arg(listing_option(alloc))
+        .args(args)
 }
 
 fn diff_command<'a>(alloc: Global) -> Result<Command<'a>, AllocError> {
+    let args = vec![in alloc;
+        file(alloc, "OLD", "The old certificate, a text"),
+        file(alloc, "NEW", "The new certificate, a text"),
+        old_symbols_option(alloc),
+        symbols_option(alloc),
+    ]?;
     command(alloc, "diff", DIFF)
         .about("Prints the tables of two certificates side by side")
-        .arg(file(alloc, "OLD", "The old certificate, a text"))?
-        .arg(file(alloc, "NEW", "The new certificate, a text"))?
-        .arg(old_symbols_option(alloc))?
-        .arg(symbols_option(alloc))
+        .args(args)
 }
 
 fn help_command<'a>(alloc: Global) -> Result<Command<'a>, AllocError> {

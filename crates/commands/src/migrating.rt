@@ -7,7 +7,7 @@ ghost use Rattle.command_parts.specs.Status.{IsStatus};
 ghost use Rattle.texts.specs.Device.{FailsAmid, HasFailed, CountsNoFailure, Takes};
 
 use certificate::{Version, migrate_to, write};
-use command_parts::{ExitStatus, Stop, read_certificate};
+use command_parts::{ExitStatus, read_certificate};
 use std::alloc::Global;
 use texts::{DeviceFault, Sink, Source};
 

@@ -215,8 +215,8 @@ fn has(
         return Ok(false);
     };
     Ok(
-        parts_text(alloc, step.conditions.before())?.as_str() == before
-            && parts_text(alloc, step.conditions.after())?.as_str() == after,
+        parts_text(alloc, step.told.conditions.before())?.as_str() == before
+            && parts_text(alloc, step.told.conditions.after())?.as_str() == after,
     )
 }
 

@@ -198,7 +198,7 @@ fn effect_text(
     let Some(step) = refined(alloc, rom, state, &telling(carry)) else {
         return String::from_str(alloc, "no step");
     };
-    match &step.linear {
+    match &step.told.linear {
         Some(effect) => linear_text(alloc, effect.variable, &effect.linear),
         None => String::from_str(alloc, "-"),
     }

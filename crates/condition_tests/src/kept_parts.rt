@@ -141,7 +141,7 @@ fn turns(alloc: Global) -> Result<bool, AllocError> {
     let Some(step) = refined(alloc, &[0x3F, 0], &with_a(0, 255), &row) else {
         return Ok(false);
     };
-    let text = parts_text(alloc, step.conditions.before())?;
+    let text = parts_text(alloc, step.told.conditions.before())?;
     Ok(text.as_str() == "c63-1*L,s7+1*IY,c0,c999999999")
 }
 
@@ -154,7 +154,7 @@ fn ccf_turns_each_part_of_c(rt: HostRuntime) -> Result<(), Fail> {
 /// Parts of a row in which A is from 10 to 20, and what ADC A,B says of C then.
 fn sums_with(alloc: Global, row: &FlagParts) -> Result<String, AllocError> {
     match refined(alloc, &[0x88, 0], &with_a(10, 20), row) {
-        Some(step) => parts_text(alloc, step.conditions.before()),
+        Some(step) => parts_text(alloc, step.told.conditions.before()),
         None => String::from_str(alloc, "no step"),
     }
 }

@@ -14,7 +14,7 @@ use cert_contents::{Certificate, RowId};
 use cert_lines::RowRef;
 use check_cover::{Callee, callee_at};
 use check_walks::cost_between;
-use check_ways::{Subject, is_lone, overlaps_state};
+use check_ways::{Subject, is_lone};
 use std::alloc::Global;
 
 /// The state in which the row `from` leads to the row `to`, by the first of its dearest ways; None if it does not lead
@@ -103,8 +103,7 @@ fn jump_lands(subject: &Subject, next: &Next, target: &RowRef) -> bool
     if next.address != target.address || subject.row.proc != target.proc {
         return false;
     }
-    overlaps_state(target, &next.state)
-        || is_lone(subject.certificate, subject.row.proc, next.address)
+    target.overlaps(&next.state) || is_lone(subject.certificate, subject.row.proc, next.address)
 }
 
 /// The state in which a call comes back to a row, from the first exit of its callee from which it does.

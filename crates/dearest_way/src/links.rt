@@ -4,7 +4,7 @@ ghost use Rattle.std.specs.Prelude.{◌≡◌, length};
 ghost use Rattle.cert_form.specs.Contents.{map_of_board};
 
 use crate::entered::Entered;
-use crate::worth::{greatest, potential_of};
+use crate::worth::greatest;
 use abs_state::AbsState;
 use abs_step::{Next, NextKind};
 use address_map::{Map, Rom};
@@ -12,7 +12,7 @@ use call_graph::ProcId;
 use cert_contents::{Certificate, RowId};
 use check_cover::callee_at;
 use check_walks::cost_of_leaving;
-use check_ways::{Subject, is_lone, overlaps_state};
+use check_ways::{Subject, is_lone, potential_of};
 use loop_bounds::Effect;
 use std::alloc::{AllocError, Global};
 use write_requests::{Request, Requests};
@@ -146,7 +146,7 @@ impl Links {
         let lone = is_lone(certificate, subject.row.proc, address);
         for id in rows.start..rows.end {
             if let Some(row) = certificate.row(id) {
-                if lone || overlaps_state(&row, state) {
+                if lone || row.overlaps(state) {
                     let own = row.state();
                     let entered = Entered {
                         own: &own,

@@ -7,10 +7,11 @@ ghost use Rattle.dearest_way.specs.Worth.{IsWorth};
 use crate::arrivals::arriving_from;
 use crate::entered::Entered;
 use crate::fault::WayFault;
-use crate::worth::{Worth, potential_of, worth_in};
+use crate::worth::{Worth, worth_in};
 use address_map::Rom;
 use cert_contents::{Certificate, RowId};
 use check_walks::{compared, exit_cost};
+use check_ways::potential_of;
 use std::alloc::Global;
 
 /// The most turns of a loop, and the T-states that its potential has for each turn. The potential has one variable, the

@@ -6,10 +6,11 @@ use crate::entered::Entered;
 use crate::links::links_of;
 use crate::parts::UntimedPart;
 use crate::values::Values;
-use crate::worth::{greatest, potential_of};
+use crate::worth::greatest;
 use address_map::Rom;
 use call_graph::ProcId;
 use cert_contents::{Certificate, RowId};
+use check_ways::potential_of;
 use std::alloc::{AllocError, Global};
 
 /// A way as it was found: its stages, and the rows of its loops in their order.

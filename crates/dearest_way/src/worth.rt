@@ -1,12 +1,12 @@
 // What a potential comes to where a loop is entered.
 
 ghost use Rattle.std.specs.Prelude.{◌≡◌, ◌≤◌, ◌↔◌, IfSome, IsTrue};
-ghost use Rattle.check_ways.specs.Pays.{constant_sum, potential_of};
+ghost use Rattle.check_ways.specs.Pays.{constant_sum};
 ghost use Rattle.dearest_way.specs.Worth.{AreTurns, IsBound, IsLeast, IsMost, box_at};
 
 use crate::entered::Entered;
 use crate::parts::LoopTurns;
-use cert_lines::RowRef;
+use check_ways::constant_sum;
 use loop_bounds::{Effect, GREATEST_CONSTANT, Linear, Ranges, decreases};
 
 /// What a potential comes to: the most T-states, and the turns of a loop that they pay for.
@@ -14,16 +14,6 @@ use loop_bounds::{Effect, GREATEST_CONSTANT, Linear, Ranges, decreases};
 pub(crate) struct Worth {
     pub(crate) most: u32,
     pub(crate) turns: Option<LoopTurns>,
-}
-
-/// A row's potential; zero where it has none.
-pub(crate) fn potential_of(row: &RowRef) -> Linear
-    ensures { result ≡ potential_of row.now }
-{
-    match row.potential {
-        Some(potential) => potential,
-        None => Linear::zero(),
-    }
 }
 
 /// The most that a linear comes to over ranges.
@@ -42,24 +32,13 @@ pub(crate) fn greatest(linear: &Linear, ranges: &Entered) -> i64 {
     sum
 }
 
-/// T-states as a linear.
-fn linear_of(time: u32) -> Linear
-    requires { time ≤ 1000000000 }
-    ensures { result ≡ constant_sum time }
-{
-    match Linear::of_constant(time as i32) {
-        Some(linear) => linear,
-        None => Linear::zero(),
-    }
-}
-
 /// Whether a number of T-states is at least what a potential comes to over ranges.
 fn is_bound(most: u32, potential: &Linear, ranges: &Entered) -> bool
     requires { most ≤ 1000000000 }
     ensures { IsTrue result
         ↔ IsBound (box_at ranges.now.own.now ranges.now.arriving.now) potential.now most }
 {
-    let bound = linear_of(most);
+    let bound = constant_sum(most);
     let target = Entered {
         own: ranges.own,
         arriving: ranges.arriving,
@@ -102,8 +81,7 @@ pub(crate) fn worth_in(potential: &Linear, ranges: &Entered) -> Option<Worth>
     })
 }
 
-/// The turns of a loop whose potential is a constant and a positive multiple of one variable; None for another
-/// potential.
+/// The turns of a loop whose potential is a constant and a positive multiple of one variable; None for another one.
 fn turns_in(potential: &Linear, ranges: &Entered) -> Option<LoopTurns>
     ensures { IfSome result
         (AreTurns (box_at ranges.now.own.now ranges.now.arriving.now) potential.now) }

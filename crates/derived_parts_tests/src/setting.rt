@@ -105,8 +105,8 @@ fn parts_in(step: &RefinedStep, next: &Next, state: &AbsState, facts: &[Linear])
         before: state,
         settled: &next.effect,
         moved: &next.moved,
-        linear: &step.linear,
-        conditions: &step.conditions,
+        linear: &step.told.linear,
+        conditions: &step.told.conditions,
     };
     parts_after(&source, &next.state)
 }

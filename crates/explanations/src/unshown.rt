@@ -1,8 +1,9 @@
 // Steps to annotated facts that do not follow there.
 
 use crate::situation::all_follow;
-use analysis::{FlowFault, facts_at, names_slots_below};
+use analysis::{FlowFault, facts_at};
 use annotations::FactNote;
+use cert_fields::stays_within;
 use inferred_rows::ContextPoint;
 use loop_bounds::Linear;
 use row_worklist::{RowEdge, Worklist};
@@ -133,7 +134,7 @@ fn is_shown(
 fn facts_for(alloc: Global, notes: &[FactNote], slots: usize) -> Result<Vec<Linear>, FlowFault> {
     let mut facts = Vec::new(alloc);
     for note in notes {
-        if names_slots_below(&note.fact, slots) {
+        if stays_within(&note.fact, slots) {
             facts.push(note.fact)?;
         }
     }

@@ -14,7 +14,8 @@ fn has(
     after: &[FlagPart],
 ) -> bool {
     match refined(alloc, rom, &with_a(0, 255), row) {
-        Some(step) => step.conditions.before() == before && step.conditions.after() == after,
+        Some(step) => step.told.conditions.before() == before
+            && step.told.conditions.after() == after,
         None => false,
     }
 }

@@ -10,7 +10,7 @@ use std::alloc::Global;
 
 /// Whether the step makes one variable this linear.
 fn makes(step: &RefinedStep, variable: Variable, linear: &Linear) -> bool {
-    match &step.linear {
+    match &step.told.linear {
         Some(effect) => effect.variable == variable && effect.linear == *linear,
         None => false,
     }
@@ -48,7 +48,7 @@ fn sub_10_is_a_less_10(rt: HostRuntime) {
 fn a_sum_that_may_wrap_is_no_linear(rt: HostRuntime) {
     match refined(rt.alloc(), &[0xD6, 10], &with_a(9, 20), &FlagParts::empty()) {
         Some(step) => assert!(rt;
-            step.linear.is_none() && a_after(&step) == Some(ByteRange::full())
+            step.told.linear.is_none() && a_after(&step) == Some(ByteRange::full())
         ),
         None => assert!(rt; false),
     }
@@ -79,7 +79,7 @@ fn or_of_shared_bits_is_no_linear(rt: HostRuntime) {
         &with_a(0, 3),
         &FlagParts::empty(),
     ) {
-        Some(step) => assert!(rt; step.linear.is_none()),
+        Some(step) => assert!(rt; step.told.linear.is_none()),
         None => assert!(rt; false),
     }
 }
@@ -121,7 +121,7 @@ fn adds_known_carry(alloc: Global) -> bool {
     let Some(unknown) = refined(alloc, &rom, &of_table(), &FlagParts::empty()) else {
         return false;
     };
-    known.linear.is_none()
+    known.told.linear.is_none()
         && a_after(&known) == Some(bytes(0x11, 0x21))
         && a_after(&unknown) == Some(bytes(0x10, 0x21))
 }

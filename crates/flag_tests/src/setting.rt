@@ -3,7 +3,7 @@ use abs_draft::Ground;
 use abs_state::{AbsState, Mode};
 use address_map::{Map, Rom};
 use board_fetch::fetch;
-use flag_conditions::{no_terms, one_term, two_terms};
+use flag_conditions::one_term;
 use flag_letters::{FlagPart, FlagParts, Letter};
 use intervals::{ByteRange, Pair, WordRange};
 use loop_bounds::{Linear, Variable};

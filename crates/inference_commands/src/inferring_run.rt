@@ -7,7 +7,7 @@ ghost use Rattle.texts.specs.Device.{HasFailed, CountsNoFailure, Takes};
 
 use crate::finding::infer;
 use certificate::Version;
-use command_parts::{ExitStatus, Stop, keep_and_tell, read_all, read_rom};
+use command_parts::{ExitStatus, keep_and_tell, read_all, read_rom};
 use explored_plans::Progress;
 use std::alloc::Global;
 use symbols::Symbols;

@@ -6,8 +6,9 @@ use crate::thresholds::Thresholds;
 use abs_state::{AbsState, Mode};
 use abs_step::Reason;
 use affine::Space;
-use analysis::{FlowFault, joined, names_slots_below, widest};
+use analysis::{FlowFault, joined, widest};
 use annotations::{FactNote, RangeNote};
+use cert_fields::stays_within;
 use derived_parts::common_parts;
 use flag_letters::FlagParts;
 use loop_bounds::{Linear, Ranges, Term, Variable};
@@ -155,13 +156,13 @@ impl InferredRow {
         let slots = self.state.shape.len();
         self.relations.clear();
         for relation in self.space.relations().as_slice() {
-            if names_slots_below(relation, slots) {
+            if stays_within(relation, slots) {
                 self.relations.push(*relation)?;
             }
         }
         if let Some(pointer) = self.pointer {
             for relation in self.space.triples(pointer).as_slice() {
-                if names_slots_below(relation, slots) {
+                if stays_within(relation, slots) {
                     self.relations.push(*relation)?;
                 }
             }
@@ -438,7 +439,7 @@ fn tighten_by(state: &mut AbsState, fact: &Linear) {
 
 /// Whether a linear that is 0 may tighten a state.
 fn may_tighten(state: &AbsState, fact: &Linear) -> bool {
-    names_slots_below(fact, state.shape.len()) && may_narrow(state, fact)
+    stays_within(fact, state.shape.len()) && may_narrow(state, fact)
 }
 
 /// The same of a state that has each slot that the linear names.

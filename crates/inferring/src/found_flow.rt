@@ -1,9 +1,9 @@
 // What an inferring analysis found, for the writer of certificates.
 
 use abs_state::AbsState;
-use analysis::{Flow, FlowFault, Noted, ProgramPoint, facts_at, names_slots_below};
+use analysis::{Flow, FlowFault, Noted, ProgramPoint, facts_at};
 use annotations::FactNote;
-use cert_fields::Facts;
+use cert_fields::{Facts, stays_within};
 use inferred_rows::{ContextPoint, InferredRow, speaks_of};
 use loop_bounds::Linear;
 use row_worklist::{Setting, Worklist};
@@ -58,7 +58,7 @@ pub fn flow_of(alloc: Global, setting: Setting, list: Worklist) -> Result<Flow, 
 fn all_facts(said: &[FactNote], part: u16, own: &[Linear], slots: usize) -> Facts {
     let mut facts = Facts::none();
     for note in said {
-        if speaks_of(note, part) && names_slots_below(&note.fact, slots) {
+        if speaks_of(note, part) && stays_within(&note.fact, slots) {
             let _room = facts.push(note.fact);
         }
     }

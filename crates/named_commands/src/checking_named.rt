@@ -23,7 +23,6 @@ use named_reports::{
 use program_names::{ProgramNames, tell_lines};
 use runner::cert_checker::Accepted;
 use source_lines::AddressNames;
-use source_notes::SourceNotes;
 use std::alloc::Global;
 use texts::{DeviceFault, Sink, Source, put};
 

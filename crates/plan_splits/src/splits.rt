@@ -4,8 +4,8 @@ use abs_state::AbsState;
 use analysis::FlowFault;
 use board_fetch::fetch;
 use explored_plans::{
-    ByteSet, ExploredPlan, Family, PARTS, Plan, Progress, REGISTERS, Search, code_of, cut,
-    split_of, values_in,
+    ByteSet, ExploredPlan, Family, PARTS, Progress, REGISTERS, Search, code_of, cut, split_of,
+    values_in,
 };
 use inferred_rows::ContextPoint;
 use intervals::ByteRange;

@@ -1,4 +1,5 @@
 -- The definitions: conditions of instructions, narrowed and sharpened successors, and what the refined step keeps.
+pub mod Told
 pub mod Conditionals
 pub mod Sharpening
 pub mod Refined

@@ -18,6 +18,7 @@ use Rattle.linear_effects.specs.Effects.{effect_of}
 use Rattle.linear_effects.specs.declared.variable_effect.LinearEffect.{LinearEffect}
 use Rattle.refined_step.specs.Conditionals.{tested_condition, conditional_nexts}
 use Rattle.refined_step.specs.Sharpening.{cut_successor, sharpened}
+use Rattle.refined_step.specs.Told.{StepToldView}
 
 -- the conditions of the step of a row
 abbrev pub step_conditions : GroundView → ℕ → Bool → Instr → List FlagPart → AbsState → StepConditionsView
@@ -28,6 +29,13 @@ step_conditions g address inline instr parts s =
 abbrev pub step_effect : GroundView → ℕ → Bool → Instr → List FlagPart → AbsState → Option LinearEffect
 step_effect g address inline instr parts s =
     effect_of instr s.pairs (operand_of g address inline s instr) (known_carry (range_of s) parts)
+
+-- what the step of a row says beside its answer
+abbrev pub step_told : GroundView → ℕ → Bool → Instr → List FlagPart → AbsState → StepToldView
+step_told g address inline instr parts s = record {
+  linear = step_effect g address inline instr parts s;
+  conditions = step_conditions g address inline instr parts s;
+}
 
 -- the values of A after the step of a row where the known carry tells them
 abbrev pub step_carried : GroundView → ℕ → Bool → Instr → List FlagPart → AbsState → Option RangeView

@@ -5,6 +5,8 @@
 mod conditionals;
 mod refined;
 mod sharpening;
+mod told;
 
 pub use conditionals::{opposite, tested_condition};
 pub use refined::{RefinedStep, refined_step};
+pub use told::StepTold;

@@ -1,5 +1,5 @@
 // The refined step of a row with flag parts.
-ghost use Rattle.std.specs.Prelude.{◌≡◌, ◌≤◌, [], length, map, option_to_list, Ok, Err, Some, None, IfOk, IfErr, IfSome};
+ghost use Rattle.std.specs.Prelude.{◌≡◌, ◌≤◌, length, map, option_to_list, Ok, Err, Some, None, IfOk, IfErr, IfSome};
 ghost use Rattle.board_fetch.specs.Decoded.{StandsAt};
 ghost use Rattle.z80_decode.specs.Spelling.{spelling};
 ghost use Rattle.z80_decode.specs.declared.kinds.Condition.{Condition as ConditionKind};
@@ -7,15 +7,16 @@ ghost use Rattle.abs_step.specs.Successors.{answer_of, nexts_of, operand_of, wri
 ghost use Rattle.linear_effects.specs.Effects.{HasSlightTerms};
 ghost use Rattle.refined_step.specs.Conditionals.{tested_condition, NarrowsSoundly};
 ghost use Rattle.refined_step.specs.Kept.{KeepsRefined};
-ghost use Rattle.refined_step.specs.Refined.{step_conditions, step_effect, step_carried, sharpened_nexts, refined_nexts, refined_answer};
+ghost use Rattle.refined_step.specs.Refined.{step_effect, step_told, step_carried, sharpened_nexts, refined_nexts, refined_answer};
 ghost use Rattle.refined_step.specs.Sharpening.{cut_successor, sharpened};
 
 use crate::conditionals::{conditional_nexts, tested_condition};
 use crate::sharpening::{cut_successor, sharpen};
+use crate::told::StepTold;
 use abs_draft::Ground;
 use abs_state::AbsState;
 use abs_step::{DataWrite, Next, Nexts, Reason, RowStep, outcome_next, row_step};
-use flag_conditions::{StepConditions, conditions};
+use flag_conditions::conditions;
 use flag_letters::FlagParts;
 use flag_parts::known_carry;
 use intervals::{ByteRange, WordRange};
@@ -23,7 +24,7 @@ use linear_effects::{LinearEffect, carried_range, linear_effect};
 use loop_bounds::Variable;
 use smallvec::SmallVec;
 use std::alloc::Global;
-use z80_decode::{DecodeFault, Instr};
+use z80_decode::Instr;
 
 /// What the refined step makes of a row with flag parts.
 #[derive(Drop)]
@@ -32,31 +33,10 @@ pub struct RefinedStep {
     pub writes: SmallVec<DataWrite, 2>,
     /// The successors, at most two, or why the step refuses the row, as in `RowStep`. The parts change no reason.
     pub answer: Result<Nexts, Reason>,
-    /// What the step makes of the flags.
-    pub conditions: StepConditions,
-    /// The variable that the step makes a linear of the variables before it, if there is one.
-    pub linear: Option<LinearEffect>,
+    /// The linear effect and the conditions of the step.
+    pub told: StepTold,
     /// The range of the byte in work at the end of the instruction, as in `RowStep`.
     pub operand: ByteRange,
-}
-
-impl RefinedStep {
-    /// The step of a row with no instruction at its address, for this fault of the decoder. It writes nothing and tells
-    /// nothing, and reason 4 refuses the row. It takes no memory.
-    pub fn undecoded(alloc: Global, fault: DecodeFault) -> RefinedStep
-        ensures writes { result.writes.items ≡ [] }
-        ensures answer { result.answer ≡ Err (Reason.Decode fault) }
-        ensures conditions { result.conditions ≡ record { before = []; after = [] } }
-        ensures linear { result.linear ≡ None }
-    {
-        RefinedStep {
-            writes: SmallVec::new(alloc),
-            answer: Err(Reason::Decode(fault)),
-            conditions: StepConditions::none(),
-            linear: None,
-            operand: ByteRange::full(),
-        }
-    }
 }
 
 /// The successor, if there is one, sharpened by a linear effect.
@@ -227,11 +207,9 @@ pub fn refined_step(
     requires cells { length ground.now.cells ≤ 256 }
     requires len { len ≡ length (spelling instr.now) }
     ensures writes { result.writes.items ≡ writes_of ground.now address state.now (Ok instr.now) }
-    ensures conditions { result.conditions
-        ≡ step_conditions ground.now address inline instr.now parts.now state.now }
-    ensures linear { result.linear
-        ≡ step_effect ground.now address inline instr.now parts.now state.now }
-    ensures slight { IfSome result.linear HasSlightTerms }
+    ensures told { result.told
+        ≡ step_told ground.now address inline instr.now parts.now state.now }
+    ensures slight { IfSome result.told.linear HasSlightTerms }
     ensures operand { result.operand ≡ operand_of ground.now address inline state.now instr.now }
     ensures ok { IfOk result.answer (λ nexts.
         refined_answer ground.now address main inline instr.now parts.now state.now ≡ Ok nexts.items) }
@@ -239,7 +217,7 @@ pub fn refined_step(
         refined_answer ground.now address main inline instr.now parts.now state.now ≡ Err reason) }
     ensures keeps { IfOk result.answer (λ nexts. StandsAt ground.now.rom address (Ok instr.now)
         → KeepsRefined ground.now address main state.now instr.now parts.now nexts.items
-        result.conditions result.linear) }
+        result.told.conditions result.told.linear) }
 {
     let RowStep {
         writes,
@@ -256,8 +234,10 @@ pub fn refined_step(
     RefinedStep {
         writes,
         answer: refined,
-        conditions: found,
-        linear,
+        told: StepTold {
+            linear,
+            conditions: found,
+        },
         operand,
     }
 }

@@ -5,6 +5,7 @@ use crate::wording::{Wording, add_line, pair_name};
 use abs_state::AbsState;
 use abs_step::{Next, NextKind};
 use analysis::FlowFault;
+use cert_fields::stays_within;
 use explanations::{Explored, Situation, all_follow};
 use inferred_rows::ContextPoint;
 use intervals::{Domain, Pair, RegPair};
@@ -277,7 +278,7 @@ pub fn facts_of(
 ) -> Result<Vec<Linear>, FlowFault> {
     let mut facts = Vec::new(with.alloc);
     for note in analysis::facts_at(explored.task.said().facts(), address) {
-        if analysis::names_slots_below(&note.fact, slots) {
+        if stays_within(&note.fact, slots) {
             facts.push(note.fact)?;
         }
     }

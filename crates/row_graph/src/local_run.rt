@@ -2,13 +2,13 @@
 
 use abs_state::AbsState;
 use abs_step::NextKind;
-use analysis::{FlowFault, Task, joined, sub_of, told_at};
+use analysis::{FlowFault, Task, joined, sub_of};
 use board_fetch::fetch;
 use derived_parts::common_parts;
 use flag_letters::FlagParts;
 use inferred_rows::ContextPoint;
 use intervals::Domain;
-use row_worklist::{Worklist, parts_by};
+use row_worklist::{Worklist, parts_by, told_at};
 use std::alloc::Global;
 use std::collections::{BTreeMap, BTreeSet};
 use std::rc::Rc;

@@ -4,14 +4,19 @@ use crate::setting::Setting;
 use abs_state::AbsState;
 use abs_step::{Next, NextKind};
 use affine::Space;
-use analysis::{JudgedRow, told_at};
+use analysis::{JudgedRow, Task};
+use board_fetch::fetch;
 use cert_lines::Version;
 use check_claims::StepSource;
-use check_steps::StepTold;
 use derived_parts::parts_after;
+use flag_conditions::conditions;
 use flag_letters::FlagParts;
+use flag_parts::known_carry;
 use inferred_rows::{ArrivingParts, ContextPoint, InferredRow, Manner};
+use intervals::ByteRange;
+use linear_effects::linear_effect;
 use loop_bounds::{Effect, Linear};
+use refined_step::StepTold;
 use sent_states::{Arriving, ArrivingKind};
 
 /// The successors to which an analysis goes on from a judged row.
@@ -55,6 +60,27 @@ pub fn told_by(setting: Setting, number: u64, row: &InferredRow, judged: &Judged
         &row.state,
         &row.parts,
     )
+}
+
+/// What the refined step of a row says beside its successors; nothing before version 3. `operand` is the range of the
+/// byte in work at the end of the row's instruction.
+pub fn told_at(
+    task: &Task,
+    address: u16,
+    operand: ByteRange,
+    state: &AbsState,
+    parts: &FlagParts,
+) -> StepTold {
+    match (task.version(), fetch(task.rom(), address)) {
+        (Version::Three, Ok((instr, _))) => {
+            let carry = known_carry(parts, state);
+            StepTold {
+                linear: linear_effect(&instr, &state.pairs, operand, carry),
+                conditions: conditions(&instr, operand, parts, carry),
+            }
+        }
+        _ => StepTold::none(),
+    }
 }
 
 /// What a state that a row sends tells of the flags where it arrives. A call or a return tells nothing.

@@ -8,6 +8,8 @@ mod setting;
 mod waiting;
 mod worklist;
 
-pub use judged_steps::{bytes_of, parts_by, parts_told, space_after, state_at_exit, told_by};
+pub use judged_steps::{
+    bytes_of, parts_by, parts_told, space_after, state_at_exit, told_at, told_by,
+};
 pub use setting::{Setting, Watch};
 pub use worklist::{Findings, RowEdge, Worklist};

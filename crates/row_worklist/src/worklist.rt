@@ -13,8 +13,8 @@ use cert_form::{PROC_LIMIT, ROW_LIMIT};
 use cert_lines::Version;
 use flag_letters::FlagParts;
 use inferred_rows::{
-    ArrivingParts, CLASSES, ContextPoint, Guide, InferredRow, JoinOutcome, Manner, NO_ROW,
-    Thresholds, Tightening, are_joined, pointer_of,
+    ArrivingParts, CLASSES, ContextPoint, InferredRow, JoinOutcome, NO_ROW, Thresholds, Tightening,
+    are_joined, pointer_of,
 };
 use intervals::ByteRange;
 use judged_rows::JudgedRows;

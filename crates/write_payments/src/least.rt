@@ -5,9 +5,10 @@ use crate::sums::{
 };
 use abs_state::AbsState;
 use cert_contents::Certificate;
+use cert_fields::stays_within;
 use check_claims::{Rewriting, constants_first, variables_first};
 use check_payments::pays_either_way;
-use loop_bounds::{Effect, GREATEST_CONSTANT, Linear, Variable, decreases};
+use loop_bounds::{Effect, GREATEST_CONSTANT, Linear, decreases};
 use write_requests::{Request, Requests};
 
 /// The potential of a row, by its number within the procedure, if it is known.
@@ -239,7 +240,7 @@ impl<'a> Payer<'a> {
     ) -> Option<Linear> {
         let to = known_at(known, row)?;
         let terms = terms_before(&to, rewriting)?;
-        if terms.terms().is_empty() || !names_slots_below(&terms, self.state.shape.len()) {
+        if terms.terms().is_empty() || !stays_within(&terms, self.state.shape.len()) {
             return None;
         }
         Some(terms)
@@ -361,19 +362,3 @@ impl<'a> Payer<'a> {
 /// No constant pays.
 #[derive(Clone, Copy)]
 pub struct Unpaid;
-
-/// Whether a variable is no slot, or one with a number below `slots`.
-pub fn is_below(variable: Variable, slots: usize) -> bool {
-    match variable {
-        Variable::Slot(number, _) => usize::from(number.number()) < slots,
-        _ => true,
-    }
-}
-
-/// Whether each slot that a linear names has a number below `slots`.
-fn names_slots_below(linear: &Linear, slots: usize) -> bool {
-    linear
-        .terms()
-        .iter()
-        .all(|term| is_below(term.variable, slots))
-}

@@ -5,5 +5,5 @@
 mod least;
 mod sums;
 
-pub use least::{Choice, Payer, Unpaid, is_below, least_of_constants};
+pub use least::{Choice, Payer, Unpaid, least_of_constants};
 pub use sums::{greatest_value, multiple_of, with_constant};

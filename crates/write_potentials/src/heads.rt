@@ -4,10 +4,11 @@ use crate::fault::PotentialFault;
 use crate::solving::{Group, Head};
 use annotations::LoopNote;
 use cert_contents::Certificate;
+use cert_fields::is_below;
 use loop_bounds::{Linear, Variable};
 use std::alloc::Global;
 use std::ops::Range;
-use write_payments::{is_below, multiple_of};
+use write_payments::multiple_of;
 use write_requests::{Placed, Turns};
 
 /// The note of a loop at an address.

@@ -11,10 +11,10 @@ use call_graph::ProcId;
 use cert_contents::{Certificate, RowId};
 use cert_lines::Version;
 use check_cover::{Callee, callee_at};
-use check_steps::StepTold;
-use check_ways::{Subject, is_lone, overlaps_state};
+use check_ways::{Subject, is_lone};
 use linear_effects::LinearEffect;
 use loop_bounds::Effect;
+use refined_step::StepTold;
 use std::alloc::{AllocError, Global};
 
 /// Adjacent rows of the same procedure that may come next, with the cost in T-states and the effect of the step.
@@ -105,7 +105,7 @@ fn greater(one: Option<u32>, other: u32) -> Option<u32> {
 /// Whether the row with this number overlaps a state.
 fn is_met(certificate: &Certificate, id: RowId, state: &AbsState) -> bool {
     match certificate.row(id) {
-        Some(row) => overlaps_state(&row, state),
+        Some(row) => row.overlaps(state),
         None => false,
     }
 }

@@ -1,8 +1,11 @@
-// The tests of the writer: worked rows, families of ROMs, version 3, refusals, and refused memory.
+// The tests of the writer: worked rows, families of ROMs, version 3, refusals, refused memory, and certificates made of
+// parts.
 #![tactic(auto)]
 
 #[cfg(test)]
 mod families;
+#[cfg(test)]
+mod made;
 #[cfg(test)]
 mod memory;
 #[cfg(test)]

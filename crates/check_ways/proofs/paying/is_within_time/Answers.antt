@@ -13,12 +13,12 @@ pub returns : goal.returns
 returns c =
     let paid = c.decreases.result in
     let s = c.args.subject.now in
-    let left = c.linear_of-left.result in
+    let left = c.constant_sum-left.result in
     let to = c.potential_of-to.result in
     let before = c.cost_before-before.result in
     let effect = c.unchanged.result in
     let state = c.subject.inside.state in
-    let left_is = c.linear_of-left.ensures ∙ ap constant_sum c.time.ensures.value in
+    let left_is = c.constant_sum-left.ensures ∙ ap constant_sum c.time.ensures.value in
     let to_is : to ≡ potential_of s.row = subst (λ (x : SubjectView). to ≡ potential_of x.row) c.subject.view_is c.potential_of-to.ensures in
     let before_is : before ≡ cost_before s.proc.kind = subst (λ (x : SubjectView). before ≡ cost_before x.proc.kind) c.subject.view_is c.cost_before-before.ensures in
     let state_is : state ≡ s.row.state = subst (λ (x : SubjectView). state ≡ x.row.state) c.subject.view_is c.subject.invariant.3 in

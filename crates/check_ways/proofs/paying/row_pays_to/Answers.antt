@@ -6,7 +6,8 @@ use Rattle.check_cover.specs.Arrival.{RefinementView}
 use Rattle.check_payments.specs.Paying.{PaysEitherWay}
 use Rattle.loop_bounds.specs.Linear.{LinearView}
 use Rattle.check_ways.specs.Pays.{PaysBy, PaysTo, potential_of}
-use Rattle.check_steps.specs.Told.{StepToldView, refinement_by}
+use Rattle.check_steps.specs.Told.{refinement_by}
+use Rattle.refined_step.specs.Told.{StepToldView}
 use Rattle.check_ways.specs.Ways.{SubjectView, WayView}
 use Rattle.check_ways.proofs.paying.row_pays_to.Goals as goal
 

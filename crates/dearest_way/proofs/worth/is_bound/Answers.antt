@@ -11,6 +11,6 @@ returns c =
     let found = c.decreases.result in
     let box = box_at c.args.ranges.now.own.now c.args.ranges.now.arriving.now in
     let potential = c.args.potential.now in
-    let bound = c.linear_of-bound.result in
-    subst (λ (f : LinearView). IsTrue found ↔ Decreases f potential 0 unchanged box box) c.linear_of-bound.ensures
+    let bound = c.constant_sum-bound.result in
+    subst (λ (f : LinearView). IsTrue found ↔ Decreases f potential 0 unchanged box box) c.constant_sum-bound.ensures
     (subst (λ (e : Effect). IsTrue found ↔ Decreases bound potential 0 e box box) c.unchanged.ensures.exact c.decreases.ensures)

@@ -1,22 +1,11 @@
-// Which rows at an address are asked. States are large, so they are compared in place and not copied.
+// Whether only one row stands at an address. Such a row is asked, whatever it says.
 
 ghost use Rattle.std.specs.Prelude.{◌↔◌, IsTrue};
-ghost use Rattle.abs_state.specs.Covers.{OverlapsState};
 ghost use Rattle.check_ways.specs.Pays.{AreOne, IsLone};
 
-use abs_state::AbsState;
 use call_graph::ProcId;
 use cert_contents::Certificate;
-use cert_lines::RowRef;
 use check_cover::split_at;
-
-/// Whether a row's state overlaps another state: the shapes have one length, and in each pair and each slot the ranges
-/// share a value (docs/CHECKER.md, "Paying").
-pub fn overlaps_state(row: &RowRef, state: &AbsState) -> bool
-    ensures { IsTrue result ↔ OverlapsState row.now.state state.now }
-{
-    row.pairs.overlaps(&state.pairs) && row.shape.overlaps(&state.shape)
-}
 
 /// Whether at most one row of the procedure is at the address, and no split. Such a row is asked, whatever it says
 /// (docs/CHECKER.md, "Paying").

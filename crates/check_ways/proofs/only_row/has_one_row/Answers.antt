@@ -1,5 +1,5 @@
 use Rattle.check_ways.proofs.RowLemmas.{one_row}
-use Rattle.check_ways.proofs.overlapping.has_one_row.Goals as goal
+use Rattle.check_ways.proofs.only_row.has_one_row.Goals as goal
 
 pub returns : goal.returns
 returns c =
