@@ -39,13 +39,12 @@ def bytes_of_hex(text):
 
 
 def changed(data, pairs):
-    """The text with the first occurrence of each old part replaced, in turn."""
-    text = data.decode()
+    """The file with the first occurrence of each old text replaced, in turn."""
     for old, new in pairs:
-        if old not in text:
+        if old.encode() not in data:
             raise BadCase(f"the text has no {old!r}")
-        text = text.replace(old, new, 1)
-    return text.encode()
+        data = data.replace(old.encode(), new.encode(), 1)
+    return data
 
 
 def file_of(said, shared):
