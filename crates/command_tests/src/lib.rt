@@ -1,5 +1,5 @@
 // What no command line can show of the commands: the order in which they use devices, devices that fail, memory that is
-// refused, and single functions of inputs, summaries and walks. The rest is in tests/cases.
+// refused, and single functions of resets, summaries and walks. The rest is in tests/cases.
 #![tactic(auto)]
 
 #[cfg(test)]
@@ -7,11 +7,11 @@ mod device_order;
 #[cfg(test)]
 mod failures;
 #[cfg(test)]
-mod inputs;
-#[cfg(test)]
 mod limits;
 #[cfg(test)]
 mod memory;
+#[cfg(test)]
+mod summaries;
 #[cfg(test)]
 mod walks;
 
