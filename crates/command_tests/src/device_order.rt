@@ -1,17 +1,15 @@
 // Which devices the commands use, and in which order.
 
-use command_samples::{JUMP, JUMP_CERTIFICATE, JUMP_INPUT, ROW_MISSING, accepted, run, verify};
-use commands::run_on;
-use file_devices::FileSource;
+use command_samples::{JUMP, JUMP_INPUT, ROW_MISSING, accepted, run, verify};
 use memory_devices::{Bytes, Taken};
 use std::alloc::Global;
 use std::test::Fail;
 
-/// Whether no other device is used when the ROM fails after `reads` reads.
+/// Whether no other device is used and nothing is written when the ROM fails after `reads` reads.
 fn stops_at_the_rom(alloc: Global, reads: u64) -> bool {
     let rom = Bytes::failing(JUMP, 2, reads);
     let after = verify(alloc, rom, accepted(), Taken::new(alloc));
-    after.status == 3 && after.cert_asked == 0 && after.out_asked == 0
+    after.is(3, "") && after.cert_asked == 0 && after.out_asked == 0
 }
 
 fn run_stops_at_the_rom(alloc: Global) -> bool {
@@ -87,21 +85,4 @@ fn nothing_is_read_past_what_is_needed(rt: HostRuntime) -> Result<(), Fail> {
     assert!(rt; after.is(1, "refused 0000 1 Rom\n"));
     assert!(rt; after.rom_left == 20_000 - 16_385);
     Ok(())
-}
-
-/// A file is opened at its first read, so a refusal is reported even where the input file is missing.
-#[test]
-fn files_are_opened_at_their_first_read(rt: HostRuntime) {
-    let alloc = rt.alloc();
-    for (cert, want) in [(JUMP_CERTIFICATE, 3), (ROW_MISSING, 1)] {
-        let status = run_on(
-            alloc,
-            &mut Bytes::whole(JUMP),
-            &mut Bytes::whole(cert.as_bytes()),
-            &mut FileSource::new(&rt, "no such file"),
-            3,
-            &mut Taken::new(alloc),
-        );
-        assert!(rt; status == want);
-    }
 }

@@ -1,17 +1,20 @@
-// Tests of input lines and run summaries, and of the commands on devices in memory.
+// What no command line can show of the commands: the order in which they use devices, devices that fail, memory that is
+// refused, and single functions of resets, summaries and walks. The rest is in tests/cases.
 #![tactic(auto)]
 
 #[cfg(test)]
-mod calls;
-#[cfg(test)]
 mod device_order;
 #[cfg(test)]
-mod inputs;
+mod failures;
 #[cfg(test)]
-mod jumps;
+mod limits;
 #[cfg(test)]
 mod memory;
 #[cfg(test)]
-mod outcomes;
+mod summaries;
 #[cfg(test)]
-mod ranges;
+mod walks;
+
+/// Annotations with a stack of 128 bytes.
+#[cfg(test)]
+const STACK: &str = "low = 0x4380\ntop = 0x4400\n";
