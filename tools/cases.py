@@ -88,8 +88,11 @@ def run(galcert, case, shared):
         wrong = []
         if ran.returncode != case.get("status", 0):
             wrong.append(f"status {ran.returncode}, and not {case.get('status', 0)}")
-        if "stdout" in case and out != case["stdout"]:
-            wrong.append(lines_that_differ(case["stdout"], out))
+        wanted = case.get("stdout", out)
+        if isinstance(wanted, dict):
+            wanted = file_of(wanted, shared).decode()
+        if out != wanted:
+            wrong.append(lines_that_differ(wanted, out))
         if not out.startswith(case.get("starts", "")):
             wrong.append(f"standard output starts {out[:200]!r}")
         wrong += [f"standard output has no {it!r}" for it in case.get("has", []) if it not in out]

@@ -1,32 +1,29 @@
-// Texts that are read, whole and in pieces, and written again.
+// Texts that are read, whole and in pieces, migrated, and written again. What `migrate` prints is tried in tests/cases.
 
-use crate::samples::{EVERY_FORM, JUMP, JUMP_OF_TWO, ROUTINE, WHOLE};
-use certificate::{Certificate, DeviceFault, migrate, read, read_from, write};
+use crate::samples::{
+    EVERY_FORM, EVERY_PART, FACTS, JUMP, JUMP_OF_THREE, JUMP_OF_TWO, OF_PROGRAMS, ROUTINE, WHOLE,
+};
+use certificate::{Certificate, DeviceFault, Version, migrate, migrate_to, read, read_from, write};
 use memory_devices::{Bytes, Taken};
 use std::alloc::Global;
+use std::test::Fail;
 
-/// A text, the size of its pieces, whether it is migrated, how many bytes the sink takes at once, and the result.
-const WRITTEN: &[(&str, usize, bool, usize, &str)] = &[
-    (JUMP, WHOLE, false, 4096, JUMP),
-    (JUMP, WHOLE, false, 1, JUMP),
-    (ROUTINE, WHOLE, false, 4096, ROUTINE),
-    (ROUTINE, WHOLE, false, 1, ROUTINE),
-    (JUMP_OF_TWO, WHOLE, false, 4096, JUMP_OF_TWO),
-    (JUMP_OF_TWO, WHOLE, false, 1, JUMP_OF_TWO),
-    (EVERY_FORM, WHOLE, false, 4096, EVERY_FORM),
-    (EVERY_FORM, WHOLE, false, 1, EVERY_FORM),
-    (JUMP, WHOLE, true, 4096, JUMP_OF_TWO),
-    (JUMP_OF_TWO, WHOLE, true, 4096, JUMP_OF_TWO),
-    (EVERY_FORM, WHOLE, true, 4096, EVERY_FORM),
-    (ROUTINE, 1, false, 4096, ROUTINE),
-    (ROUTINE, 2, false, 4096, ROUTINE),
-    (ROUTINE, 3, false, 4096, ROUTINE),
-    (ROUTINE, 4096, false, 4096, ROUTINE),
-    (EVERY_FORM, 1, false, 4096, EVERY_FORM),
-    (EVERY_FORM, 2, false, 4096, EVERY_FORM),
-    (EVERY_FORM, 3, false, 4096, EVERY_FORM),
-    (EVERY_FORM, 4096, false, 4096, EVERY_FORM),
+const TEXTS: &[&str] = &[
+    JUMP,
+    ROUTINE,
+    JUMP_OF_TWO,
+    EVERY_FORM,
+    FACTS,
+    JUMP_OF_THREE,
+    EVERY_PART,
+    OF_PROGRAMS,
 ];
+
+/// The sizes of the pieces in which each text is read.
+const PIECES: &[usize] = &[WHOLE, 1, 2, 3, 7, 64, 4096];
+
+/// How many bytes a sink takes at once.
+const AT_ONCE: &[usize] = &[1, 3, 4096];
 
 /// The certificate of a text, read whole or in pieces of this many bytes.
 fn read_in(alloc: Global, text: &[u8], piece: usize) -> Option<Certificate> {
@@ -38,44 +35,63 @@ fn read_in(alloc: Global, text: &[u8], piece: usize) -> Option<Certificate> {
 }
 
 /// Whether a certificate is written as this text by a sink that takes `piece` bytes at once.
-fn is_written_as(alloc: Global, certificate: &Certificate, piece: usize, text: &str) -> bool {
+pub fn is_written_as(alloc: Global, certificate: &Certificate, piece: usize, text: &str) -> bool {
     let mut out = Taken::failing(alloc, piece, u64::MAX);
     write(certificate, &mut out).is_ok() && out.bytes.as_slice() == text.as_bytes()
 }
 
 #[test]
-fn written(rt: HostRuntime) {
-    for &(text, read_piece, migrated, piece, other) in WRITTEN {
-        let is_written = match read_in(rt.alloc(), text.as_bytes(), read_piece) {
-            Some(own) => {
-                let own = if migrated { migrate(own) } else { own };
-                is_written_as(rt.alloc(), &own, piece, other)
+fn written(rt: HostRuntime) -> Result<(), Fail> {
+    for &text in TEXTS {
+        for &piece in PIECES {
+            let Some(own) = read_in(rt.alloc(), text.as_bytes(), piece) else {
+                return Err(Fail::new("not read"));
+            };
+            for &count in AT_ONCE {
+                let is_written = is_written_as(rt.alloc(), &own, count, text);
+                assert!(rt; is_written, "in {piece} and {count}, {text}");
             }
-            None => false,
-        };
-        assert!(rt; is_written, "in {read_piece} and {piece}, to {other}");
+        }
     }
+    Ok(())
 }
 
-/// A text, after how many bytes the sink fails, and how many bytes it has taken then.
-const TAKEN: &[(&str, u64, usize)] = &[(JUMP, 0, 0), (JUMP, 13, 13), (JUMP, 147, 147)];
-
-/// How many bytes a sink has taken that fails after `bytes` bytes, if they are a prefix of the text.
-fn taken_before(alloc: Global, text: &str, bytes: u64) -> Option<usize> {
-    let certificate = read(alloc, text.as_bytes()).ok()?;
-    let mut out = Taken::failing(alloc, 1, bytes);
-    let failed = write(&certificate, &mut out) == Err(DeviceFault);
-    if failed && text.as_bytes().starts_with(out.bytes.as_slice()) {
-        Some(out.bytes.len())
-    } else {
-        None
-    }
-}
+/// A text, whether it is migrated by `migrate` or else by `migrate_to` version 1, and the text that it then has.
+const MIGRATED: &[(&str, bool, &str)] = &[
+    (JUMP, true, JUMP_OF_TWO),
+    (JUMP_OF_TWO, true, JUMP_OF_TWO),
+    (EVERY_FORM, true, EVERY_FORM),
+    (EVERY_PART, true, EVERY_PART),
+    (JUMP, false, JUMP),
+    (JUMP_OF_TWO, false, JUMP_OF_TWO),
+    (FACTS, false, FACTS),
+    (EVERY_PART, false, EVERY_PART),
+];
 
 #[test]
-fn a_sink_that_fails(rt: HostRuntime) {
-    for &(text, bytes, taken) in TAKEN {
-        let found = taken_before(rt.alloc(), text, bytes);
-        assert!(rt; found == Some(taken), "behind {bytes} bytes");
+fn migrated(rt: HostRuntime) -> Result<(), Fail> {
+    for &(text, to_two, other) in MIGRATED {
+        let own = read(rt.alloc(), text.as_bytes())?;
+        let own = if to_two {
+            migrate(own)
+        } else {
+            migrate_to(Version::One, own)?
+        };
+        assert!(rt; is_written_as(rt.alloc(), &own, 4096, other), "to {other}");
     }
+    Ok(())
+}
+
+/// A sink that fails after so many bytes has taken just these.
+#[test]
+fn a_sink_that_fails(rt: HostRuntime) -> Result<(), Fail> {
+    let own = read(rt.alloc(), JUMP.as_bytes())?;
+    for &bytes in &[0, 13, 147] {
+        let mut out = Taken::failing(rt.alloc(), 1, bytes);
+        let failed = write(&own, &mut out) == Err(DeviceFault);
+        let taken = out.bytes.as_slice();
+        let is_cut = JUMP.as_bytes().starts_with(taken) && taken.len() as u64 == bytes;
+        assert!(rt; failed && is_cut, "behind {bytes} bytes");
+    }
+    Ok(())
 }

@@ -1,41 +1,33 @@
 // Every field of every line, by its accessor.
 
+use crate::linears::Counted::{A, B, Bc, E, Hl, Iy, Slot};
+use crate::linears::{Sum, is_sum};
 use crate::samples::{EVERY_FORM, ROUTINE};
-use Word::{Of, Slot};
+use Word::{At, Pushed};
 use abs_state::{FlagFact, Mode};
 use certificate::BoardMap::{self, Galaxian, Raised};
 use certificate::ProcKind::{self, Main, Nmi, Sub};
-use certificate::{CertFault, Certificate, Split, Version, read};
+use certificate::Version::{self, One, Two};
+use certificate::{Certificate, read};
 use intervals::Pair;
-use intervals::RegPair::{self, Af, AlternateBc, AlternateDe, AlternateHl, Bc, De, Hl, Ix};
-use loop_bounds::{Linear, Part, Term, Variable};
-use std::alloc::Global;
+use intervals::RegPair::{self, Af, AlternateBc, AlternateDe, AlternateHl};
+use loop_bounds::Part;
 use std::ops::Range;
 use std::test::Fail;
 use z80_decode::Register8;
 
-/// The certificate of `EVERY_FORM`.
-fn every_form(alloc: Global) -> Result<Certificate, CertFault> {
-    read(alloc, EVERY_FORM.as_bytes())
-}
+/// The ROM's length, the stack region, the budget, and the number of rows.
+type Numbers = (u16, u16, u16, Option<u16>, u32);
 
-/// A text, its version, its board, and its numbers: the ROM's length, the stack region, the budget, and the rows.
+/// A text, its version, its board, and its numbers.
 const WHOLE: &[(&str, Version, BoardMap, Numbers)] = &[
-    (
-        ROUTINE,
-        Version::One,
-        Galaxian,
-        (109, 0x4380, 0x4400, Some(50_665), 9),
-    ),
-    (
-        EVERY_FORM,
-        Version::Two,
-        Raised,
-        (300, 0x8380, 0x83FE, Some(7_000), 5),
-    ),
+    (ROUTINE, One, Galaxian, OF_ROUTINE),
+    (EVERY_FORM, Two, Raised, OF_EVERY_FORM),
 ];
 
-type Numbers = (u16, u16, u16, Option<u16>, u32);
+const OF_ROUTINE: Numbers = (109, 0x4380, 0x4400, Some(50_665), 9);
+
+const OF_EVERY_FORM: Numbers = (300, 0x8380, 0x83FE, Some(7_000), 5);
 
 fn numbers_of(certificate: &Certificate) -> Numbers {
     let region = certificate.region();
@@ -52,26 +44,27 @@ fn numbers_of(certificate: &Certificate) -> Numbers {
 fn of_the_whole(rt: HostRuntime) -> Result<(), Fail> {
     for &(text, version, board, numbers) in WHOLE {
         let c = read(rt.alloc(), text.as_bytes())?;
-        assert!(rt; c.version() == version, "version of {text}");
-        assert!(rt; c.board() == board, "board of {text}");
-        assert!(rt; numbers_of(&c) == numbers, "numbers of {text}");
+        let is_right = c.version() == version && c.board() == board && numbers_of(&c) == numbers;
+        assert!(rt; is_right, "of {text}");
     }
     Ok(())
 }
 
-/// The number of a procedure, its kind, and its entry, rank, depth and time.
-const PROCS: &[(u16, Option<ProcKind>, Option<ProcNumbers>)] = &[
-    (0, Some(Main), Some((0, 3, 16, None))),
-    (1, Some(Nmi), Some((0x66, 1, 24, Some(6_500)))),
-    (2, Some(Sub), Some((0x20, 2, 10, None))),
-    (3, Some(Sub), Some((0x100, 0, 2, Some(1_000_000_000)))),
-    (4, None, None),
+/// A procedure's kind, entry, rank, depth and time.
+type Proc = (ProcKind, u16, u16, u16, Option<u32>);
+
+/// The procedures of `EVERY_FORM` by their numbers.
+const PROCS: &[(u16, Option<Proc>)] = &[
+    (0, Some((Main, 0, 3, 16, None))),
+    (1, Some((Nmi, 0x66, 1, 24, Some(6_500)))),
+    (2, Some((Sub, 0x20, 2, 10, None))),
+    (3, Some((Sub, 0x100, 0, 2, Some(1_000_000_000)))),
+    (4, None),
 ];
 
-type ProcNumbers = (u16, u16, u16, Option<u32>);
-
-fn proc_numbers(certificate: &Certificate, id: u16) -> Option<ProcNumbers> {
+fn proc_of(certificate: &Certificate, id: u16) -> Option<Proc> {
     Some((
+        certificate.kind(id)?,
         certificate.entry(id)?,
         certificate.rank(id)?,
         certificate.depth(id)?,
@@ -79,41 +72,36 @@ fn proc_numbers(certificate: &Certificate, id: u16) -> Option<ProcNumbers> {
     ))
 }
 
-#[test]
-fn of_procedures(rt: HostRuntime) -> Result<(), Fail> {
-    let c = every_form(rt.alloc())?;
-    for &(id, kind, numbers) in PROCS {
-        assert!(rt; c.kind(id) == kind, "kind of {id}");
-        assert!(rt; proc_numbers(&c, id) == numbers, "procedure {id}");
-    }
-    Ok(())
+fn are_procs(certificate: &Certificate) -> bool {
+    PROCS
+        .iter()
+        .all(|(id, proc)| proc_of(certificate, *id) == *proc)
 }
 
-/// A place in the lists, with the split there (procedure, address, register), the inline call, and the cell.
-const LISTS: &[(
-    usize,
-    Option<(u16, u16, Register8)>,
-    Option<u16>,
-    Option<(u16, u8, u8)>,
-)] = &[
+/// A split's procedure, address and register.
+type Split = (u16, u16, Register8);
+
+/// A cell's address, and its least and greatest byte.
+type Cell = (u16, u8, u8);
+
+/// The splits, the inline calls and the cells of `EVERY_FORM` by their places.
+const LISTS: &[(Option<Split>, Option<u16>, Option<Cell>)] = &[
     (
-        0,
-        Some((0, 0x03, Register8::B)),
-        Some(0x07),
+        Some((0, 3, Register8::B)),
+        Some(7),
         Some((0x8000, 0x12, 0x34)),
     ),
     (
-        1,
         Some((0, 0x10, Register8::L)),
         Some(0xFE),
-        Some((0x83FF, 0x00, 0x09)),
+        Some((0x83FF, 0, 9)),
     ),
-    (2, Some((3, 0x03, Register8::A)), None, None),
-    (3, None, None, None),
+    (Some((3, 3, Register8::A)), None, None),
+    (None, None, None),
 ];
 
-fn is_split(found: Option<&Split>, wanted: Option<(u16, u16, Register8)>) -> bool {
-    match (found, wanted) {
+fn is_split(certificate: &Certificate, place: usize, wanted: Option<Split>) -> bool {
+    match (certificate.splits().get(place), wanted) {
         (Some(split), Some((proc, address, register))) => {
             split.proc == proc && split.address == address && split.register == register
         }
@@ -122,51 +110,52 @@ fn is_split(found: Option<&Split>, wanted: Option<(u16, u16, Register8)>) -> boo
     }
 }
 
-fn cell_at(certificate: &Certificate, place: usize) -> Option<(u16, u8, u8)> {
+fn cell_at(certificate: &Certificate, place: usize) -> Option<Cell> {
     let cell = certificate.cells().get(place)?;
     Some((cell.at, cell.range.low(), cell.range.high()))
 }
 
-#[test]
-fn of_lists(rt: HostRuntime) -> Result<(), Fail> {
-    let c = every_form(rt.alloc())?;
-    for &(place, split, inline, cell) in LISTS {
-        assert!(rt; is_split(c.splits().get(place), split), "split {place}");
-        let call = c.inlines().get(place).copied();
-        assert!(rt; call == inline, "inline call {place}");
-        assert!(rt; cell_at(&c, place) == cell, "cell {place}");
-    }
-    Ok(())
+fn are_lists(certificate: &Certificate) -> bool {
+    LISTS.iter().enumerate().all(|(place, &(split, inline, cell))| {
+        is_split(certificate, place, split)
+            && certificate.inlines().get(place).copied() == inline
+            && cell_at(certificate, place) == cell
+    })
 }
 
 /// A row's number, procedure, address, armed cells and mode; its slots and facts, and whether it has a potential.
-const ROWS: &[(u32, (u16, u16, u16), Mode, (usize, usize, bool))] = &[
-    (0, (0, 0x0, 0), Mode::Unset, (0, 0, false)),
-    (1, (0, 0x3, 1), Mode::Set, (2, 0, false)),
-    (2, (0, 0x3, 2), Mode::Set, (2, 3, false)),
-    (3, (1, 0x66, 2), Mode::Nmi, (0, 0, true)),
-    (4, (3, 0x100, 2), Mode::Nmi, (1, 1, true)),
+type Row = (u32, u16, u16, u16, Mode, usize, usize, bool);
+
+const ROWS: &[Row] = &[
+    (0, 0, 0x0, 0, Mode::Unset, 0, 0, false),
+    (1, 0, 0x3, 1, Mode::Set, 2, 0, false),
+    (2, 0, 0x3, 2, Mode::Set, 2, 3, false),
+    (3, 1, 0x66, 2, Mode::Nmi, 0, 0, true),
+    (4, 3, 0x100, 2, Mode::Nmi, 1, 1, true),
 ];
 
-fn place_of(certificate: &Certificate, id: u32) -> Option<(u16, u16, u16)> {
-    Some((
-        certificate.proc_of(id)?,
-        certificate.address(id)?,
-        certificate.armed(id)?,
-    ))
-}
-
-fn counts_of(certificate: &Certificate, id: u32) -> Option<(usize, usize, bool)> {
-    Some((
-        certificate.shape(id)?.len(),
-        certificate.facts(id)?.as_slice().len(),
-        certificate.potential(id)?.is_some(),
-    ))
+fn is_row(certificate: &Certificate, row: &Row) -> bool {
+    let &(id, proc, address, armed, mode, slots, facts, pays) = row;
+    certificate.proc_of(id) == Some(proc)
+        && certificate.address(id) == Some(address)
+        && certificate.armed(id) == Some(armed)
+        && certificate.mode(id) == Some(mode)
+        && certificate
+            .shape(id)
+            .is_some_and(|shape| shape.len() == slots)
+        && certificate
+            .facts(id)
+            .is_some_and(|found| found.as_slice().len() == facts)
+        && certificate
+            .potential(id)
+            .is_some_and(|potential| potential.is_some() == pays)
 }
 
 /// Whether no accessor gives anything for a row.
 fn is_no_row(certificate: &Certificate, id: u32) -> bool {
-    place_of(certificate, id).is_none()
+    certificate.proc_of(id).is_none()
+        && certificate.address(id).is_none()
+        && certificate.armed(id).is_none()
         && certificate.mode(id).is_none()
         && certificate.flag(id).is_none()
         && certificate.pairs(id).is_none()
@@ -175,79 +164,62 @@ fn is_no_row(certificate: &Certificate, id: u32) -> bool {
         && certificate.potential(id).is_none()
 }
 
-#[test]
-fn of_rows(rt: HostRuntime) -> Result<(), Fail> {
-    let c = every_form(rt.alloc())?;
-    for &(id, place, mode, counts) in ROWS {
-        assert!(rt; place_of(&c, id) == Some(place), "place of row {id}");
-        assert!(rt; c.mode(id) == Some(mode), "mode of row {id}");
-        assert!(rt; counts_of(&c, id) == Some(counts), "counts of {id}");
-    }
-    assert!(rt; is_no_row(&c, 5), "row 5");
-    Ok(())
+fn are_rows(certificate: &Certificate) -> bool {
+    ROWS.iter().all(|row| is_row(certificate, row)) && is_no_row(certificate, 5)
 }
 
-/// The number of a row, and its flag fact.
-const FLAGS: &[(u32, Option<FlagFact>)] = &[
-    (0, None),
-    (1, Some(FlagFact::Zero(Register8::B))),
-    (2, Some(FlagFact::Compared(0x5A))),
-    (4, Some(FlagFact::Zero(Register8::L))),
+/// The number of a row, and its flag fact: the register of `zR`, or the byte of `cKK`.
+const FLAGS: &[(u32, Option<Register8>, Option<u8>)] = &[
+    (0, None, None),
+    (1, Some(Register8::B), None),
+    (2, None, Some(0x5A)),
+    (4, Some(Register8::L), None),
 ];
 
-fn is_flag(found: Option<FlagFact>, wanted: Option<FlagFact>) -> bool {
-    match (found, wanted) {
-        (Some(FlagFact::Zero(register)), Some(FlagFact::Zero(of))) => register == of,
-        (Some(FlagFact::Compared(byte)), Some(FlagFact::Compared(with))) => byte == with,
-        (None, None) => true,
-        _ => false,
+fn is_flag(certificate: &Certificate, id: u32, zero: Option<Register8>, with: Option<u8>) -> bool {
+    match certificate.flag(id) {
+        Some(Some(FlagFact::Zero(register))) => zero.is_some_and(|own| own == register),
+        Some(Some(FlagFact::Compared(byte))) => with == Some(byte),
+        Some(None) => zero.is_none() && with.is_none(),
+        None => false,
     }
-}
-
-#[test]
-fn of_flags(rt: HostRuntime) -> Result<(), Fail> {
-    let c = every_form(rt.alloc())?;
-    for &(id, flag) in FLAGS {
-        let is_told = c.flag(id).is_some_and(|found| is_flag(found, flag));
-        assert!(rt; is_told, "the flag of row {id}");
-    }
-    Ok(())
 }
 
 /// A word: a register pair, or the slot with this number.
 #[derive(Clone, Copy)]
 enum Word {
-    Of(RegPair),
-    Slot(usize),
+    At(RegPair),
+    Pushed(usize),
 }
 
-/// The bounds of a full word, of its high byte and of its low byte.
-const ANY: [u16; 6] = [0, 0xFFFF, 0, 0xFF, 0, 0xFF];
+/// The bounds of a word, of its high byte and of its low byte.
+type Bounds = [u16; 6];
 
-/// The number of a row, a word, the bounds of the word, of its high byte and of its low byte, and the origin.
-const WORDS: &[(u32, Word, [u16; 6], Option<RegPair>)] = &[
-    (1, Of(Af), [0x12, 0xFFED, 0x01, 0xFE, 0x13, 0xEC], Some(Hl)),
-    (1, Of(Bc), ANY, Some(Af)),
-    (1, Of(De), [1, 2, 3, 4, 5, 6], None),
-    (1, Of(AlternateHl), ANY, Some(AlternateBc)),
-    (
-        1,
-        Slot(0),
-        [0x1234, 0x5678, 0x12, 0x56, 0x34, 0x78],
-        Some(Ix),
-    ),
-    (1, Slot(1), ANY, None),
-    (2, Slot(1), ANY, Some(AlternateDe)),
+const ANY: Bounds = [0, 0xFFFF, 0, 0xFF, 0, 0xFF];
+
+const OF_AF: Bounds = [0x12, 0xFFED, 0x01, 0xFE, 0x13, 0xEC];
+
+const OF_SLOT: Bounds = [0x1234, 0x5678, 0x12, 0x56, 0x34, 0x78];
+
+/// The number of a row, a word, its bounds, and the origin.
+const WORDS: &[(u32, Word, Bounds, Option<RegPair>)] = &[
+    (1, At(Af), OF_AF, Some(RegPair::Hl)),
+    (1, At(RegPair::Bc), ANY, Some(Af)),
+    (1, At(RegPair::De), [1, 2, 3, 4, 5, 6], None),
+    (1, At(AlternateHl), ANY, Some(AlternateBc)),
+    (1, Pushed(0), OF_SLOT, Some(RegPair::Ix)),
+    (1, Pushed(1), ANY, None),
+    (2, Pushed(1), ANY, Some(AlternateDe)),
 ];
 
 fn pair_at(certificate: &Certificate, id: u32, word: Word) -> Option<Pair> {
     match word {
-        Of(pair) => Some(certificate.pairs(id)?.pair(pair)),
-        Slot(number) => Some(certificate.shape(id)?.slots().get(number)?.pair),
+        At(pair) => Some(certificate.pairs(id)?.pair(pair)),
+        Pushed(number) => Some(certificate.shape(id)?.slots().get(number)?.pair),
     }
 }
 
-fn bounds_of(pair: &Pair) -> [u16; 6] {
+fn bounds_of(pair: &Pair) -> Bounds {
     [
         pair.word.low(),
         pair.word.high(),
@@ -258,132 +230,85 @@ fn bounds_of(pair: &Pair) -> [u16; 6] {
     ]
 }
 
-fn is_known(found: Option<Pair>, bounds: [u16; 6], origin: Option<RegPair>) -> bool {
-    match found {
-        Some(pair) => {
-            bounds_of(&pair) == bounds && pair.is_full() == (bounds == ANY) && pair.origin == origin
-        }
-        None => false,
-    }
+fn is_known(found: Option<Pair>, bounds: Bounds, origin: Option<RegPair>) -> bool {
+    found.is_some_and(|pair| {
+        bounds_of(&pair) == bounds && pair.is_full() == (bounds == ANY) && pair.origin == origin
+    })
 }
 
-#[test]
-fn of_words(rt: HostRuntime) -> Result<(), Fail> {
-    let c = every_form(rt.alloc())?;
-    for &(id, word, bounds, origin) in WORDS {
-        let found = pair_at(&c, id, word);
-        assert!(rt; is_known(found, bounds, origin), "{bounds:?} of {id}");
-    }
-    Ok(())
-}
-
-/// A fact of a row, by its place, or the row's potential.
-#[derive(Clone, Copy)]
-enum Sum {
-    Fact(u32, usize),
-    Potential(u32),
-}
-
-/// The variable of a term: a register, a pair, or a part of the slot with this number.
-#[derive(Clone, Copy)]
-enum Counted {
-    A,
-    B,
-    E,
-    Bc,
-    Hl,
-    Iy,
-    Slot(u8, Part),
-}
-
-/// A linear, its constant, and its terms.
-const SUMS: &[(Sum, i32, &[(i32, Counted)])] = &[
-    (Sum::Fact(2, 0), -5, &[(2, Counted::B), (-3, Counted::Hl)]),
-    (Sum::Fact(2, 1), 7, &[]),
+/// The number of a row, the place of a fact (none: the potential), and the linear.
+const SUMS: &[(u32, Option<usize>, Sum)] = &[
+    (2, Some(0), (-5, &[(2, B), (-3, Hl)])),
+    (2, Some(1), (7, &[])),
     (
-        Sum::Fact(2, 2),
-        0,
-        &[
-            (1, Counted::Slot(0, Part::High)),
-            (-1_000_000, Counted::Slot(1, Part::Low)),
-        ],
+        2,
+        Some(2),
+        (
+            0,
+            &[(1, Slot(0, Part::High)), (-1_000_000, Slot(1, Part::Low))],
+        ),
     ),
-    (Sum::Fact(4, 0), 1, &[(-2, Counted::E)]),
+    (4, Some(0), (1, &[(-2, E)])),
     (
-        Sum::Potential(3),
-        -1_000_000_000,
-        &[(999_999, Counted::A), (-1, Counted::Bc), (4, Counted::Iy)],
+        3,
+        None,
+        (-1_000_000_000, &[(999_999, A), (-1, Bc), (4, Iy)]),
     ),
-    (Sum::Potential(4), 15, &[(13, Counted::Slot(0, Part::Word))]),
+    (4, None, (15, &[(13, Slot(0, Part::Word))])),
 ];
 
-fn linear_of(certificate: &Certificate, sum: Sum) -> Option<Linear> {
-    match sum {
-        Sum::Fact(id, place) => certificate.facts(id)?.as_slice().get(place).copied(),
-        Sum::Potential(id) => certificate.potential(id)?,
-    }
-}
-
-fn is_counted(variable: Variable, counted: Counted) -> bool {
-    match counted {
-        Counted::A => variable == Variable::A,
-        Counted::B => variable == Variable::B,
-        Counted::E => variable == Variable::E,
-        Counted::Bc => variable == Variable::Bc,
-        Counted::Hl => variable == Variable::Hl,
-        Counted::Iy => variable == Variable::Iy,
-        Counted::Slot(number, part) => match variable {
-            Variable::Slot(slot, of) => slot.number() == number && of == part,
+fn has_sum(certificate: &Certificate, id: u32, place: Option<usize>, sum: Sum) -> bool {
+    match place {
+        Some(place) => certificate.facts(id).is_some_and(|facts| {
+            facts
+                .as_slice()
+                .get(place)
+                .is_some_and(|fact| is_sum(fact, sum))
+        }),
+        None => match certificate.potential(id) {
+            Some(Some(potential)) => is_sum(&potential, sum),
             _ => false,
         },
     }
 }
 
-fn are_terms(found: &[Term], wanted: &[(i32, Counted)]) -> bool {
-    found.len() == wanted.len()
-        && found.iter().zip(wanted).all(|(term, (coefficient, counted))| {
-            term.coefficient == *coefficient && is_counted(term.variable, *counted)
+/// A procedure, an address, the first row from there on, and how many rows the address has.
+const PLACES: &[(u16, u16, u32, u32)] = &[
+    (0, 0x3, 1, 2),
+    (0, 0x4, 3, 0),
+    (3, 0x100, 4, 1),
+    (3, 0x101, 5, 0),
+];
+
+/// Whether these are so many rows, and where there are any, this is the first of them.
+fn are_from(rows: Range<u32>, first: u32, count: u32) -> bool {
+    rows.end.saturating_sub(rows.start) == count && (count == 0 || rows.start == first)
+}
+
+fn are_places(certificate: &Certificate) -> bool {
+    are_from(certificate.rows_of(1), 3, 1)
+        && PLACES.iter().all(|&(proc, address, first, count)| {
+            certificate.rows_from(proc, address) == first
+                && are_from(certificate.rows_at(proc, address), first, count)
         })
 }
 
 #[test]
-fn of_sums(rt: HostRuntime) -> Result<(), Fail> {
-    let c = every_form(rt.alloc())?;
-    for (place, &(sum, constant, terms)) in SUMS.iter().enumerate() {
-        let is_found = match linear_of(&c, sum) {
-            Some(linear) => linear.constant() == constant && are_terms(linear.terms(), terms),
-            None => false,
-        };
-        assert!(rt; is_found, "sum {place}, {constant} and terms");
+fn of_every_form(rt: HostRuntime) -> Result<(), Fail> {
+    let c = read(rt.alloc(), EVERY_FORM.as_bytes())?;
+    let are_right = are_procs(&c) && are_lists(&c) && are_rows(&c) && are_places(&c);
+    assert!(rt; are_right, "procedures, lists, rows or places");
+    for &(id, zero, with) in FLAGS {
+        assert!(rt; is_flag(&c, id, zero, with), "the flag of row {id}");
     }
-    Ok(())
-}
-
-/// A procedure, an address, the first row from there on, and the rows at the address, if there are any.
-const PLACES: &[(u16, u16, u32, Option<(u32, u32)>)] = &[
-    (0, 0x3, 1, Some((1, 3))),
-    (0, 0x4, 3, None),
-    (3, 0x100, 4, Some((4, 5))),
-    (3, 0x101, 5, None),
-];
-
-/// The first row of a range, and the row after its last, if it has any.
-fn ends_of(rows: Range<u32>) -> Option<(u32, u32)> {
-    if rows.start == rows.end {
-        None
-    } else {
-        Some((rows.start, rows.end))
+    for &(id, word, bounds, origin) in WORDS {
+        assert!(rt;
+            is_known(pair_at(&c, id, word), bounds, origin),
+            "{bounds:?} of {id}"
+        );
     }
-}
-
-#[test]
-fn of_places(rt: HostRuntime) -> Result<(), Fail> {
-    let c = every_form(rt.alloc())?;
-    for &(proc, address, first, rows) in PLACES {
-        let (from, at) = (c.rows_from(proc, address), c.rows_at(proc, address));
-        assert!(rt; from == first, "from {address} of {proc}");
-        assert!(rt; ends_of(at) == rows, "at {address} of {proc}");
+    for &(id, place, sum) in SUMS {
+        assert!(rt; has_sum(&c, id, place, sum), "{place:?} of {id}");
     }
-    assert!(rt; ends_of(c.rows_of(1)) == Some((3, 4)), "of procedure 1");
     Ok(())
 }

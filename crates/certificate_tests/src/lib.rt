@@ -1,4 +1,5 @@
 // The tests of certificates: their texts both ways, whole and in pieces, their parts, their limits, and refused memory.
+// Those of faults and of migration that the program can show are in tests/cases.
 #![tactic(auto)]
 
 #[cfg(test)]
@@ -10,6 +11,8 @@ mod fields;
 #[cfg(test)]
 mod limits;
 #[cfg(test)]
+mod linears;
+#[cfg(test)]
 mod memory;
 #[cfg(test)]
 mod parts;
@@ -17,3 +20,5 @@ mod parts;
 mod pieces;
 #[cfg(test)]
 mod samples;
+#[cfg(test)]
+mod told;

@@ -1,4 +1,4 @@
-// Counts at their limits and above.
+// Counts at their limits and above, where it takes a long text. Others are in tests/cases.
 
 use Many::{Lines, Same};
 use certificate::CertFault::{self, Limit, Line};
@@ -13,9 +13,7 @@ macro_rules! head {
     };
 }
 
-/// Three heads of a text: with a row at 0003 up to its last four fields; up to its first slot; and that in mode `u`.
-const ROW: &str = head!("row 0 0003 s * * * * * * * * * * ");
-
+/// Two heads of a text: with a row at 0003 up to its first slot, and that in mode `u`.
 const SLOTS: &str = head!("row 0 0003 s * * * * * * * * * * - - *");
 
 const UNSET: &str = head!("row 0 0003 u * * * * * * * * * * - - *");
@@ -23,6 +21,11 @@ const UNSET: &str = head!("row 0 0003 u * * * * * * * * * * - - *");
 /// The first lines of a text of version 2.
 const TWO: &str =
     "galcert 2\nrom 6\nmap galaxian\nstack 4380 4400\nbudget -\nproc main 0000 0 0 -\n";
+
+/// The first lines of a text of version 3, with a row at 0003 up to its first flag part.
+const PARTS: &str =
+    "galcert 3\nrom 6\nmap galaxian\nstack 4380 4400\nbudget -\nproc main 0000 0 0 -\n\
+    row 0 0003 s 0 * * * * * * * * * * z0";
 
 /// A whole row at 0003, and one at 0002.
 const PLAIN: &str = "row 0 0003 s * * * * * * * * * * - - - -\n";
@@ -37,8 +40,6 @@ enum Many {
     /// Lines with rising hexadecimal numbers: the text before, the first number, the count, and the text after.
     Lines(&'static str, u16, u16, &'static str),
 }
-
-const NONE: Many = Same("", 0);
 
 /// The head of a text, what is repeated, and the end; then its fault, or None if it is a certificate.
 type Case = (&'static str, Many, &'static str, Option<CertFault>);
@@ -62,19 +63,6 @@ const COUNTS: &[Case] = &[
     // Cells
     (TWO, Lines("cell", 0x4000, 256, " 00 01"), "end\n", None),
     (TWO, Lines("cell", 0x4000, 257, " 00 01"), "", Some(Limit)),
-    (TWO, Lines("cell", 0x43FF, 1, " 00 01"), "end\n", None),
-    (
-        TWO,
-        Lines("cell", 0x4400, 1, " 00 01"),
-        "end\n",
-        Some(Line(7)),
-    ),
-    (
-        TWO,
-        Lines("cell", 0x3FFF, 1, " 00 01"),
-        "end\n",
-        Some(Line(7)),
-    ),
     // Slots: one, and this many more
     (SLOTS, Same(",*", 63), " -\nend\n", None),
     (SLOTS, Same(",*", 64), " -\nend\n", Some(Limit)),
@@ -82,15 +70,8 @@ const COUNTS: &[Case] = &[
     (UNSET, Same(",*", 64), " -\nend\n", Some(Line(6))),
     // The rest of the line has to be in form
     (SLOTS, Same(",*", 64), " +1\nend\n", Some(Line(6))),
-    // Facts and terms; the size of a number is no count
-    (ROW, NONE, "- 1+1*A,2,3,4 - -\nend\n", None),
-    (ROW, NONE, "- 1+1*A,2,3,4,5 - -\nend\n", Some(Limit)),
-    (ROW, NONE, "- - - 1+1*A+1*B+1*C\nend\n", None),
-    (ROW, NONE, "- - - 1+1*A+1*B+1*C+1*D\nend\n", Some(Limit)),
-    (ROW, NONE, "- - - 1+1*A+1*B+1*C+1*C\nend\n", Some(Line(6))),
-    (ROW, NONE, "- - - 1000000000+1000000*A\nend\n", None),
-    (ROW, NONE, "- - - 1000000001\nend\n", Some(Line(6))),
-    (ROW, NONE, "- - - 0+1000001*A\nend\n", Some(Line(6))),
+    // Flag parts: one, and this many more
+    (PARTS, Same(",b1-1*A", 1_000), " - - -\nend\n", Some(Limit)),
 ];
 
 /// Rows. These take long if a test is not compiled.
@@ -100,8 +81,10 @@ const ROWS: &[Case] = &[
     (head!(""), Same(PLAIN, 65_535), FALLING, Some(Line(65_541))),
 ];
 
-/// Appends what is repeated.
-fn add_many(text: &mut String, alloc: Global, many: Many) -> Result<(), AllocError> {
+/// The text of a case.
+fn text_of(alloc: Global, case: &Case) -> Result<String, AllocError> {
+    let &(head, many, end, _) = case;
+    let mut text = String::from_str(alloc, head)?;
     match many {
         Same(piece, count) => {
             for _ in 0..count {
@@ -116,14 +99,6 @@ fn add_many(text: &mut String, alloc: Global, many: Many) -> Result<(), AllocErr
             }
         }
     }
-    Ok(())
-}
-
-/// The text of a case.
-fn text_of(alloc: Global, case: &Case) -> Result<String, AllocError> {
-    let &(head, many, end, _) = case;
-    let mut text = String::from_str(alloc, head)?;
-    add_many(&mut text, alloc, many)?;
     text.push_str(end)?;
     Ok(text)
 }

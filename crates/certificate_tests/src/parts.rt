@@ -1,14 +1,14 @@
 // Certificates made of parts.
 
+use crate::both_ways::is_written_as;
 use crate::samples::{EVERY_FORM, JUMP, ROUTINE};
 use abs_state::KeptCell;
 use address_map::Region;
 use certificate::BoardMap::{self, Galaxian, Raised};
 use certificate::CertFault::{self, Limit, Line};
 use certificate::Version::{self, One, Two};
-use certificate::{Certificate, Parts, Proc, ProcKind, Row, Split, read, write};
+use certificate::{Certificate, Parts, Proc, ProcKind, Row, Split, read};
 use intervals::ByteRange;
-use memory_devices::Taken;
 use std::alloc::{AllocError, Global};
 use std::test::Fail;
 use z80_decode::Register8;
@@ -47,21 +47,12 @@ pub fn parts_of(alloc: Global, certificate: &Certificate) -> Result<Parts, Alloc
     })
 }
 
-/// Texts whose certificates are made again from their parts and written.
-const TEXTS: &[&str] = &[JUMP, ROUTINE, EVERY_FORM];
-
-/// Whether the certificate made of a text's parts is written as this text.
-fn is_made_again(alloc: Global, text: &str) -> Result<bool, Fail> {
-    let certificate = read(alloc, text.as_bytes())?;
-    let made = Certificate::of(alloc, parts_of(alloc, &certificate)?)?;
-    let mut out = Taken::new(alloc);
-    Ok(write(&made, &mut out).is_ok() && out.bytes.as_slice() == text.as_bytes())
-}
-
 #[test]
 fn made_again(rt: HostRuntime) -> Result<(), Fail> {
-    for text in TEXTS {
-        assert!(rt; is_made_again(rt.alloc(), text)?, "of {text}");
+    for &text in &[JUMP, ROUTINE, EVERY_FORM] {
+        let certificate = read(rt.alloc(), text.as_bytes())?;
+        let made = Certificate::of(rt.alloc(), parts_of(rt.alloc(), &certificate)?)?;
+        assert!(rt; is_written_as(rt.alloc(), &made, 4096, text), "of {text}");
     }
     Ok(())
 }

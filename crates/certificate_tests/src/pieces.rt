@@ -4,7 +4,6 @@ ghost use Rattle.std.specs.Prelude.{None};
 
 use certificate::{DeviceFault, ReadFault, Source, read_from};
 use memory_devices::Bytes;
-use std::alloc::Global;
 
 /// What a source gives at its first call; it fails at the second one. Then the fault, and how many calls there were.
 const FAILING: &[(&str, ReadFault, u64)] = &[
@@ -15,18 +14,15 @@ const FAILING: &[(&str, ReadFault, u64)] = &[
     ("galcert 1\nrom 06\nsta", ReadFault::Line(2), 1),
 ];
 
-/// The fault for a source that gives this at its first call and fails at the second, and how many calls there were.
-fn asked_behind(alloc: Global, first: &str) -> (Option<ReadFault>, u64) {
-    let mut input = Bytes::failing(first.as_bytes(), 4096, 1);
-    let fault = read_from(alloc, &mut input).err();
-    (fault, input.asked())
-}
-
 #[test]
 fn a_source_that_fails(rt: HostRuntime) {
     for &(first, fault, asked) in FAILING {
-        let found = asked_behind(rt.alloc(), first);
-        assert!(rt; found == (Some(fault), asked), "behind {first}");
+        let mut input = Bytes::failing(first.as_bytes(), 4096, 1);
+        let found = read_from(rt.alloc(), &mut input).err();
+        assert!(rt;
+            found == Some(fault) && input.asked() == asked,
+            "behind {first}"
+        );
     }
 }
 
@@ -51,20 +47,13 @@ impl Source for SameBytes {
     }
 }
 
-/// The byte of an endless source, and the fault.
-const ENDLESS: &[(u8, ReadFault)] = &[(b' ', ReadFault::Line(1)), (b'\n', ReadFault::Line(1))];
-
-/// The fault for an endless source of this byte, and whether no more was taken than a line and one read.
-fn endless_of(alloc: Global, byte: u8) -> (Option<ReadFault>, bool) {
-    let mut input = SameBytes { byte, given: 0 };
-    let fault = read_from(alloc, &mut input).err();
-    (fault, input.given <= 1_048_576 + 4_096)
-}
-
+/// No more is taken than a line and one read.
 #[test]
 fn no_end(rt: HostRuntime) {
-    for &(byte, fault) in ENDLESS {
-        let found = endless_of(rt.alloc(), byte);
-        assert!(rt; found == (Some(fault), true), "of {byte}");
+    for &byte in b" \n" {
+        let mut input = SameBytes { byte, given: 0 };
+        let found = read_from(rt.alloc(), &mut input).err();
+        let is_told = found == Some(ReadFault::Line(1)) && input.given <= 1_048_576 + 4_096;
+        assert!(rt; is_told, "of {byte}");
     }
 }

@@ -1,17 +1,17 @@
-// The tests of the writer: worked rows, families of ROMs, version 3, refusals, refused memory, and certificates made of
-// parts.
+// The tests of the writer: families of ROMs, the rows of one, a limit, version 3, refused memory, and certificates made
+// of parts. Those that the program can show are in tests/cases/writer.toml.
 #![tactic(auto)]
 
 #[cfg(test)]
 mod families;
+#[cfg(test)]
+mod limits;
 #[cfg(test)]
 mod made;
 #[cfg(test)]
 mod memory;
 #[cfg(test)]
 mod parts_written;
-#[cfg(test)]
-mod refused;
 #[cfg(test)]
 mod roms;
 #[cfg(test)]

@@ -69,8 +69,6 @@ pub fn accepted(
 pub enum Why {
     /// The address and the number of the reported reason.
     Refused(u16, u8),
-    Recursion(&'static [u16]),
-    LoopUnbounded(u16),
     Limit,
 }
 
@@ -80,9 +78,6 @@ pub fn is_refused(written: &Result<Certificate, WriterFault>, why: Why) -> bool 
         (Err(WriterFault::Refused(refused)), Why::Refused(address, number)) => {
             refused.address == address && refused.reason.number() == number
         }
-        (Err(WriterFault::Recursion(found)), Why::Recursion(entries)) => found.as_slice()
-            == entries,
-        (Err(WriterFault::LoopUnbounded(found)), Why::LoopUnbounded(address)) => *found == address,
         (Err(WriterFault::Limit), Why::Limit) => true,
         _ => false,
     }
