@@ -11,3 +11,5 @@ mod ranges;
 mod reads;
 #[cfg(test)]
 mod sample;
+#[cfg(test)]
+mod sinks;

@@ -161,49 +161,57 @@ fn registers(rt: HostRuntime) -> Result<(), Fail> {
     Ok(())
 }
 
+/// Coefficients, and the names of their variables.
+type Terms = &'static [(i32, &'static str)];
+
+/// The variable of a name. `s12` is a slot, and `s12h` its high byte.
+fn variable_of(name: &str) -> Option<Variable> {
+    Some(match name {
+        "A" => Variable::A,
+        "B" => Variable::B,
+        "C" => Variable::C,
+        "D" => Variable::D,
+        "E" => Variable::E,
+        "L" => Variable::L,
+        "BC" => Variable::Bc,
+        "DE" => Variable::De,
+        "HL" => Variable::Hl,
+        "s12" => Variable::Slot(SlotNumber::new(12)?, Part::Word),
+        "s12h" => Variable::Slot(SlotNumber::new(12)?, Part::High),
+        _ => return None,
+    })
+}
+
 /// A linear with these terms. None if they are not in order.
-fn linear(constant: i32, terms: &[(i32, Variable)]) -> Option<Linear> {
+fn linear(constant: i32, terms: Terms) -> Option<Linear> {
     let mut linear = Linear::of_constant(constant)?;
-    for (coefficient, variable) in terms {
+    for (coefficient, name) in terms {
         linear = linear.with_term(Term {
             coefficient: *coefficient,
-            variable: *variable,
+            variable: variable_of(name)?,
         })?;
     }
     Some(linear)
 }
 
 /// The constant and the terms of a fact, and its text.
-const FACTS: &[(i32, &[(i32, Variable)], &str)] = &[
+const FACTS: &[(i32, Terms, &str)] = &[
     // Facts of words.
-    (
-        -17328,
-        &[(1, Variable::Bc), (1, Variable::De)],
-        "BC + DE = 43B0",
-    ),
-    (
-        -16481,
-        &[(2, Variable::B), (1, Variable::De)],
-        "2*B + DE = 4061",
-    ),
-    (
-        16481,
-        &[(-2, Variable::B), (-1, Variable::De)],
-        "2*B + DE = 4061",
-    ),
-    (-255, &[(1, Variable::Hl)], "HL = 255"),
-    (-256, &[(1, Variable::Hl)], "HL = 0100"),
-    (256, &[(1, Variable::Hl)], "HL = -256"),
+    (-17328, &[(1, "BC"), (1, "DE")], "BC + DE = 43B0"),
+    (-16481, &[(2, "B"), (1, "DE")], "2*B + DE = 4061"),
+    (16481, &[(-2, "B"), (-1, "DE")], "2*B + DE = 4061"),
+    (-255, &[(1, "HL")], "HL = 255"),
+    (-256, &[(1, "HL")], "HL = 0100"),
+    (256, &[(1, "HL")], "HL = -256"),
     // Facts of bytes.
-    (-300, &[(3, Variable::A), (1, Variable::L)], "3*A + L = 300"),
-    (-3, &[(1, Variable::A), (-1, Variable::B)], "A - B = 3"),
-    (3, &[(-1, Variable::A), (1, Variable::B)], "B - A = -3"),
-    (
-        0,
-        &[(-2, Variable::C), (1, Variable::D), (-1, Variable::E)],
-        "D - 2*C - E = 0",
-    ),
+    (-300, &[(3, "A"), (1, "L")], "3*A + L = 300"),
+    (-3, &[(1, "A"), (-1, "B")], "A - B = 3"),
+    (3, &[(-1, "A"), (1, "B")], "B - A = -3"),
+    (0, &[(-2, "C"), (1, "D"), (-1, "E")], "D - 2*C - E = 0"),
     (-5, &[], "0 = 5"),
+    // Facts of slots.
+    (-256, &[(1, "B"), (1, "s12h")], "B + s12h = 256"),
+    (-256, &[(1, "s12")], "s12 = 0100"),
 ];
 
 #[test]
@@ -215,23 +223,6 @@ fn facts(rt: HostRuntime) -> Result<(), Fail> {
         let text = fact_text(rt.alloc(), &fact)?;
         assert!(rt; text.as_str() == *expected, "{text} for {expected}");
     }
-    Ok(())
-}
-
-#[test]
-fn facts_of_slots(rt: HostRuntime) -> Result<(), Fail> {
-    let Some(slot) = SlotNumber::new(12) else {
-        return Err(Fail::new("no slot"));
-    };
-    let terms = [(1, Variable::B), (1, Variable::Slot(slot, Part::High))];
-    let Some(fact) = linear(-256, &terms) else {
-        return Err(Fail::new("no linear"));
-    };
-    assert!(rt; fact_text(rt.alloc(), &fact)?.as_str() == "B + s12h = 256");
-    let Some(fact) = linear(-256, &[(1, Variable::Slot(slot, Part::Word))]) else {
-        return Err(Fail::new("no linear"));
-    };
-    assert!(rt; fact_text(rt.alloc(), &fact)?.as_str() == "s12 = 0100");
     Ok(())
 }
 
@@ -249,30 +240,30 @@ fn flags(rt: HostRuntime) -> Result<(), Fail> {
 }
 
 /// The letter, the constant and the terms of a flag part, and its text.
-const FLAG_PARTS: &[(Letter, i32, &[(i32, Variable)], &str)] = &[
-    (Letter::CarryIfBelow, -64, &[(1, Variable::L)], "C: L < 40"),
-    (Letter::Zero, -64, &[(1, Variable::L)], "Z: L = 40"),
-    (Letter::Zero, 0, &[(1, Variable::Bc)], "Z: BC = 0"),
-    (Letter::Zero, -5, &[(1, Variable::Hl)], "Z: HL = 0005"),
-    (Letter::ZeroIfBelow, -128, &[(1, Variable::A)], "Z: A < 80"),
+const FLAG_PARTS: &[(Letter, i32, Terms, &str)] = &[
+    (Letter::CarryIfBelow, -64, &[(1, "L")], "C: L < 40"),
+    (Letter::Zero, -64, &[(1, "L")], "Z: L = 40"),
+    (Letter::Zero, 0, &[(1, "BC")], "Z: BC = 0"),
+    (Letter::Zero, -5, &[(1, "HL")], "Z: HL = 0005"),
+    (Letter::ZeroIfBelow, -128, &[(1, "A")], "Z: A < 80"),
     (
         Letter::CarryIfBelow,
         0,
-        &[(1, Variable::A), (-1, Variable::B)],
+        &[(1, "A"), (-1, "B")],
         "C: A - B < 0",
     ),
     (
         Letter::CarryIfBelow,
         -300,
-        &[(2, Variable::A), (1, Variable::C)],
+        &[(2, "A"), (1, "C")],
         "C: 2*A + C < 300",
     ),
     // The sign is turned where no term is positive: 127 - A is below 0 where A is above 127.
-    (Letter::SignIfBelow, 127, &[(-1, Variable::A)], "S: A > 7F"),
-    (Letter::CarryIfBelow, 191, &[(-1, Variable::A)], "C: A > BF"),
-    (Letter::Zero, 3, &[(-1, Variable::B)], "Z: B = 03"),
+    (Letter::SignIfBelow, 127, &[(-1, "A")], "S: A > 7F"),
+    (Letter::CarryIfBelow, 191, &[(-1, "A")], "C: A > BF"),
+    (Letter::Zero, 3, &[(-1, "B")], "Z: B = 03"),
     // A is never below a negative number. A part without variables says what the flag is.
-    (Letter::CarryIfBelow, 5, &[(1, Variable::A)], "C: A < -5"),
+    (Letter::CarryIfBelow, 5, &[(1, "A")], "C: A < -5"),
     (Letter::CarryIfBelow, 0, &[], "C clear"),
     (Letter::CarryIfBelow, -1, &[], "C set"),
     (Letter::Zero, 0, &[], "Z set"),
