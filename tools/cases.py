@@ -15,7 +15,9 @@ import tomllib
 
 ROOT = pathlib.Path(__file__).resolve().parent.parent
 CASES = ROOT / "tests/cases"
-KEYS = {"name", "args", "files", "status", "stdout", "starts", "has", "lacks", "stderr", "stderr_has", "writes"}
+KEYS = {"name", "args", "files", "status", "stdout", "starts", "has", "lacks", "stderr", "stderr_has", "writes", "then"}
+# What a further command of a case may say.
+THEN_KEYS = KEYS - {"name", "files", "then"}
 SECONDS = 60
 
 
@@ -71,44 +73,53 @@ def lines_that_differ(wanted, found):
     return "\n".join(difflib.unified_diff(wanted.split("\n"), found.split("\n"), "wanted", "found", lineterm="", n=1))
 
 
+def told(galcert, command, shared, room):
+    """What is wrong with the program's answer to one command in a folder, if anything is."""
+    if not {"stdout", "starts", "has"} & set(command):
+        raise BadCase("it says nothing of standard output")
+    words = command["args"].split() if isinstance(command["args"], str) else command["args"]
+    how = {"cwd": room, "stdin": subprocess.DEVNULL, "capture_output": True, "timeout": SECONDS}
+    ran = subprocess.run([galcert, *words], **how)
+    out, err = ran.stdout.decode(errors="replace"), ran.stderr.decode(errors="replace")
+    wrong = []
+    if ran.returncode != command.get("status", 0):
+        wrong.append(f"status {ran.returncode}, and not {command.get('status', 0)}")
+    wanted = command.get("stdout", out)
+    if isinstance(wanted, dict):
+        wanted = file_of(wanted, shared).decode()
+    if out != wanted:
+        wrong.append(lines_that_differ(wanted, out))
+    if not out.startswith(command.get("starts", "")):
+        wrong.append(f"standard output starts {out[:200]!r}")
+    wrong += [f"standard output has no {it!r}" for it in command.get("has", []) if it not in out]
+    wrong += [f"standard output has {it!r}" for it in command.get("lacks", []) if it in out]
+    if "stderr" in command and err != command["stderr"]:
+        wrong.append("standard error: " + lines_that_differ(command["stderr"], err))
+    wrong += [f"standard error has no {it!r}" for it in command.get("stderr_has", []) if it not in err]
+    for name, said in command.get("writes", {}).items():
+        path = pathlib.Path(room, name)
+        if said is False:
+            wrong += [f"there is a file {name}"] * path.exists()
+        elif not path.exists():
+            wrong.append(f"there is no file {name}")
+        elif path.read_bytes() != file_of(said, shared):
+            wrong.append(f"{name}: " + lines_that_differ(file_of(said, shared).decode(errors="replace"), path.read_text(errors="replace")))
+    return wrong
+
+
 def run(galcert, case, shared):
-    """What is wrong with the program's answer to a case, if anything is."""
-    unknown = set(case) - KEYS
+    """What is wrong with the program's answers to a case, if anything is. It ends at the first command that differs."""
+    unknown = set(case) - KEYS | {key for it in case.get("then", []) for key in set(it) - THEN_KEYS}
     if unknown or not {"name", "args"} <= set(case):
         raise BadCase(f"keys that no case has, or none of name and args: {sorted(unknown)}")
-    if not {"stdout", "starts", "has"} & set(case):
-        raise BadCase("it says nothing of standard output")
     with tempfile.TemporaryDirectory(prefix="galcert-case-") as room:
         for name, said in case.get("files", {}).items():
             pathlib.Path(room, name).write_bytes(file_of(said, shared))
-        words = case["args"].split() if isinstance(case["args"], str) else case["args"]
-        how = {"cwd": room, "stdin": subprocess.DEVNULL, "capture_output": True, "timeout": SECONDS}
-        ran = subprocess.run([galcert, *words], **how)
-        out, err = ran.stdout.decode(errors="replace"), ran.stderr.decode(errors="replace")
-        wrong = []
-        if ran.returncode != case.get("status", 0):
-            wrong.append(f"status {ran.returncode}, and not {case.get('status', 0)}")
-        wanted = case.get("stdout", out)
-        if isinstance(wanted, dict):
-            wanted = file_of(wanted, shared).decode()
-        if out != wanted:
-            wrong.append(lines_that_differ(wanted, out))
-        if not out.startswith(case.get("starts", "")):
-            wrong.append(f"standard output starts {out[:200]!r}")
-        wrong += [f"standard output has no {it!r}" for it in case.get("has", []) if it not in out]
-        wrong += [f"standard output has {it!r}" for it in case.get("lacks", []) if it in out]
-        if "stderr" in case and err != case["stderr"]:
-            wrong.append("standard error: " + lines_that_differ(case["stderr"], err))
-        wrong += [f"standard error has no {it!r}" for it in case.get("stderr_has", []) if it not in err]
-        for name, said in case.get("writes", {}).items():
-            path = pathlib.Path(room, name)
-            if said is False:
-                wrong += [f"there is a file {name}"] * path.exists()
-            elif not path.exists():
-                wrong.append(f"there is no file {name}")
-            elif path.read_bytes() != file_of(said, shared):
-                wrong.append(f"{name}: " + lines_that_differ(file_of(said, shared).decode(errors="replace"), path.read_text(errors="replace")))
-        return wrong
+        for command in [case, *case.get("then", [])]:
+            wrong = told(galcert, command, shared, room)
+            if wrong:
+                return wrong
+    return []
 
 
 def judge(galcert, suite, case, shared):

@@ -1,11 +1,8 @@
-// The tests of listings: a whole listing worked out by hand, the texts of ranges and facts, data reads, failing sinks, and
-// refused memory.
+// The tests of listings that no command shows: the texts of ranges and facts, data reads, failing sinks, and refused memory.
 #![tactic(auto)]
 
 #[cfg(test)]
 mod instructions;
-#[cfg(test)]
-mod lines;
 #[cfg(test)]
 mod memory;
 #[cfg(test)]
@@ -14,3 +11,5 @@ mod ranges;
 mod reads;
 #[cfg(test)]
 mod sample;
+#[cfg(test)]
+mod sinks;

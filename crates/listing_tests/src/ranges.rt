@@ -161,78 +161,68 @@ fn registers(rt: HostRuntime) -> Result<(), Fail> {
     Ok(())
 }
 
+/// Coefficients, and the names of their variables.
+type Terms = &'static [(i32, &'static str)];
+
+/// The variable of a name. `s12` is a slot, and `s12h` its high byte.
+fn variable_of(name: &str) -> Option<Variable> {
+    Some(match name {
+        "A" => Variable::A,
+        "B" => Variable::B,
+        "C" => Variable::C,
+        "D" => Variable::D,
+        "E" => Variable::E,
+        "L" => Variable::L,
+        "BC" => Variable::Bc,
+        "DE" => Variable::De,
+        "HL" => Variable::Hl,
+        "s12" => Variable::Slot(SlotNumber::new(12)?, Part::Word),
+        "s12h" => Variable::Slot(SlotNumber::new(12)?, Part::High),
+        _ => return None,
+    })
+}
+
 /// A linear with these terms. None if they are not in order.
-fn linear(constant: i32, terms: &[(i32, Variable)]) -> Option<Linear> {
+fn linear(constant: i32, terms: Terms) -> Option<Linear> {
     let mut linear = Linear::of_constant(constant)?;
-    for (coefficient, variable) in terms {
+    for (coefficient, name) in terms {
         linear = linear.with_term(Term {
             coefficient: *coefficient,
-            variable: *variable,
+            variable: variable_of(name)?,
         })?;
     }
     Some(linear)
 }
 
-/// Whether a fact with these terms has this text.
-fn is_fact(
-    alloc: Global,
-    constant: i32,
-    terms: &[(i32, Variable)],
-    expected: &str,
-) -> Result<bool, AllocError> {
-    match linear(constant, terms) {
-        Some(fact) => Ok(fact_text(alloc, &fact)?.as_str() == expected),
-        None => Ok(false),
+/// The constant and the terms of a fact, and its text.
+const FACTS: &[(i32, Terms, &str)] = &[
+    // Facts of words.
+    (-17328, &[(1, "BC"), (1, "DE")], "BC + DE = 43B0"),
+    (-16481, &[(2, "B"), (1, "DE")], "2*B + DE = 4061"),
+    (16481, &[(-2, "B"), (-1, "DE")], "2*B + DE = 4061"),
+    (-255, &[(1, "HL")], "HL = 255"),
+    (-256, &[(1, "HL")], "HL = 0100"),
+    (256, &[(1, "HL")], "HL = -256"),
+    // Facts of bytes.
+    (-300, &[(3, "A"), (1, "L")], "3*A + L = 300"),
+    (-3, &[(1, "A"), (-1, "B")], "A - B = 3"),
+    (3, &[(-1, "A"), (1, "B")], "B - A = -3"),
+    (0, &[(-2, "C"), (1, "D"), (-1, "E")], "D - 2*C - E = 0"),
+    (-5, &[], "0 = 5"),
+    // Facts of slots.
+    (-256, &[(1, "B"), (1, "s12h")], "B + s12h = 256"),
+    (-256, &[(1, "s12")], "s12 = 0100"),
+];
+
+#[test]
+fn facts(rt: HostRuntime) -> Result<(), Fail> {
+    for (constant, terms, expected) in FACTS {
+        let Some(fact) = linear(*constant, terms) else {
+            return Err(Fail::new("no linear"));
+        };
+        let text = fact_text(rt.alloc(), &fact)?;
+        assert!(rt; text.as_str() == *expected, "{text} for {expected}");
     }
-}
-
-#[test]
-fn facts_of_words(rt: HostRuntime) -> Result<(), Fail> {
-    let alloc = rt.alloc();
-    let (b, de, hl) = (Variable::B, Variable::De, Variable::Hl);
-    assert!(rt;
-        is_fact(
-            alloc,
-            -17328,
-            &[(1, Variable::Bc), (1, de)],
-            "BC + DE = 43B0"
-        )?
-    );
-    assert!(rt; is_fact(alloc, -16481, &[(2, b), (1, de)], "2*B + DE = 4061")?);
-    assert!(rt; is_fact(alloc, 16481, &[(-2, b), (-1, de)], "2*B + DE = 4061")?);
-    assert!(rt; is_fact(alloc, -255, &[(1, hl)], "HL = 255")?);
-    assert!(rt; is_fact(alloc, -256, &[(1, hl)], "HL = 0100")?);
-    assert!(rt; is_fact(alloc, 256, &[(1, hl)], "HL = -256")?);
-    Ok(())
-}
-
-#[test]
-fn facts_of_bytes(rt: HostRuntime) -> Result<(), Fail> {
-    let alloc = rt.alloc();
-    let (a, b, c) = (Variable::A, Variable::B, Variable::C);
-    assert!(rt; is_fact(alloc, -300, &[(3, a), (1, Variable::L)], "3*A + L = 300")?);
-    assert!(rt; is_fact(alloc, -3, &[(1, a), (-1, b)], "A - B = 3")?);
-    assert!(rt; is_fact(alloc, 3, &[(-1, a), (1, b)], "B - A = -3")?);
-    let terms = [(-2, c), (1, Variable::D), (-1, Variable::E)];
-    assert!(rt; is_fact(alloc, 0, &terms, "D - 2*C - E = 0")?);
-    assert!(rt; is_fact(alloc, -5, &[], "0 = 5")?);
-    Ok(())
-}
-
-#[test]
-fn facts_of_slots(rt: HostRuntime) -> Result<(), Fail> {
-    let Some(slot) = SlotNumber::new(12) else {
-        return Err(Fail::new("no slot"));
-    };
-    let terms = [(1, Variable::B), (1, Variable::Slot(slot, Part::High))];
-    let Some(fact) = linear(-256, &terms) else {
-        return Err(Fail::new("no linear"));
-    };
-    assert!(rt; fact_text(rt.alloc(), &fact)?.as_str() == "B + s12h = 256");
-    let Some(fact) = linear(-256, &[(1, Variable::Slot(slot, Part::Word))]) else {
-        return Err(Fail::new("no linear"));
-    };
-    assert!(rt; fact_text(rt.alloc(), &fact)?.as_str() == "s12 = 0100");
     Ok(())
 }
 
@@ -249,82 +239,51 @@ fn flags(rt: HostRuntime) -> Result<(), Fail> {
     Ok(())
 }
 
-/// Whether a flag part has this text.
-fn is_part(
-    alloc: Global,
-    letter: Letter,
-    constant: i32,
-    terms: &[(i32, Variable)],
-    expected: &str,
-) -> Result<bool, Fail> {
-    let Some(linear) = linear(constant, terms) else {
-        return Err(Fail::new("no linear"));
-    };
-    let text = part_text(alloc, &FlagPart { letter, linear })?;
-    Ok(text.as_str() == expected)
-}
+/// The letter, the constant and the terms of a flag part, and its text.
+const FLAG_PARTS: &[(Letter, i32, Terms, &str)] = &[
+    (Letter::CarryIfBelow, -64, &[(1, "L")], "C: L < 40"),
+    (Letter::Zero, -64, &[(1, "L")], "Z: L = 40"),
+    (Letter::Zero, 0, &[(1, "BC")], "Z: BC = 0"),
+    (Letter::Zero, -5, &[(1, "HL")], "Z: HL = 0005"),
+    (Letter::ZeroIfBelow, -128, &[(1, "A")], "Z: A < 80"),
+    (
+        Letter::CarryIfBelow,
+        0,
+        &[(1, "A"), (-1, "B")],
+        "C: A - B < 0",
+    ),
+    (
+        Letter::CarryIfBelow,
+        -300,
+        &[(2, "A"), (1, "C")],
+        "C: 2*A + C < 300",
+    ),
+    // The sign is turned where no term is positive: 127 - A is below 0 where A is above 127.
+    (Letter::SignIfBelow, 127, &[(-1, "A")], "S: A > 7F"),
+    (Letter::CarryIfBelow, 191, &[(-1, "A")], "C: A > BF"),
+    (Letter::Zero, 3, &[(-1, "B")], "Z: B = 03"),
+    // A is never below a negative number. A part without variables says what the flag is.
+    (Letter::CarryIfBelow, 5, &[(1, "A")], "C: A < -5"),
+    (Letter::CarryIfBelow, 0, &[], "C clear"),
+    (Letter::CarryIfBelow, -1, &[], "C set"),
+    (Letter::Zero, 0, &[], "Z set"),
+    (Letter::Zero, 7, &[], "Z clear"),
+    (Letter::SignIfBelow, -1, &[], "S set"),
+];
 
 #[test]
 fn flag_parts(rt: HostRuntime) -> Result<(), Fail> {
-    let alloc = rt.alloc();
-    let (a, b, l) = (Variable::A, Variable::B, Variable::L);
-    assert!(rt; is_part(alloc, Letter::CarryIfBelow, -64, &[(1, l)], "C: L < 40")?);
-    assert!(rt; is_part(alloc, Letter::Zero, -64, &[(1, l)], "Z: L = 40")?);
-    assert!(rt; is_part(alloc, Letter::Zero, 0, &[(1, Variable::Bc)], "Z: BC = 0")?);
-    assert!(rt;
-        is_part(
-            alloc,
-            Letter::Zero,
-            -5,
-            &[(1, Variable::Hl)],
-            "Z: HL = 0005"
-        )?
-    );
-    assert!(rt; is_part(alloc, Letter::ZeroIfBelow, -128, &[(1, a)], "Z: A < 80")?);
-    assert!(rt;
-        is_part(
-            alloc,
-            Letter::CarryIfBelow,
-            0,
-            &[(1, a), (-1, b)],
-            "C: A - B < 0"
-        )?
-    );
-    let terms = [(2, a), (1, Variable::C)];
-    assert!(rt;
-        is_part(
-            alloc,
-            Letter::CarryIfBelow,
-            -300,
-            &terms,
-            "C: 2*A + C < 300"
-        )?
-    );
-    Ok(())
-}
-
-/// The sign is turned where no term is positive: 127 - A is below 0 where A is above 127.
-#[test]
-fn turned_flag_parts(rt: HostRuntime) -> Result<(), Fail> {
-    let alloc = rt.alloc();
-    let (a, b) = (Variable::A, Variable::B);
-    assert!(rt; is_part(alloc, Letter::SignIfBelow, 127, &[(-1, a)], "S: A > 7F")?);
-    assert!(rt; is_part(alloc, Letter::CarryIfBelow, 191, &[(-1, a)], "C: A > BF")?);
-    assert!(rt; is_part(alloc, Letter::Zero, 3, &[(-1, b)], "Z: B = 03")?);
-    Ok(())
-}
-
-/// A is never below a negative number. A part without variables says what the flag is.
-#[test]
-fn known_flags(rt: HostRuntime) -> Result<(), Fail> {
-    let alloc = rt.alloc();
-    let below = [(1, Variable::A)];
-    assert!(rt; is_part(alloc, Letter::CarryIfBelow, 5, &below, "C: A < -5")?);
-    assert!(rt; is_part(alloc, Letter::CarryIfBelow, 0, &[], "C clear")?);
-    assert!(rt; is_part(alloc, Letter::CarryIfBelow, -1, &[], "C set")?);
-    assert!(rt; is_part(alloc, Letter::Zero, 0, &[], "Z set")?);
-    assert!(rt; is_part(alloc, Letter::Zero, 7, &[], "Z clear")?);
-    assert!(rt; is_part(alloc, Letter::SignIfBelow, -1, &[], "S set")?);
+    for (letter, constant, terms, expected) in FLAG_PARTS {
+        let Some(linear) = linear(*constant, terms) else {
+            return Err(Fail::new("no linear"));
+        };
+        let part = FlagPart {
+            letter: *letter,
+            linear,
+        };
+        let text = part_text(rt.alloc(), &part)?;
+        assert!(rt; text.as_str() == *expected, "{text} for {expected}");
+    }
     Ok(())
 }
 

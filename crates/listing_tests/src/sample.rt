@@ -1,4 +1,4 @@
-// A program with lines of each kind, and its listing.
+// A program with lines of each kind (tests/cases/listings.toml has its listing).
 
 use cert_checker::check;
 use certificate::read;
@@ -24,19 +24,14 @@ const PARTS: [(u16, &str); 4] = [
 /// The length of the program in bytes.
 const LEN: usize = 148;
 
-/// The symbol file that z80asm writes for it.
+/// A name of 60 letters, for which no column has room, at the entry of two procedures and in RAM; and shorter ones.
 pub(crate) const NAMES: &str = "\
-    copy:\tequ $000c\n\
-    done:\tequ $002a\n\
-    half:\tequ $001d\n\
-    idle:\tequ $001a\n\
-    in0:\tequ $4010\n\
-    nmi:\tequ $0066\n\
-    reset:\tequ $0000\n\
-    start:\tequ $0000\n\
-    table:\tequ $0090\n\
-    twice:\tequ $0028\n\
-    ";
+    idle equ $001a\n\
+    abcdefghijklmnopqrstuvwxyzabcdefghijklmnopqrstuvwxyzabcdefgh equ $001d\n\
+    bcdefghijklmnopqrstuvwxyzabcdefghijklmnopqrstuvwxyzabcdefghi equ $0028\n\
+    nmi equ $0066\n\
+    table equ $0090\n\
+    cdefghijklmnopqrstuvwxyzabcdefghijklmnopqrstuvwxyzabcdefghij equ $4010\n";
 
 /// Its certificate, in which each `..` stands for the pairs that no row changes.
 const CERTIFICATE: &str = "\
@@ -78,63 +73,6 @@ const CERTIFICATE: &str = "\
     row 3 002A n 0200-02FF:02-02:00-FF *@BC *@DE 0090-0090:00-00:90-90@HL .. zA - - 14\n\
     row 3 002B n 0300-03FF:03-03:00-FF *@BC *@DE 0090-0090:00-00:90-90@HL .. zA - - 10\n\
     end\n\
-    ";
-
-/// Its listing, worked out by hand from docs/LISTING.md.
-pub(crate) const LISTING: &str = "\
-    addr  bytes        instruction                  T   left stack  known\n\
-    \n\
-    ; main 0000 reset: depth 0\n\
-    reset:\n\
-    start:\n\
-    0000  31 00 44     LD SP,4400h                 10      -     0  SP unset\n\
-    0003  21 90 00     LD HL,0090h ;table          10      -     0\n\
-    0006  11 20 40     LD DE,4020h                 10      -     0\n\
-    0009  01 03 00     LD BC,0003h                 10      -     0\n\
-    copy:\n\
-    000C  ED B0        LDIR                     21/16      -     0  BC 0001-0003, DE 4020-4022,\n\
-    \x20                                                               BC + DE = 4023\n\
-    000E  21 00 40     LD HL,4000h                 10      -     0\n\
-    ; LD (in0),HL\n\
-    0011  ED 63 10 40  DEFB 0EDh,63h,10h,40h       20      -     0  HL 4000\n\
-    0015  3E 01        LD A,01h                     7      -     0\n\
-    0017  32 01 70     LD (7001h),A                13      -     0  A 01\n\
-    idle:\n\
-    001A  18 FE        JR idle                     12      -     0\n\
-    001C  ; 1 byte of C9, never reached as code\n\
-    \n\
-    ; sub 001D half: depth 2, time 34, called 1 time, keeps BC DE HL IX IY AF' BC' DE' HL'\n\
-    half:\n\
-    001D  CB 3F        SRL A                        8     34     2  A 03, HL 0090\n\
-    001F  18 09        JR done                     12     26     2\n\
-    0021  ; 7 bytes of 00, never reached as code\n\
-    \n\
-    ; sub 0028 twice: depth 2, time 23, called 1 time, keeps BC DE HL IX IY AF' BC' DE' HL'\n\
-    twice:\n\
-    0028  87           ADD A,A                      4     23     2  A 01, HL 0090\n\
-    0029  C8           RET Z                     11/5     19     2  Z: A=0\n\
-    ; part of half, twice\n\
-    done:\n\
-    002A  3C           INC A                        4     14     2  2 rows, A 01-02, HL 0090\n\
-    002B  C9           RET                         10     10     2\n\
-    002C  ; 58 bytes of 00, never reached as code\n\
-    \n\
-    ; nmi 0066 nmi: depth 8, time 189\n\
-    nmi:\n\
-    0066  F5           PUSH AF                     11    178     2\n\
-    0067  E5           PUSH HL                     11    167     4\n\
-    0068  21 90 00     LD HL,0090h ;table          10    156     6\n\
-    006B  7E           LD A,(HL)                    7    146     6  HL 0090\n\
-    006C  EF           RST 28h ;twice              11    139     6\n\
-    006D  FE 05        CP 05h                       7    105     6  A 03, HL 0090\n\
-    006F  DC 1D 00     CALL C,half              17/10     98     6  A compared with 05\n\
-    0072  32 10 40     LD (in0),A                  13     47     6  A 02, HL 0090\n\
-    0075  E1           POP HL                      10     34     6\n\
-    0076  F1           POP AF                      10     24     4\n\
-    0077  ED 45        RETN                        14     14     2\n\
-    0079  ; 27 bytes, never reached as code, 1 read\n\
-    0079  00 00 00 00 00 00 00 00 00 00 00 00 00 00 00 00  ................\n\
-    0089  00 00 00 00 00 00 00 01 02 41 FF                 .........A.\n\
     ";
 
 /// The bytes of the program. None where memory was refused.

@@ -1,15 +1,5 @@
-// The tests of `list`, `longest` and `report` over devices in memory.
+// The tests of streams that no command shows: what they pass on, however it comes in pieces.
 #![tactic(auto)]
 
 #[cfg(test)]
-mod asked;
-#[cfg(test)]
-mod devices;
-#[cfg(test)]
-mod longest;
-#[cfg(test)]
-mod memory;
-#[cfg(test)]
-mod pages;
-#[cfg(test)]
-mod sample;
+mod streams;
