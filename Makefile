@@ -18,13 +18,14 @@ galcert: crates.txt $(shell find crates -name '*.rt' -o -name '*.antt' | grep -v
 # The gate. First the scripts that take seconds: the trusted definitions stand where their heads say, and each name stands
 # for one thing. Then `rt ci`: every proof from nothing, the edits that the prover must refuse, the tests and the stored
 # run. tools/rt runs it, since some kits sum the files of a crate once for each path down to it, which takes hours here.
-# Last the program that the gate built, over files.
+# Last the program that the gate built, over files: by two scripts, and by the cases of tests/cases/.
 test:
 	tools/trusted.py > /dev/null
 	tools/names.py
 	@bash -c "TIMEFORMAT='rt ci took %lR, with %lU and %lS of processor time'; time tools/rt ci"
 	tools/program.sh crates/galcert/out/galcert
 	tools/naming.sh crates/galcert/out/galcert
+	tools/cases.py crates/galcert/out/galcert
 
 # The edits that the gate leaves out. The prover must refuse these too. CRATES="a b" tries those of some crates.
 edits:

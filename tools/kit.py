@@ -16,9 +16,9 @@ TAKEN = {"main": ["words"], "need": ["crate"], "rtlib.Crate.below": ["self"]}
 # Some kits remember the sums by themselves, by a function of this name. The others sum by this one.
 REMEMBERS, SUMS = "stamp_once", {"rtlib.Crate.stamp": ["self"]}
 # The share of the memory that `rt` sets aside for a check, which this module sets aside. By that memory `rt ci` decides how
-# many checks run side by side. Most checks take a third to two thirds of what `rt` sets aside, `named_commands` four fifths
-# (2026-11-28, over libraries with statements alone). With all of it two or three checks ran where four could.
-SHARE = 0.6
+# many checks run side by side. 58 checks took 0.51 of what `rt` sets aside on average, and 0.72 at most (2026-11-29). With
+# this share four of the largest run side by side in 24 GB.
+SHARE = 0.5
 
 
 class Unexpected(Exception):
