@@ -250,7 +250,7 @@ for count in $(seq 0 64); do
 done
 spelled "31 00 44 $(repeated C5 65)$(repeated C1 65)18 FE" > pushes.rom
 ask check pushes.rom six.toml
-judge "65 pushes" 1 $'refused 0043 10 StackLow\n' ''
+judge "65 pushes" 1 $'refused 0043 10 StackShape\n' ''
 
 # A jump table: the addresses from 0008 to 0014 have two rows each, one for each part; 0003 and 001A have one.
 spelled '31 00 44 3A 00 60 E6 01 87 5F 16 00 21 16 00 19 5E 23 56 EB E9 00 03 00 1A 00 18 FE' > parts.rom
@@ -423,7 +423,7 @@ holds "a FILE that cannot be written whole stays as it was" part.cert "$six.cert
 
 # A signal ends the program while it writes FILE: FILE is as it was, and the part has what was written.
 cp "$six.cert" killed.cert
-(ulimit -f 1 -c 0; exec "$galcert" check nops.rom nops.toml --cert killed.cert > /dev/null 2>&1 < /dev/null) 2> /dev/null
+{ (ulimit -f 1 -c 0; exec "$galcert" check nops.rom nops.toml --cert killed.cert > out 2> err < /dev/null); } 2> /dev/null
 holds "a FILE that a signal leaves" killed.cert "$six.cert"
 head -c 1024 nops.cert > first.cert
 holds "a part that a signal leaves" killed.cert.0.part first.cert
@@ -488,7 +488,7 @@ growths "check of a routine without memory" 1 check loop.rom loop.toml --cert ke
 spelled "$enabling $(repeated 00 92) C5 06 03 CD 70 00 10 FB C1 C9 C9" > called.rom
 ask check called.rom wide.toml
 judge "a routine with a call" 0 $'accepted\nmain 0000 depth     0 time      -\nnmi  0066 depth     6 time    164\nsub  0070 depth     2 time     10\nstack 6 of 128\nnmi 164 of 50665\n' ''
-growths "check of a routine with a call without memory" 1 check called.rom wide.toml --cert kept.cert
+growths "check of a routine with a call without memory" 20 check called.rom wide.toml --cert kept.cert
 states=$here/examples/state-table/states
 growths "check of the states without memory" 40 check "$states.rom" "$states.toml" --cert kept.cert
 growths "verify of the states without memory" 10 verify "$states.rom" "$states.cert"
@@ -641,7 +641,7 @@ printf x >> long.lst
 ask verify "$six.rom" "$six.cert" --listing long.lst
 judge "more than 4 MB of listing" 2 '' $'long.lst: more than 4 MB of listing\n'
 # 20,000 names, each with its own value from 0 on.
-seq -f 'name_%g: equ %g' 0 19999 | sed 's/name_\(.*\): equ .*/name_\1: equ \1/' > many.sym
+awk 'BEGIN { for (number = 0; number < 20000; number++) print "name_" number ": equ " number }' > many.sym
 ask verify "$six.rom" "$six.cert" -s many.sym --json
 cases=$((cases + 1))
 python3 -c 'import json, sys
@@ -667,10 +667,10 @@ ask check "$six.rom" labels.toml -s labels.sym
 judge "922 labels" 0 "$table" "$(cat labels.told)"$'\n'
 { cat six.toml; echo 'inline = ['; seq -f '{ at = %g },' 0 101; seq -f '{ at = %g },' 1024 1280; echo ']'; } > unlabelled.toml
 ask check "$six.rom" unlabelled.toml -s labels.sym
-grep -c '^[0-9A-F]*: warning: the inline call is' err > out
+grep -v 'amid the instruction' err | grep -c '^[0-9A-F]*: warning: the inline call is' > out
 grep -v '^[0-9A-F]*: warning: the inline call is' err > labelled
 mv labelled err
-judge "the other 359 addresses have no label" 0 $'361\n' ''
+judge "the other 359 addresses have no label" 0 $'359\n' ''
 
 # Many rows at an address are summed up.
 rows 300 > rows.cert
