@@ -67,12 +67,13 @@ ask verify . "$six.cert"
 judge "a folder as ROM" 3 '' $'device error\ngalcert: cannot read .: Is a directory (os error 21)\n'
 
 # A standard output that takes nothing.
-for words in "verify $six.rom $six.cert" "run $six.rom $six.cert $six.input 3"; do
+for words in "verify $six.rom $six.cert" "run $six.rom $six.cert $six.input 3" "explain $six.rom $six.cert" \
+    "explain $six.rom $six.toml" "explain 12"; do
     # shellcheck disable=SC2086
     "$galcert" $words > /dev/full 2> err < /dev/null
     echo $? > status
     : > out
-    judge "a full device: ${words%% *}" 3 '' $'device error\ngalcert: cannot write standard output: No space left on device (os error 28)\n'
+    judge "a full device: $words" 3 '' $'device error\ngalcert: cannot write standard output: No space left on device (os error 28)\n'
 done
 
 # Command lines out of form. STEPS is judged before a file is opened.
@@ -230,6 +231,75 @@ judge "--cert without a FILE" 2 '' +
 ask check "$six.rom"
 judge "no word for ANNOT" 2 '' +
 
+# Families of programs. LD B,n and a DJNZ of n turns in the NMI routine take 44 T-states, and 13 for each turn.
+spelled() { printf '%b' "$(printf '%s' "$1" | sed 's/\([0-9A-F][0-9A-F]\) */\\x\1/g')"; }
+repeated() { for _ in $(seq "$2"); do printf '%s ' "$1"; done; }
+enabling='31 00 44 3E 01 32 01 70 18 FE'
+sed 's/148/50665/' loop.toml > wide.toml
+for turns in 1 $(seq 3 255); do
+    spelled "$enabling $(repeated 00 92) C5 06 $(printf %02X "$turns") 10 FE C1 C9" > turns.rom
+    ask check turns.rom wide.toml
+    time=$((44 + 13 * turns))
+    judge "$turns turns" 0 "$(printf 'accepted\nmain 0000 depth     0 time      -\nnmi  0066 depth     4 time %6d\nstack 4 of 128\nnmi %d of 50665' $time $time)"$'\n' ''
+done
+# Each push takes two bytes of stack; there may be 64 of them.
+for count in $(seq 0 64); do
+    spelled "31 00 44 $(repeated C5 "$count")$(repeated C1 "$count")18 FE" > pushes.rom
+    ask check pushes.rom six.toml
+    judge "$count pushes" 0 "$(printf 'accepted\nmain 0000 depth %5d time      -\nstack %d of 128\nnmi none' $((2 * count)) $((2 * count)))"$'\n' ''
+done
+spelled "31 00 44 $(repeated C5 65)$(repeated C1 65)18 FE" > pushes.rom
+ask check pushes.rom six.toml
+judge "65 pushes" 1 $'refused 0043 10 StackShape\n' ''
+
+# A jump table: the addresses from 0008 to 0014 have two rows each, one for each part; 0003 and 001A have one.
+spelled '31 00 44 3A 00 60 E6 01 87 5F 16 00 21 16 00 19 5E 23 56 EB E9 00 03 00 1A 00 18 FE' > parts.rom
+{ cat six.toml; echo 'split = [{ at = 8, register = "A", parts = [[0, 0], [1, 1]], until = 3 }]'; } > parts.toml
+ask check parts.rom parts.toml --cert parts.cert
+judge "a jump table" 0 "$table" ''
+for rows in '0008 2' '0003 1' '001A 1'; do
+    cases=$((cases + 1))
+    [ "$(grep -c "^row 0 ${rows% *} " parts.cert)" = "${rows#* }" ] || { echo "not as it should be: the rows of a jump table at $rows"; wrong=$((wrong + 1)); }
+done
+
+# Limits whose inputs are long. The limit is told before a row's reason, but after reasons 1 and 2. CB 30 is SLL B.
+spelled 'CB 30' > shift.rom
+inlines() { cat six.toml; echo 'inline = ['; seq -f '{ at = %g },' 0 $(($1 - 1)); echo ']'; }
+inlines 1024 > inlines.toml
+ask check shift.rom inlines.toml
+judge "1,024 inline calls" 1 $'refused 0000 4 Decode Undocumented\n' ''
+inlines 1025 > inlines.toml
+ask check shift.rom inlines.toml
+judge "1,025 inline calls" 1 $'too large\n' ''
+ask check empty inlines.toml
+judge "1,025 inline calls and a ROM of no bytes" 1 $'refused 0000 1 Rom\n' $'galcert: empty has no bytes; a ROM has 1 to 16,384\n'
+# A CALL of each procedure from 1000 on, each of which is a RET. With main 1,024 are accepted.
+procedures() {
+    python3 -c 'import sys
+count = int(sys.argv[1])
+called = b"".join(b"\xCD" + (0x1000 + number).to_bytes(2, "little") for number in range(count))
+sys.stdout.buffer.write((b"\x31\x00\x44" + called + b"\x18\xFE").ljust(0x1000, b"\0") + b"\xC9" * count)' "$1"
+}
+procedures 1023 > procedures.rom
+ask check procedures.rom six.toml
+tail -n 3 out > end
+cp end out
+judge "1,024 procedures" 0 $'sub  13FE depth     2 time      -\nstack 2 of 128\nnmi none\n' ''
+procedures 1024 > procedures.rom
+ask check procedures.rom six.toml
+judge "1,025 procedures" 1 $'too large\n' ''
+# NOPs, each but the first with a split that ends at the next address.
+for count in 1024 1025; do
+    spelled "31 00 44 $(repeated 00 $((count + 1)))C3 03 00" > splits.rom
+    { cat six.toml; for at in $(seq 4 $((count + 3))); do echo "[[split]]
+at = $at
+register = \"A\"
+parts = [[0, 255]]
+until = $((at + 1))"; done; } > splits.toml
+    ask check splits.rom splits.toml
+    if [ $count = 1024 ]; then judge "1,024 splits" 0 "$table" ''; else judge "1,025 splits" 1 $'too large\n' ''; fi
+done
+
 # A FILE that is also read is told before anything is read, and stays as it was.
 cp "$six.rom" gone.rom
 cp six.toml gone.toml
@@ -351,6 +421,28 @@ cp "$six.cert" part.cert
 small check nops.rom nops.toml --cert part.cert
 holds "a FILE that cannot be written whole stays as it was" part.cert "$six.cert"
 
+# A signal ends the program while it writes FILE: FILE is as it was, and the part has what was written.
+cp "$six.cert" killed.cert
+{ (ulimit -f 1 -c 0; exec "$galcert" check nops.rom nops.toml --cert killed.cert > out 2> err < /dev/null); } 2> /dev/null
+holds "a FILE that a signal leaves" killed.cert "$six.cert"
+head -c 1024 nops.cert > first.cert
+holds "a part that a signal leaves" killed.cert.0.part first.cert
+# Sinks that fail amid a text: what was written is its begin.
+pages=$here/examples/page-cell/pages
+printf 'reset 0 00\n50 00 00 00 00 00 00 0\n' > fifty.input
+for words in "list $pages.rom $pages.cert" "longest $pages.rom $pages.cert --rows" "report $pages.rom $pages.cert" \
+    "explain $pages.rom six.toml" "run $six.rom $six.cert fifty.input 50 --trace" "list $pages.rom $pages.cert --json" \
+    "explain $pages.rom six.toml --json" "run $six.rom $six.cert fifty.input 50 --trace --json"; do
+    # shellcheck disable=SC2086
+    "$galcert" $words > whole 2> /dev/null < /dev/null
+    head -c 1024 whole > part
+    # shellcheck disable=SC2086
+    small $words
+    holds "the first 1,024 bytes: $words" out part
+    : > out
+    judge "a standard output that is full at 1,024 bytes: $words" 3 '' $'device error\ngalcert: cannot write standard output: File too large (os error 27)\n'
+done
+
 # Memory that runs out.
 rows 65535 > rows.cert
 (ulimit -v 20000; "$galcert" verify "$six.rom" rows.cert > out 2> err < /dev/null; echo $? > status)
@@ -392,6 +484,11 @@ growths "run without memory" 1 run "$six.rom" "$six.cert" "$six.input" 3
 growths "migrate without memory" 1 migrate "$six.cert"
 growths "check without memory" 1 check "$six.rom" six.toml --cert kept.cert
 growths "check of a routine without memory" 1 check loop.rom loop.toml --cert kept.cert
+# PUSH BC; LD B,3; CALL 0070; DJNZ 0069; POP BC; RET; 0070 RET: 11 + 11 + 7 + 3 * (17 + 10 + 13) - 5 + 10 + 10.
+spelled "$enabling $(repeated 00 92) C5 06 03 CD 70 00 10 FB C1 C9 C9" > called.rom
+ask check called.rom wide.toml
+judge "a routine with a call" 0 $'accepted\nmain 0000 depth     0 time      -\nnmi  0066 depth     6 time    164\nsub  0070 depth     2 time     10\nstack 6 of 128\nnmi 164 of 50665\n' ''
+growths "check of a routine with a call without memory" 20 check called.rom wide.toml --cert kept.cert
 states=$here/examples/state-table/states
 growths "check of the states without memory" 40 check "$states.rom" "$states.toml" --cert kept.cert
 growths "verify of the states without memory" 10 verify "$states.rom" "$states.cert"
@@ -530,6 +627,51 @@ for words in list longest report; do
     : > out
     judge "$words to a closed pipe" 3 '' ''
 done
+# Symbol files and listings of 4 MB are read, and of one byte more are not.
+yes '' | head -c 4194304 > long.sym
+ask verify "$six.rom" "$six.cert" -s long.sym
+judge "4 MB of symbols" 0 "$table" ''
+echo >> long.sym
+ask verify "$six.rom" "$six.cert" -s long.sym
+judge "more than 4 MB of symbols" 2 '' $'long.sym: more than 4 MB of symbols\n'
+head -c 4194304 /dev/zero | tr '\0' x > long.lst
+ask verify "$six.rom" "$six.cert" --listing long.lst
+judge "4 MB of a text that is no listing" 2 '' $'long.lst: no listing of z80asm, sjasmplus, SDCC, GNU as or crasm\n'
+printf x >> long.lst
+ask verify "$six.rom" "$six.cert" --listing long.lst
+judge "more than 4 MB of listing" 2 '' $'long.lst: more than 4 MB of listing\n'
+# 20,000 names, each with its own value from 0 on.
+awk 'BEGIN { for (number = 0; number < 20000; number++) print "name_" number ": equ " number }' > many.sym
+ask verify "$six.rom" "$six.cert" -s many.sym --json
+cases=$((cases + 1))
+python3 -c 'import json, sys
+wanted = [{"name": f"name_{number}", "value": number} for number in range(20000)]
+sys.exit(json.load(sys.stdin)["symbols"] != wanted)' < out || { echo "not as it should be: 20,000 names"; wrong=$((wrong + 1)); }
+# The label of an address, as a text, names the address: 922 of the addresses from 0 to 500h have one. A warning has the label of
+# each inline call.
+printf '%s\n' 'nmi equ $66' 'send equ $7A' 'sound equ $100' 'loop equ $200' 'h equ $300' 'l__CODE equ $446' 'top equ $FFFF' \
+    'end_ equ $10000' 'far equ $FFFFFFFF' > labels.sym
+{ cat six.toml; echo 'inline = ['; } > labels.toml
+for run in 'nmi 102 20' 'send 122 134' 'sound 256 256' 'loop 512 256' 'h 768 256'; do
+    # shellcheck disable=SC2086
+    set -- $run
+    for further in $(seq 0 $(($3 - 1))); do
+        label=$1
+        [ "$further" = 0 ] || label=$1+$further
+        echo "{ at = \"$label\" }," >> labels.toml
+        printf '%04X %s: warning: the inline call is beyond the ROM\n' $(($2 + further)) "$label"
+    done
+done > labels.told
+echo ']' >> labels.toml
+ask check "$six.rom" labels.toml -s labels.sym
+judge "922 labels" 0 "$table" "$(cat labels.told)"$'\n'
+{ cat six.toml; echo 'inline = ['; seq -f '{ at = %g },' 0 101; seq -f '{ at = %g },' 1024 1280; echo ']'; } > unlabelled.toml
+ask check "$six.rom" unlabelled.toml -s labels.sym
+grep -v 'amid the instruction' err | grep -c '^[0-9A-F]*: warning: the inline call is' > out
+grep -v '^[0-9A-F]*: warning: the inline call is' err > labelled
+mv labelled err
+judge "the other 359 addresses have no label" 0 $'359\n' ''
+
 # Many rows at an address are summed up.
 rows 300 > rows.cert
 ask list "$six.rom" rows.cert

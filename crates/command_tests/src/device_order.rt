@@ -1,6 +1,7 @@
 // Which devices the commands use, and in which order.
 
-use command_samples::{JUMP, JUMP_INPUT, ROW_MISSING, accepted, run, verify};
+use crate::commands_over::{accepted, run, verify};
+use crate::samples::{JUMP, JUMP_INPUT, ROW_MISSING};
 use memory_devices::{Bytes, Taken};
 use std::alloc::Global;
 use std::test::Fail;

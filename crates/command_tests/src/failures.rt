@@ -1,11 +1,12 @@
 // Devices that fail amid a command, and devices that handle one byte a call.
 
-use crate::STACK;
-use certificate::Version;
-use command_samples::{
-    JUMP, JUMP_CERTIFICATE, JUMP_INPUT, Outcome, STORES, STORES_CERTIFICATE, TABLE, THREE,
-    accepted, check_devices, rows_text, run, verify, with_routine,
+use crate::checks_over::check_devices;
+use crate::commands_over::{Outcome, accepted, run, verify};
+use crate::samples::{
+    JUMP, JUMP_CERTIFICATE, JUMP_INPUT, STACK, STORES, STORES_CERTIFICATE, TABLE, THREE, rows_text,
+    with_routine,
 };
+use certificate::Version;
 use commands::migrate_on;
 use memory_devices::{Bytes, Taken};
 use std::alloc::Global;

@@ -1,20 +1,18 @@
 // What no command line can show of the commands: the order in which they use devices, devices that fail, memory that is
-// refused, and single functions of resets, summaries and walks. The rest is in tests/cases.
+// refused, and single functions of resets and summaries. The rest is in tests/cases and tools/program.sh.
 #![tactic(auto)]
 
+#[cfg(test)]
+mod checks_over;
+#[cfg(test)]
+mod commands_over;
 #[cfg(test)]
 mod device_order;
 #[cfg(test)]
 mod failures;
 #[cfg(test)]
-mod limits;
-#[cfg(test)]
 mod memory;
 #[cfg(test)]
+mod samples;
+#[cfg(test)]
 mod summaries;
-#[cfg(test)]
-mod walks;
-
-/// Annotations with a stack of 128 bytes.
-#[cfg(test)]
-const STACK: &str = "low = 0x4380\ntop = 0x4400\n";

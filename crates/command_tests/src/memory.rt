@@ -2,11 +2,10 @@
 // writes and keeps nothing, a line reports it, and the next command gives the right output. Status 3 means that one of
 // the test's own sinks ran out of memory.
 
+use crate::checks_over::check_whole;
+use crate::commands_over::{run_whole, verify_whole};
+use crate::samples::{JUMP, JUMP_CERTIFICATE, SAVE, SAVE_CERTIFICATE, SAVE_TABLE, THREE};
 use certificate::{Version, read};
-use command_samples::{
-    JUMP, JUMP_CERTIFICATE, SAVE, SAVE_CERTIFICATE, SAVE_TABLE, THREE, check_whole, run_whole,
-    verify_whole,
-};
 use commands::migrate_on;
 use memory_devices::{Bytes, Taken};
 use runner::cert_checker::{CheckFault, check};

@@ -2,6 +2,4 @@
 #![tactic(auto)]
 
 #[cfg(test)]
-mod tags;
-#[cfg(test)]
 mod written_texts;

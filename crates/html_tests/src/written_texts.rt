@@ -1,8 +1,9 @@
-// What is written of a text.
+// What is written of a text and of tags, and sinks that fail.
 
-use html::{text_has_no_markup, write_text};
+use html::{Attribute, close_tag, open_tag, text_has_no_markup, write_text};
 use memory_devices::Taken;
 use std::test::Fail;
+use texts::DeviceFault;
 
 /// Texts, and what is written of them (HTML Living Standard, "Named character references").
 const TEXTS: &[(&[u8], &str)] = &[
@@ -45,21 +46,52 @@ fn each_byte(rt: HostRuntime) -> Result<(), Fail> {
     for byte in 0..=255u8 {
         let mut out = Taken::new(rt.alloc());
         let written = write_text(&[byte], &mut out);
-        assert!(rt; written.is_ok());
-        let expected = match byte {
-            b'&' => "&amp;",
-            b'<' => "&lt;",
-            b'>' => "&gt;",
-            b'"' => "&quot;",
-            b'\'' => "&#39;",
-            0..=31 | 127 => "?",
-            128..=255 => "\u{FFFD}",
-            _ => {
-                assert!(rt; out.bytes.as_slice() == [byte].as_slice());
-                continue;
-            }
+        let is_right = match byte {
+            b'&' => out.bytes.as_slice() == b"&amp;".as_slice(),
+            b'<' => out.bytes.as_slice() == b"&lt;".as_slice(),
+            b'>' => out.bytes.as_slice() == b"&gt;".as_slice(),
+            b'"' => out.bytes.as_slice() == b"&quot;".as_slice(),
+            b'\'' => out.bytes.as_slice() == b"&#39;".as_slice(),
+            0..=31 | 127 => out.bytes.as_slice() == b"?".as_slice(),
+            128..=255 => out.bytes.as_slice() == "\u{FFFD}".as_bytes(),
+            _ => out.bytes.as_slice() == [byte].as_slice(),
         };
-        assert!(rt; out.bytes.as_slice() == expected.as_bytes(), "{byte}");
+        assert!(rt; written.is_ok() && is_right, "{byte}");
+    }
+    Ok(())
+}
+
+/// Writes a link.
+fn write_link(out: &mut Taken) -> Result<(), DeviceFault> {
+    let attributes = [
+        Attribute {
+            name: "href",
+            value: b"#a0083",
+        },
+        Attribute {
+            name: "title",
+            value: b"it's <b>",
+        },
+    ];
+    open_tag("a", &attributes, out)?;
+    close_tag("a", out)?;
+    open_tag("br", &[], out)
+}
+
+const LINK: &[u8] = b"<a href=\"#a0083\" title=\"it&#39;s &lt;b&gt;\"></a><br>";
+
+/// A sink that takes one byte a call gets the same as one that takes all. One that fails at any call got a prefix.
+#[test]
+fn tags(rt: HostRuntime) -> Result<(), Fail> {
+    let mut out = Taken::new(rt.alloc());
+    assert!(rt; write_link(&mut out).is_ok() && out.bytes.as_slice() == LINK);
+    for calls in 0..=LINK.len() {
+        let mut out = Taken::failing(rt.alloc(), 1, calls as u64);
+        let is_whole = write_link(&mut out).is_ok();
+        assert!(rt;
+            is_whole == (calls == LINK.len()) && Some(out.bytes.as_slice()) == LINK.get(..calls),
+            "{calls} calls"
+        );
     }
     Ok(())
 }

@@ -1,18 +1,10 @@
-// The tests of source_notes: the listings of each assembler, what lines hold notes, the texts of notes, faults, and
-// refused memory.
+// The tests of symbols, of notes in listings and of annotations that no command can show: what is given to a writer that
+// infers, listings that are cut, and refused memory. The rest is in tests/cases and tools/program.sh.
 #![tactic(auto)]
 
 #[cfg(test)]
-mod kinds;
+mod cut;
 #[cfg(test)]
-mod listings;
-#[cfg(test)]
-mod locations;
+mod given;
 #[cfg(test)]
 mod memory;
-#[cfg(test)]
-mod places;
-#[cfg(test)]
-mod refused;
-#[cfg(test)]
-mod said;

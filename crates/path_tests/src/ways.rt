@@ -105,6 +105,29 @@ const WALKS: &[(&str, &[u8], &str, &str, Wanted)] = &[
         CALL_ROWS,
         Ok((0, &[])),
     ),
+    // LD A,5; NOP; RET: 7, 4 and 10. The row at 000A has another value of A than the state that arrives.
+    (
+        "the only row at an address comes next, whatever its ranges are",
+        &[0x3E, 0x05, 0x00, 0xC9],
+        "proc sub 0008 0 2 100\n",
+        "row 1 0008 s * * * * * * * * * * - - - 100\n\
+        row 1 000A s 0700-07FF:07-07:00-FF * * * * * * * * * - - - 80\n\
+        row 1 000B s * * * * * * * * * * - - - 70\n",
+        Ok((21, &[3, 4, 5])),
+    ),
+    // JR Z,000EH; LD A,I; JR 0011H; 000E: NOP; JR 0011H; 0011: RET: 7, 9, 12 and 10, or 12, 4, 12 and 10
+    (
+        "of two ways with the same sum the one with the lower next row",
+        &[0x28, 0x04, 0xED, 0x57, 0x18, 0x03, 0x00, 0x18, 0x00, 0xC9],
+        "proc sub 0008 0 2 100\n",
+        "row 1 0008 s * * * * * * * * * * - - - 100\n\
+        row 1 000A s * * * * * * * * * * - - - 80\n\
+        row 1 000C s * * * * * * * * * * - - - 60\n\
+        row 1 000E s * * * * * * * * * * - - - 80\n\
+        row 1 000F s * * * * * * * * * * - - - 60\n\
+        row 1 0011 s * * * * * * * * * * - - - 40\n",
+        Ok((38, &[3, 4, 5, 8])),
+    ),
     // NOP, 4
     (
         "the longer of two entries",

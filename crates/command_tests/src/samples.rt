@@ -1,4 +1,6 @@
-// ROMs and certificates for the tests.
+// ROMs and certificates for the tests, and what the commands print of them.
+
+use std::alloc::{AllocError, Global};
 
 /// LD SP,4400H; JP 0003H
 pub const JUMP: &[u8] = &[0x31, 0x00, 0x44, 0xC3, 0x03, 0x00];
@@ -11,7 +13,6 @@ pub const STORES: &[u8] = &[
 
 /// The text of a certificate (docs/CERTIFICATE.md). It takes the length of the ROM in bytes, the stack's region, main's
 /// depth in bytes (0 if none is given), and the address and mode of each row.
-#[macro_export]
 macro_rules! certificate_text {
     ($len:literal, $region:literal, depth $depth:literal, $($row:literal),*) => {
         concat!(
@@ -21,14 +22,13 @@ macro_rules! certificate_text {
         )
     };
     ($len:literal, $region:literal, $($row:literal),*) => {
-        $crate::certificate_text!($len, $region, depth 0, $($row),*)
+        certificate_text!($len, $region, depth 0, $($row),*)
     };
 }
 
 /// The text of a certificate (docs/CERTIFICATE.md). It takes the version and the lines before the rows. Each row of
 /// main has its address and mode (and in version 2 its armed cells), its ranges of AF, BC, DE and HL, and its last four
 /// fields. Each row of another procedure has its procedure too. Those rows keep IX, IY and the alternate set unchanged.
-#[macro_export]
 macro_rules! rows_text {
     ($version:literal, $head:literal; $($main:literal $pairs:literal $rest:literal),*; $($row:literal $own:literal $last:literal),*) => {
         concat!(
@@ -39,6 +39,8 @@ macro_rules! rows_text {
         )
     };
 }
+
+pub(crate) use rows_text;
 
 /// The certificate of `STORES`.
 pub const STORES_CERTIFICATE: &str = certificate_text!(
@@ -63,6 +65,9 @@ pub const TABLE: &str = "accepted\nmain 0000 depth     0 time      -\nstack 0 of
 
 /// The certificate of `JUMP` without the row of the second instruction.
 pub const ROW_MISSING: &str = certificate_text!(6, "4380 4400", "0000 u");
+
+/// Annotations with a stack of 128 bytes.
+pub const STACK: &str = "low = 0x4380\ntop = 0x4400\n";
 
 /// An input of three events of `JUMP`, after a reset that fills with 00.
 pub const JUMP_INPUT: &[u8] = b"reset 0 00\n3 00 00 00 00 00 00 0\n";
@@ -90,3 +95,11 @@ pub const SAVE_CERTIFICATE: &str = rows_text!(
 /// What `verify` prints for it.
 pub const SAVE_TABLE: &str = "accepted\nmain 0000 depth     4 time      -\n\
     sub  0008 depth     4 time      -\nstack 4 of 128\nnmi none\n";
+
+/// A ROM with main code from 0000 and an NMI routine from 0066. The bytes between them are 0.
+pub fn with_routine(alloc: Global, main: &[u8], routine: &[u8]) -> Result<Vec<u8>, AllocError> {
+    let mut rom = Vec::from_slice(alloc, main)?;
+    rom.resize(0x66, 0)?;
+    rom.extend_from_slice(routine)?;
+    Ok(rom)
+}

@@ -22,11 +22,6 @@ impl Checked {
             && self.written.as_slice() == text.as_bytes()
             && (status == 0 || self.keep_asked == 0)
     }
-
-    /// Whether it printed this text. The text of an accepted ROM needs status 0, and any other text needs status 1.
-    pub fn prints(&self, text: &str) -> bool {
-        self.is(if text.starts_with("accepted\n") { 0 } else { 1 }, text)
-    }
 }
 
 /// Runs `check` on these devices.
