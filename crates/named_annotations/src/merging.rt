@@ -81,7 +81,7 @@ impl Merging {
             let Value::Table(before) = item else {
                 continue;
             };
-            if *before == table {
+            if says_same(before, &table) {
                 return Ok(());
             }
             if let Some(what) = alone(key) {
@@ -93,6 +93,33 @@ impl Merging {
         items.push(Value::Table(table))?;
         Ok(())
     }
+}
+
+/// Whether two entries say the same: they are equal, or two facts whose sums have the same terms in another order.
+fn says_same(before: &Table, entry: &Table) -> bool {
+    *before == *entry
+        || (before.len() == entry.len()
+            && before.get("at") == entry.get("at")
+            && before.get("is") == entry.get("is")
+            && has_same_terms(before.get("sum"), entry.get("sum")))
+}
+
+/// Whether two sums have the same terms, in any order.
+fn has_same_terms(one: Option<&Value>, other: Option<&Value>) -> bool {
+    let (Some(Value::Array(one)), Some(Value::Array(other))) = (one, other) else {
+        return false;
+    };
+    for term in one.iter() {
+        if times(one.as_slice(), term) != times(other.as_slice(), term) {
+            return false;
+        }
+    }
+    one.len() == other.len()
+}
+
+/// How many times a sum has a term.
+fn times(terms: &[Value], term: &Value) -> usize {
+    terms.iter().filter(|other| *other == term).count()
 }
 
 /// What may be said once at an address.

@@ -7,6 +7,9 @@ use toml_places::{NodeKind, Places, Span};
 /// The keys whose value is an address.
 const ADDRESSES: [&[u8]; 5] = [b"low", b"top", b"at", b"until", b"is"];
 
+/// The quotes of a text in TOML, the longest first.
+const QUOTES: [&str; 4] = ["\"\"\"", "'''", "\"", "'"];
+
 /// A text of annotations in which each name for an address is replaced by the address. All else stays where it is, so
 /// each line keeps its number.
 pub fn numbered(alloc: Global, text: &[u8], symbols: &Symbols) -> Result<Vec<u8>, AllocError> {
@@ -50,8 +53,10 @@ fn address_of(alloc: Global, value: &[u8], symbols: &Symbols) -> Result<Option<u
 
 /// What stands between quotes.
 fn unquoted(value: &str) -> Option<&str> {
-    if let Some(rest) = value.strip_prefix('"') {
-        return rest.strip_suffix('"');
+    for quotes in QUOTES {
+        if let Some(rest) = value.strip_prefix(quotes) {
+            return rest.strip_suffix(quotes);
+        }
     }
-    value.strip_prefix('\'')?.strip_suffix('\'')
+    None
 }
