@@ -29,14 +29,14 @@ fn proper_beginnings(rt: HostRuntime) {
     assert!(rt; 9 == line);
 }
 
-/// Something behind the end of a certificate of eight lines, read in pieces of seven bytes.
+/// A certificate of eight lines with a byte after its end is refused at line 9. It is read in pieces of seven bytes.
 #[test]
 fn behind_the_end(rt: HostRuntime) -> Result<(), Fail> {
     for more in &[" ", "\n"] {
         let text = format!(in rt.alloc(); "{JUMP}{more}")?;
         assert!(rt;
             is_bad_in(rt.alloc(), text.as_bytes(), 7, 9),
-            "{more} behind it"
+            "{more} after it"
         );
     }
     Ok(())
