@@ -6,7 +6,7 @@ use explored_plans::{ExploredPlan, Family, OF_CONTEXTS, Progress, REGISTERS, Sea
 use inferred_rows::ContextPoint;
 use intervals::ByteRange;
 use plan_loops::try_unroll;
-use plan_splits::{Splitting, try_lookup, with_split};
+use plan_values::{Splitting, try_lookup, with_split};
 use row_worklist::Watch;
 use z80_decode::{Instr, Register8, RestartAddress, StackPair};
 

@@ -9,7 +9,7 @@ use explored_plans::{
 };
 use inferred_rows::ContextPoint;
 use intervals::ByteRange;
-use plan_splits::{Splitting, singles, with_split};
+use plan_values::{Splitting, singles, with_split};
 use row_graph::{NaturalLoop, turns_of};
 use z80_decode::Register8;
 

@@ -6,10 +6,9 @@ use crate::judged::{Judged, judge, judge_with};
 use analysis::FlowFault;
 use cert_writer::WriterFault;
 use explored_plans::{ExploredPlan, Plan, Progress, Search};
-use plan_cells::try_cells;
 use plan_inlines::{try_context, try_inline, try_inline_split};
 use plan_loops::{try_first_turn, try_unroll, with_counters, with_other_bounds};
-use plan_splits::{try_join, try_lookup, try_parts};
+use plan_values::{try_cells, try_join, try_lookup, try_parts};
 
 /// The most moves that are kept.
 const MOVES: u32 = 2_000;

@@ -584,7 +584,7 @@ enum Passing {
 }
 
 /// The distance of an address in a list that is sorted by address.
-fn distance_of(distances: &[(u16, u16)], address: u16) -> Option<u16> {
+pub(crate) fn distance_of(distances: &[(u16, u16)], address: u16) -> Option<u16> {
     let place = distances.partition_point(|(at, _)| *at < address);
     match distances.get(place) {
         Some((at, distance)) if *at == address => Some(*distance),

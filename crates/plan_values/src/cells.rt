@@ -1,5 +1,6 @@
 // Kept cells: bytes of work RAM that are read at one address, with the ranges of what is stored.
 
+use crate::splits::{distance_of, try_lookup};
 use abs_draft::DataWrite;
 use abs_state::{KeptCell, Mode};
 use analysis::{FlowFault, MAIN};
@@ -7,7 +8,6 @@ use board_fetch::fetch;
 use explored_plans::{ExploredPlan, Family, Plan, Progress, Search, read_by};
 use inferred_rows::ContextPoint;
 use intervals::ByteRange;
-use plan_splits::try_lookup;
 use std::alloc::Global;
 use std::collections::{BTreeMap, BTreeSet};
 
@@ -262,11 +262,7 @@ fn last_stores<P: Progress>(
         if point.proc != MAIN || row.state.mode == Mode::Nmi {
             continue;
         }
-        let place = distances.partition_point(|(at, _)| *at < point.address);
-        let distance = match distances.get(place) {
-            Some((at, distance)) if *at == point.address => *distance,
-            _ => 0,
-        };
+        let distance = distance_of(&distances, point.address).unwrap_or(0);
         for write in writes_of(search, &search.explored, *number)? {
             let Some(at) = write.at.value() else {
                 continue;
