@@ -6,8 +6,10 @@ use crate::judged::{Judged, judge, judge_with};
 use analysis::FlowFault;
 use cert_writer::WriterFault;
 use explored_plans::{ExploredPlan, Plan, Progress, Search};
-use plan_inlines::{try_context, try_inline, try_inline_split};
-use plan_loops::{try_first_turn, try_unroll, with_counters, with_other_bounds};
+use plan_flow::{
+    try_context, try_first_turn, try_inline, try_inline_split, try_unroll, with_counters,
+    with_other_bounds,
+};
 use plan_values::{try_cells, try_join, try_lookup, try_parts};
 
 /// The most moves that are kept.

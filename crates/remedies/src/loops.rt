@@ -5,7 +5,7 @@ use crate::looking::{Remedy, has_plain_form};
 use analysis::FlowFault;
 use annotations::Annotations;
 use explored_plans::{ExploredPlan, Family, Progress, Search};
-use plan_loops::{with_counters, with_other_bounds};
+use plan_flow::{with_counters, with_other_bounds};
 use tried_notes::{add_loop, added_of, is_bounded, merged, only_loops};
 
 /// The counters of loops, that of a loop which is unbounded at an address among them.

@@ -1,11 +1,11 @@
 // Inline calls: for callees that take their return address, and as contexts.
 
+use crate::unrolling::try_unroll;
 use analysis::{FlowFault, MAIN, NMI, sub_of};
 use board_fetch::fetch;
 use explored_plans::{ExploredPlan, Family, OF_CONTEXTS, Progress, REGISTERS, Search};
 use inferred_rows::ContextPoint;
 use intervals::ByteRange;
-use plan_loops::try_unroll;
 use plan_values::{Splitting, try_lookup, with_split};
 use row_worklist::Watch;
 use z80_decode::{Instr, Register8, RestartAddress, StackPair};
