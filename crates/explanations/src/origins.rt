@@ -3,9 +3,9 @@
 use crate::explored::Explored;
 use analysis::FlowFault;
 use inferred_rows::ContextPoint;
+use judged_rows::ArrivingKind;
 use loop_bounds::{Change, Ranges, Variable};
 use row_worklist::RowEdge;
-use sent_states::ArrivingKind;
 use std::alloc::Global;
 use std::collections::BTreeSet;
 use z80_decode::Instr;

@@ -9,9 +9,9 @@ use cert_lines::Version;
 use derived_parts::{PartGround, PartStep, fact_ground_of, ground_of, linear_before, negated};
 use flag_letters::{FlagPart, FlagParts};
 use inferred_rows::{ContextPoint, Guide};
+use judged_rows::ArrivingKind;
 use loop_bounds::Linear;
 use row_worklist::{RowEdge, Setting, Worklist};
-use sent_states::ArrivingKind;
 use std::alloc::Global;
 
 /// The most facts of a row.

@@ -4,8 +4,8 @@
 use crate::lowering::{first_class, lowered_at};
 use analysis::{FlowFault, MAIN, NMI};
 use inferred_rows::ContextPoint;
+use judged_rows::ArrivingKind;
 use row_worklist::{RowEdge, Setting, Watch, Worklist};
-use sent_states::ArrivingKind;
 use std::alloc::Global;
 use std::collections::BTreeSet;
 

@@ -2,8 +2,8 @@
 
 use analysis::FlowFault;
 use inferred_rows::ContextPoint;
+use judged_rows::ArrivingKind;
 use row_worklist::RowEdge;
-use sent_states::ArrivingKind;
 use std::alloc::Global;
 use std::collections::BTreeSet;
 

@@ -14,10 +14,10 @@ use flag_letters::FlagParts;
 use flag_parts::known_carry;
 use inferred_rows::{ArrivingParts, ContextPoint, InferredRow, Manner};
 use intervals::ByteRange;
+use judged_rows::{Arriving, ArrivingKind};
 use linear_effects::linear_effect;
 use loop_bounds::{Effect, Linear};
 use refined_step::StepTold;
-use sent_states::{Arriving, ArrivingKind};
 
 /// The successors to which an analysis goes on from a judged row.
 pub(crate) fn nexts_of<'j>(manner: Manner, judged: &'j JudgedRow) -> &'j [Next] {

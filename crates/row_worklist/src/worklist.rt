@@ -17,9 +17,8 @@ use inferred_rows::{
     are_joined, pointer_of,
 };
 use intervals::ByteRange;
-use judged_rows::JudgedRows;
+use judged_rows::{Arriving, ArrivingKind, JudgedRows, Sent, SentState};
 use loop_bounds::Effect;
-use sent_states::{Arriving, ArrivingKind, Sent, SentState};
 use std::alloc::Global;
 use std::collections::{BTreeMap, BTreeSet};
 use std::rc::Rc;

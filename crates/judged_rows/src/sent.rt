@@ -1,4 +1,4 @@
-// The states that a row sends to other rows.
+// The states that a judged row sends to other rows: by jumps, to the entries of callees, and back from their exits.
 
 use abs_draft::settled;
 use abs_state::AbsState;
