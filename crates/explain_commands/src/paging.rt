@@ -4,7 +4,7 @@ ghost use Rattle.std.specs.Prelude.{◌≡◌, ◌≢◌};
 ghost use Rattle.texts.specs.Device.{HasFailed, CountsNoFailure};
 
 use command_parts::ExitStatus;
-use reason_pages::page;
+use explanation_parts::page;
 use texts::{DeviceFault, Sink, put};
 
 /// The number that a word asks the page of: one or two digits. A file of such a name is `./12`.

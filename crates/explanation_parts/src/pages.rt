@@ -1,6 +1,6 @@
-// The page of each reason (docs/CHECKER.md, "The table of reasons"): what it means, a small ROM that has it, remedies.
+// The pages that `galcert explain NUMBER` prints: what a reason means, a small ROM that has it, remedies.
 
-/// The page of a reason, by its number; None for a number that no reason has.
+/// The page of a reason, by its number (docs/CHECKER.md, "The table of reasons"); None for a number that no reason has.
 pub fn page(number: u8) -> Option<&'static str> {
     Some(match number {
         1 => PAGE_1,
