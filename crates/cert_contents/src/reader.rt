@@ -5,7 +5,7 @@ ghost use Rattle.cert_form.specs.Reader.{EndsReading, IsProgress, TakesLine, Tak
 ghost use Rattle.cert_form.specs.Text.{list_lines};
 
 use crate::value::{Certificate, Unfinished};
-use cert_form::{CertFault, Stage};
+use cert_form::{CertFault, ShapeNumbers, Stage};
 use cert_lines::{Line, ReadLine};
 use std::alloc::Global;
 use std::marker::Model;
@@ -15,6 +15,7 @@ use std::marker::Model;
 pub struct Reader {
     pub(crate) stage: Stage,
     pub(crate) draft: Unfinished,
+    pub(crate) numbers: ShapeNumbers,
 }
 
 impl Model for Reader {
@@ -36,6 +37,7 @@ impl Reader {
         Reader {
             stage: Stage::Header,
             draft: Unfinished::new(alloc),
+            numbers: ShapeNumbers::new(alloc),
         }
     }
 

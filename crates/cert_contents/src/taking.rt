@@ -209,7 +209,7 @@ impl Reader {
         if self.draft.rows.len() == ROW_LIMIT {
             return Err(CertFault::Limit);
         }
-        if self.draft.rows.push(row).is_err() {
+        if self.draft.rows.push(&mut self.numbers, row).is_err() {
             return Err(CertFault::NoMemory);
         }
         self.stage = Stage::Rows;

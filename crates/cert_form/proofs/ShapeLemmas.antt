@@ -80,9 +80,3 @@ pub get_front : {X : Type 0} (xs ys : List X) (n : ℕ) → n < length xs → sl
 get_front [] ys n low = absurd (omega (arith, low))
 get_front (x ∷ xs) ys zero low = refl
 get_front (x ∷ xs) ys (suc n) low = get_front xs ys n (omega (arith, low))
-
--- numbers that were given stay those of their shapes
-pub kept : {X : Type 0} (xs ys : List X) (x : X) (b : Bool) → ys ≡ (if b then xs else (xs ++ x ∷ [])) → (n : ℕ) →
-    n < length xs → slice_get ys n ≡ slice_get xs n
-kept xs ys x true e n low = ap (λ zs. slice_get zs n) e
-kept xs ys x false e n low = ap (λ zs. slice_get zs n) e ∙ get_front xs (x ∷ []) n low

@@ -8,6 +8,7 @@ mod laws;
 mod limits;
 mod migrated;
 mod rows;
+mod shape_numbers;
 mod shapes;
 mod stage;
 mod stored_parts;
@@ -23,4 +24,5 @@ pub use limits::{
 };
 pub use migrated::migrated_version;
 pub use rows::{NumberedRow, Rows, place_number};
+pub use shape_numbers::ShapeNumbers;
 pub use stage::Stage;

@@ -7,6 +7,7 @@ ghost use Rattle.cert_form.specs.Migrated.{row_with_parts};
 ghost use Rattle.cert_form.specs.Rows.{HasNumbers, HaveNumbers, KeepsNumbers, as_told, changed_at, told_row, with_potential};
 ghost use Rattle.stack_shape.specs.declared.slot.Slot.{Slot};
 
+use crate::shape_numbers::ShapeNumbers;
 use crate::shapes::Shapes;
 use crate::stored_parts::StoredParts;
 use abs_state::{AbsState, FlagFact, Mode, Pairs};
@@ -120,8 +121,9 @@ impl Rows {
         self.rows.len()
     }
 
-    /// Appends a row. Where memory is refused, the rows stay as they were.
-    pub fn push(&mut self, row: Row) -> Result<(), AllocError>
+    /// Appends a row. The numbers are those of the shapes of the rows before it; others cost memory alone. Where memory is
+    /// refused, the rows stay as they were.
+    pub fn push(&mut self, numbers: &mut ShapeNumbers, row: Row) -> Result<(), AllocError>
         ensures pushed { OnOk result (self.new ≡ self.old ++ row ∷ []) }
         ensures err { OnErr result (self.new ≡ self.old) }
     {
@@ -140,7 +142,8 @@ impl Rows {
             flag,
             shape,
         } = state;
-        let shape_number = self.shapes.number_of(shape)?;
+        let found = numbers.found(&shape)?;
+        let shape_number = self.shapes.number_of(shape, found)?;
         let parts_number = self.parts.number_of(parts)?;
         self.rows.push(NumberedRow {
             proc,

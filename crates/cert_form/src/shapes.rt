@@ -1,16 +1,15 @@
 // The shapes of a certificate's rows, by number.
 
-ghost use Rattle.std.specs.Prelude.{◌≡◌, ◌<◌, ◌≤◌, ℕ, Some, IfOk, OnErr, [], length, option_copied, slice_get};
+ghost use Rattle.std.specs.Prelude.{◌≡◌, ◌<◌, ◌≤◌, ℕ, IsTrue, Some, IfOk, OnErr, [], length, option_copied, slice_get};
 
-use indexmap::IndexSet;
 use stack_shape::Shape;
 use std::alloc::{AllocError, Global};
 use std::marker::Model;
 
-/// The shapes of rows, each once, in the order of their first use.
+/// The shapes of rows, in the order of their first use.
 #[derive(Drop)]
 pub(crate) struct Shapes {
-    set: IndexSet<Shape>,
+    listed: Vec<Shape>,
 }
 
 impl Model for Shapes {
@@ -19,7 +18,7 @@ impl Model for Shapes {
 
     ghost Value = { List (List Slot) };
 
-    ghost view = { λ s. s.set.keys };
+    ghost view = { λ s. s.listed.items };
 }
 
 impl Shapes {
@@ -27,25 +26,42 @@ impl Shapes {
         ensures { result ≡ [] }
     {
         Shapes {
-            set: IndexSet::new(alloc),
+            listed: Vec::new(alloc),
         }
     }
 
-    /// The number of a shape; a new shape gets the next number. Where memory is refused, the shapes stay as they were.
-    pub fn number_of(&mut self, shape: Shape) -> Result<usize, AllocError>
+    /// Whether the shape has this number.
+    fn has_at(&self, number: usize, shape: &Shape) -> bool
+        ensures { IsTrue result → slice_get self.now number ≡ Some shape.now }
+    {
+        match self.shape(number) {
+            Some(found) => found == shape,
+            None => false,
+        }
+    }
+
+    /// The number of a shape: the one that was found for it, if it is right; else the next number. Where memory is
+    /// refused, the shapes stay as they were.
+    pub fn number_of(&mut self, shape: Shape, found: Option<usize>) -> Result<usize, AllocError>
         ensures stored { IfOk result (λ n. slice_get self.new n ≡ Some shape) }
         ensures kept { (n : ℕ) → n < length self.old → slice_get self.new n ≡ slice_get self.old n }
         ensures longer { length self.old ≤ length self.new }
         ensures err { OnErr result (self.new ≡ self.old) }
     {
-        let (number, _) = self.set.insert_full(shape)?;
-        Ok(number)
+        if let Some(number) = found {
+            if self.has_at(number, &shape) {
+                return Ok(number);
+            }
+        }
+        let next = self.listed.len();
+        self.listed.push(shape)?;
+        Ok(next)
     }
 
     /// The shape with this number.
     pub fn shape(&self, number: usize) -> Option<&Shape>
         ensures { option_copied result ≡ slice_get self.now number }
     {
-        self.set.get_index(number)
+        self.listed.get(number)
     }
 }

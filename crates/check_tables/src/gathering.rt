@@ -19,7 +19,7 @@ use std::marker::Model;
 #[derive(Drop)]
 pub struct ProcExits {
     pub(crate) proc: ProcId,
-    lefts: IndexSet<Left>,
+    lefts: Vec<Left>,
     wide: Option<AbsState>,
 }
 
@@ -28,7 +28,7 @@ impl Model for ProcExits {
 
     ghost Value = { ProcExitsView };
 
-    ghost view = { λ e. record { proc = e.proc; lefts = e.lefts.keys; wide = e.wide } };
+    ghost view = { λ e. record { proc = e.proc; lefts = e.lefts.items; wide = e.wide } };
 }
 
 impl ProcExits {
@@ -44,6 +44,7 @@ impl ProcExits {
     {
         let lefts = lefts_of(alloc, rom, certificate, proc)?;
         let wide = widest(lefts.as_slice());
+        let lefts = Vec::from_slice(alloc, lefts.as_slice())?;
         Ok(ProcExits { proc, lefts, wide })
     }
 

@@ -4,10 +4,10 @@ use abs_state::{AbsState, FlagFact, Mode};
 use analysis::{FlowFault, JudgedRow, MAIN, NMI, ProgramPoint, Task, judged_row};
 use cert_lines::Version;
 use flag_letters::{FlagParts, Letter};
-use indexmap::IndexMap;
 use intervals::{ByteRange, Pair};
 use std::alloc::Global;
 use std::cell::RefCell;
+use std::collections::HashMap;
 use std::rc::Rc;
 use z80_decode::Register8;
 
@@ -15,7 +15,7 @@ use z80_decode::Register8;
 const KEPT: usize = 40_000;
 
 /// The judged rows by their digests.
-type RowsByDigest = IndexMap<u64, Rc<JudgedRow>>;
+type RowsByDigest = HashMap<u64, Rc<JudgedRow>>;
 
 /// Judged rows by digests of what they depend on: the state, its place, and what a plan says of the whole ROM. Nothing
 /// else may differ between the analyses that share them. Two rows with one digest, of 64 bits, count as the same; what
@@ -35,7 +35,7 @@ impl JudgedRows {
     /// `NoMemory` where memory was refused.
     pub fn none(alloc: Global) -> Result<JudgedRows, FlowFault> {
         Ok(JudgedRows {
-            kept: Rc::new(alloc, RefCell::new(IndexMap::new(alloc)))?,
+            kept: Rc::new(alloc, RefCell::new(HashMap::new(alloc)))?,
             whole: Digest::empty(),
         })
     }
@@ -109,7 +109,7 @@ impl JudgedRows {
     fn keep(&self, alloc: Global, digest: u64, judged: Rc<JudgedRow>) -> Result<(), FlowFault> {
         if let Ok(mut kept) = self.kept.try_borrow_mut() {
             if kept.len() >= KEPT {
-                *kept = IndexMap::new(alloc);
+                *kept = HashMap::new(alloc);
             }
             kept.insert(digest, judged)?;
         }
