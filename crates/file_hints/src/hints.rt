@@ -3,8 +3,7 @@
 use address_map::ROM_LIMIT;
 use annotation_faults::place_of_fault;
 use file_devices::{FileSource, Likeness, certified_len};
-use named_reports::numbered;
-use program_names::{ProgramNames, tell_note};
+use named_reports::{ProgramNames, numbered, tell_note};
 use std::alloc::Global;
 use std::fs;
 use std::rt::Files;

@@ -6,7 +6,7 @@ use crate::streams::Remarks;
 use clap::ArgMatches;
 use command_reports::{UsedDevice, clash_of, end, report_clash};
 use command_words::{OLD_SYMBOLS, SYMBOLS};
-use program_names::{NameFiles, ProgramNames};
+use named_reports::{NameFiles, ProgramNames};
 use view_commands::{EntryNames, diff_on};
 
 /// `galcert diff`. The result is the exit status.

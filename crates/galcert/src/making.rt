@@ -19,7 +19,7 @@ use file_hints::{hint_annotations, hint_named, hint_rom};
 use inference_commands::{infer_on, suggest_on};
 use json_documents::{Command, conclude};
 use named_commands::{NamedCheck, check_named_on, suggest_named_on};
-use program_names::ProgramNames;
+use named_reports::ProgramNames;
 use std::cell::RefCell;
 use texts::Sink;
 

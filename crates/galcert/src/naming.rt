@@ -7,8 +7,7 @@ use command_parts::ExitStatus;
 use command_reports::{UsedDevice, end};
 use command_streams::Watched;
 use command_words::{LISTING, SYMBOLS, WARN_UNNEEDED};
-use named_reports::tell_refusal;
-use program_names::{NameFiles, ProgramNames, read_names};
+use named_reports::{NameFiles, ProgramNames, read_names, tell_refusal};
 use symbols::Symbols;
 use texts::Sink;
 

@@ -15,7 +15,7 @@ use commands::{run_on, steps_of};
 use file_devices::{Output, WriterSink};
 use file_hints::{hint_certificate, hint_rom};
 use json_documents::{Command, conclude};
-use program_names::ProgramNames;
+use named_reports::ProgramNames;
 use run_traces::{DumpNames, RamParts, Watching, dump_names, watch_on};
 use std::io;
 use std::io::Printer;
