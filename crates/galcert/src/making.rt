@@ -15,11 +15,10 @@ use command_words::{
 };
 use commands::check_on;
 use file_devices::{AfterOutput, Output, SharedOutput};
-use file_hints::{hint_annotations, hint_named, hint_rom};
 use inference_commands::{infer_on, suggest_on};
 use json_documents::{Command, conclude};
 use named_commands::{NamedCheck, check_named_on, suggest_named_on};
-use named_reports::ProgramNames;
+use named_reports::{ProgramNames, hint_annotations, hint_named, hint_rom};
 use std::cell::RefCell;
 use texts::Sink;
 
