@@ -4,9 +4,9 @@ use crate::numbers::number_of;
 use crate::reported::report;
 use clap::ArgMatches;
 use command_parts::ExitStatus;
+use command_streams::Watched;
 use command_words::{MAX_NMI, MAX_STACK};
 use texts::Sink;
-use watched_sinks::Watched;
 
 /// Limits for the totals of a table, for a program that is to keep some room.
 #[derive(Clone, Copy)]

@@ -3,14 +3,8 @@
 use crate::help_texts::{
     CHECK, DIFF, EXPLAIN, GALCERT, LIST, LONGEST, MIGRATE, REPORT, RUN, STATUSES, SUGGEST, VERIFY,
 };
-use crate::names::COMMAND;
-use crate::options::{
-    annot, cert, cert_option, color_option, dump_option, entry, file, infer_option, json_option,
-    listing_option, max_nmi_option, max_option, max_stack_option, old_symbols_option,
-    output_option, quiet_option, rom, rows_option, second, symbols_option, to_option, trace_option,
-    trials_option, unneeded_option, until_nmi_option, version_at_most_option,
-};
-use clap::{Arg, ArgAction, Command};
+use crate::options::{Argument, color_option};
+use clap::Command;
 use std::alloc::{AllocError, Global};
 
 /// The commands.
@@ -46,7 +40,16 @@ const NAMES: &[Name] = &[
 
 /// The command line (docs/PROGRAM.md). The error is refused memory.
 pub fn command_line<'a>(alloc: Global) -> Result<Command<'a>, AllocError> {
-    let mut line = Command::new(alloc, "galcert")
+    let mut line = galcert(alloc).arg(color_option(alloc))?;
+    for name in NAMES {
+        line = with_command(line, alloc, *name)?;
+    }
+    Ok(line)
+}
+
+/// The program, without its commands.
+fn galcert<'a>(alloc: Global) -> Command<'a> {
+    Command::new(alloc, "galcert")
         .about("Verifies Z80 program ROMs of the Galaxian arcade board")
         .long_about(GALCERT)
         .after_long_help(STATUSES)
@@ -54,199 +57,217 @@ pub fn command_line<'a>(alloc: Global) -> Result<Command<'a>, AllocError> {
         .propagate_version(true)
         .subcommand_required(true)
         .disable_help_subcommand(true)
-        .arg(color_option(alloc))?;
-    for name in NAMES {
-        line = line.subcommand(command_of(alloc, *name)?)?;
+}
+
+/// Adds a command.
+fn with_command<'a>(
+    line: Command<'a>,
+    alloc: Global,
+    name: Name,
+) -> Result<Command<'a>, AllocError> {
+    let made = name.made(alloc)?;
+    line.subcommand(made)
+}
+
+impl Name {
+    /// The command, as `clap` takes it. The error is refused memory.
+    fn made<'a>(self, alloc: Global) -> Result<Command<'a>, AllocError> {
+        let begun = begun(alloc, self.word(), self.about());
+        let mut command = with_description(begun, self.description());
+        for argument in self.arguments() {
+            command = with_argument(command, alloc, *argument)?;
+        }
+        Ok(command)
     }
-    Ok(line)
-}
 
-fn command_of<'a>(alloc: Global, name: Name) -> Result<Command<'a>, AllocError> {
-    match name {
-        Name::Check => check_command(alloc),
-        Name::Suggest => suggest_command(alloc),
-        Name::Explain => explain_command(alloc),
-        Name::Verify => verify_command(alloc),
-        Name::Run => run_command(alloc),
-        Name::List => list_command(alloc),
-        Name::Longest => longest_command(alloc),
-        Name::Report => report_command(alloc),
-        Name::Diff => diff_command(alloc),
-        Name::Migrate => migrate_command(alloc),
-        Name::Help => help_command(alloc),
+    fn word(self) -> &'static str {
+        match self {
+            Name::Check => "check",
+            Name::Suggest => "suggest",
+            Name::Explain => "explain",
+            Name::Verify => "verify",
+            Name::Run => "run",
+            Name::List => "list",
+            Name::Longest => "longest",
+            Name::Report => "report",
+            Name::Diff => "diff",
+            Name::Migrate => "migrate",
+            Name::Help => "help",
+        }
+    }
+
+    fn about(self) -> &'static str {
+        match self {
+            Name::Check => "Makes a certificate for a ROM, and prints the table or the refusal",
+            Name::Suggest => "Finds annotations for a ROM, and prints them as a file",
+            Name::Explain => {
+                "Says why a ROM is refused and what helps; with a number for ROM, what that reason means"
+            }
+            Name::Verify => "Checks a certificate for a ROM, and prints the table or the refusal",
+            Name::Run => "Checks, then plays an input for at most STEPS events",
+            Name::List => {
+                "Checks, then prints a listing with what the certificate says of each instruction"
+            }
+            Name::Longest => "Checks, then prints where the T-states of a procedure go",
+            Name::Report => "Checks, then prints a report as a page of HTML",
+            Name::Diff => "Prints the tables of two certificates side by side",
+            Name::Migrate => "Prints a certificate in version 2 or 3",
+            Name::Help => "Prints the help of a command on standard output",
+        }
+    }
+
+    /// The long description, but for `help`.
+    fn description(self) -> Option<&'static str> {
+        match self {
+            Name::Check => Some(CHECK),
+            Name::Suggest => Some(SUGGEST),
+            Name::Explain => Some(EXPLAIN),
+            Name::Verify => Some(VERIFY),
+            Name::Run => Some(RUN),
+            Name::List => Some(LIST),
+            Name::Longest => Some(LONGEST),
+            Name::Report => Some(REPORT),
+            Name::Diff => Some(DIFF),
+            Name::Migrate => Some(MIGRATE),
+            Name::Help => None,
+        }
+    }
+
+    /// The arguments and options, in the order of the help.
+    fn arguments(self) -> &'static [Argument] {
+        match self {
+            Name::Check => CHECK_ARGUMENTS,
+            Name::Suggest => SUGGEST_ARGUMENTS,
+            Name::Explain => EXPLAIN_ARGUMENTS,
+            Name::Verify => VERIFY_ARGUMENTS,
+            Name::Run => RUN_ARGUMENTS,
+            Name::List => LIST_ARGUMENTS,
+            Name::Longest => LONGEST_ARGUMENTS,
+            Name::Report => REPORT_ARGUMENTS,
+            Name::Diff => DIFF_ARGUMENTS,
+            Name::Migrate => MIGRATE_ARGUMENTS,
+            Name::Help => HELP_ARGUMENTS,
+        }
     }
 }
 
-fn check_command<'a>(alloc: Global) -> Result<Command<'a>, AllocError> {
-    let kept = cert_option(alloc)?;
-    let args = vec![in alloc;
-        rom(alloc),
-        annot(alloc),
-        infer_option(alloc),
-        trials_option(alloc),
-        version_at_most_option(alloc),
-        kept,
-        symbols_option(alloc),
-        listing_option(alloc),
-        unneeded_option(alloc),
-        max_stack_option(alloc),
-        max_nmi_option(alloc),
-        quiet_option(alloc),
-        json_option(alloc),
-    ]?;
-    command(alloc, "check", CHECK)
-        .about("Makes a certificate for a ROM, and prints the table or the refusal")
-        .args(args)
+const CHECK_ARGUMENTS: &[Argument] = &[
+    Argument::Rom,
+    Argument::Annot,
+    Argument::Infer,
+    Argument::Trials,
+    Argument::VersionAtMost,
+    Argument::CertFile,
+    Argument::Symbols,
+    Argument::Listing,
+    Argument::WarnUnneeded,
+    Argument::MaxStack,
+    Argument::MaxNmi,
+    Argument::Quiet,
+    Argument::Json,
+];
+
+const SUGGEST_ARGUMENTS: &[Argument] = &[
+    Argument::Rom,
+    Argument::Annot,
+    Argument::Trials,
+    Argument::Output,
+    Argument::Symbols,
+    Argument::Listing,
+    Argument::Quiet,
+    Argument::Json,
+];
+
+const EXPLAIN_ARGUMENTS: &[Argument] = &[
+    Argument::Rom,
+    Argument::AnnotOrCert,
+    Argument::Infer,
+    Argument::Trials,
+    Argument::Max,
+    Argument::Symbols,
+    Argument::Listing,
+    Argument::Json,
+];
+
+const VERIFY_ARGUMENTS: &[Argument] = &[
+    Argument::Rom,
+    Argument::Cert,
+    Argument::Symbols,
+    Argument::Listing,
+    Argument::MaxStack,
+    Argument::MaxNmi,
+    Argument::Quiet,
+    Argument::Json,
+];
+
+const RUN_ARGUMENTS: &[Argument] = &[
+    Argument::Rom,
+    Argument::Cert,
+    Argument::Input,
+    Argument::Steps,
+    Argument::Symbols,
+    Argument::Listing,
+    Argument::Trace,
+    Argument::UntilNmi,
+    Argument::Dump,
+    Argument::Json,
+];
+
+const LIST_ARGUMENTS: &[Argument] = &[
+    Argument::Rom,
+    Argument::Cert,
+    Argument::Symbols,
+    Argument::Listing,
+    Argument::Json,
+];
+
+const LONGEST_ARGUMENTS: &[Argument] = &[
+    Argument::Rom,
+    Argument::Cert,
+    Argument::Procedure,
+    Argument::Rows,
+    Argument::Symbols,
+    Argument::Listing,
+    Argument::Json,
+];
+
+const REPORT_ARGUMENTS: &[Argument] = &[
+    Argument::Rom,
+    Argument::Cert,
+    Argument::Symbols,
+    Argument::Listing,
+];
+
+const DIFF_ARGUMENTS: &[Argument] = &[
+    Argument::OldCert,
+    Argument::NewCert,
+    Argument::OldSymbols,
+    Argument::Symbols,
+];
+
+const MIGRATE_ARGUMENTS: &[Argument] = &[Argument::Cert, Argument::To];
+
+const HELP_ARGUMENTS: &[Argument] = &[Argument::HelpedCommand];
+
+/// A command with its short description.
+fn begun<'a>(alloc: Global, name: &'static str, about: &'static str) -> Command<'a> {
+    Command::new(alloc, name).about(about)
 }
 
-fn suggest_command<'a>(alloc: Global) -> Result<Command<'a>, AllocError> {
-    let args = vec![in alloc;
-        rom(alloc),
-        annot(alloc),
-        trials_option(alloc),
-        output_option(alloc),
-        symbols_option(alloc),
-        listing_option(alloc),
-        quiet_option(alloc),
-        json_option(alloc),
-    ]?;
-    command(alloc, "suggest", SUGGEST)
-        .about("Finds annotations for a ROM, and prints them as a file")
-        .args(args)
+/// Adds a long description, and the statuses below it.
+fn with_description<'a>(command: Command<'a>, description: Option<&'static str>) -> Command<'a> {
+    match description {
+        Some(text) => command.long_about(text).after_long_help(STATUSES),
+        None => command,
+    }
 }
 
-fn verify_command<'a>(alloc: Global) -> Result<Command<'a>, AllocError> {
-    let args = vec![in alloc;
-        rom(alloc),
-        cert(alloc),
-        symbols_option(alloc),
-        listing_option(alloc),
-        max_stack_option(alloc),
-        max_nmi_option(alloc),
-        quiet_option(alloc),
-        json_option(alloc),
-    ]?;
-    command(alloc, "verify", VERIFY)
-        .about("Checks a certificate for a ROM, and prints the table or the refusal")
-        .args(args)
-}
-
-fn run_command<'a>(alloc: Global) -> Result<Command<'a>, AllocError> {
-    let args = vec![in alloc;
-        rom(alloc),
-        cert(alloc),
-        file(
-            alloc,
-            "INPUT",
-            "The input: a reset and the environments of events",
-        ),
-        file(
-            alloc,
-            "STEPS",
-            "The most events that are played, a decimal of at most 4294967295",
-        ),
-        symbols_option(alloc),
-        listing_option(alloc),
-        trace_option(alloc),
-        until_nmi_option(alloc),
-        dump_option(alloc),
-        json_option(alloc),
-    ]?;
-    command(alloc, "run", RUN)
-        .about("Checks, then plays an input for at most STEPS events")
-        .args(args)
-}
-
-fn migrate_command<'a>(alloc: Global) -> Result<Command<'a>, AllocError> {
-    let args = vec![in alloc; cert(alloc), to_option(alloc)]?;
-    command(alloc, "migrate", MIGRATE)
-        .about("Prints a certificate in version 2 or 3")
-        .args(args)
-}
-
-fn explain_command<'a>(alloc: Global) -> Result<Command<'a>, AllocError> {
-    let args = vec![in alloc;
-        rom(alloc),
-        second(alloc),
-        infer_option(alloc),
-        trials_option(alloc),
-        max_option(alloc),
-        symbols_option(alloc),
-        listing_option(alloc),
-        json_option(alloc),
-    ]?;
-    command(alloc, "explain", EXPLAIN)
-        .about(
-            "Says why a ROM is refused and what helps; with a number for ROM, what that reason means",
-        )
-        .args(args)
-}
-
-fn list_command<'a>(alloc: Global) -> Result<Command<'a>, AllocError> {
-    let args = vec![in alloc;
-        rom(alloc),
-        cert(alloc),
-        symbols_option(alloc),
-        listing_option(alloc),
-        json_option(alloc),
-    ]?;
-    command(alloc, "list", LIST)
-        .about("Checks, then prints a listing with what the certificate says of each instruction")
-        .args(args)
-}
-
-fn longest_command<'a>(alloc: Global) -> Result<Command<'a>, AllocError> {
-    let args = vec![in alloc;
-        rom(alloc),
-        cert(alloc),
-        entry(alloc),
-        rows_option(alloc),
-        symbols_option(alloc),
-        listing_option(alloc),
-        json_option(alloc),
-    ]?;
-    command(alloc, "longest", LONGEST)
-        .about("Checks, then prints where the T-states of a procedure go")
-        .args(args)
-}
-
-fn report_command<'a>(alloc: Global) -> Result<Command<'a>, AllocError> {
-    let args = vec![in alloc;
-        rom(alloc),
-        cert(alloc),
-        symbols_option(alloc),
-        listing_option(alloc),
-    ]?;
-    command(alloc, "report", REPORT)
-        .about("Checks, then prints a report as a page of HTML")
-        .args(args)
-}
-
-fn diff_command<'a>(alloc: Global) -> Result<Command<'a>, AllocError> {
-    let args = vec![in alloc;
-        file(alloc, "OLD", "The old certificate, a text"),
-        file(alloc, "NEW", "The new certificate, a text"),
-        old_symbols_option(alloc),
-        symbols_option(alloc),
-    ]?;
-    command(alloc, "diff", DIFF)
-        .about("Prints the tables of two certificates side by side")
-        .args(args)
-}
-
-fn help_command<'a>(alloc: Global) -> Result<Command<'a>, AllocError> {
-    Command::new(alloc, "help")
-        .about("Prints the help of a command on standard output")
-        .arg(
-            Arg::new(alloc, COMMAND)
-                .help("The command; if none is said, the help of galcert is printed")
-                .action(ArgAction::Set),
-        )
-}
-
-/// A command with its long description.
-fn command<'a>(alloc: Global, name: &'static str, about: &'static str) -> Command<'a> {
-    Command::new(alloc, name)
-        .long_about(about)
-        .after_long_help(STATUSES)
+/// Adds an argument or an option.
+fn with_argument<'a>(
+    command: Command<'a>,
+    alloc: Global,
+    argument: Argument,
+) -> Result<Command<'a>, AllocError> {
+    let made = argument.made(alloc)?;
+    command.arg(made)
 }

@@ -3,11 +3,11 @@
 use crate::devices::{input, stdout};
 use crate::naming::read_files;
 use crate::streams::Remarks;
-use certificate_changes::{EntryNames, diff_on};
 use clap::ArgMatches;
 use command_reports::{UsedDevice, clash_of, end, report_clash};
 use command_words::{OLD_SYMBOLS, SYMBOLS};
-use program_names::{NameFiles, ProgramNames};
+use named_reports::{NameFiles, ProgramNames};
+use view_commands::{EntryNames, diff_on};
 
 /// `galcert diff`. The result is the exit status.
 pub fn diff_files<'a>(rt: &'a HostRuntime, matches: &ArgMatches<'a>, notes: &mut Remarks) -> u8 {

@@ -10,10 +10,8 @@ use command_reports::{UsedDevice, clash_of, end, number_of, report, report_clash
 use command_words::{INFER, LISTING, MAX, SECOND, SYMBOLS, word};
 use explain_commands::{Asked, explain_on, page_number, page_on};
 use file_devices::Likeness;
-use file_hints::{hint_certificate, hint_named, hint_rom};
 use json_documents::{Command, conclude};
-use named_reports::tell_bad_note;
-use program_names::ProgramNames;
+use named_reports::{ProgramNames, hint_certificate, hint_named, hint_rom, tell_bad_note};
 
 /// How many refusals are explained where no number is said.
 const MOST_UNSAID: u32 = 20;

@@ -9,20 +9,18 @@ use command_parts::ExitStatus;
 use command_reports::{
     Limits, UsedDevice, clash_of, end, finish_all, number_of, report, report_clash, version_of,
 };
-use command_streams::Printed;
+use command_streams::{Printed, Watched};
 use command_words::{
     CERT_FILE, INFER, LISTING, OUTPUT, QUIET, SYMBOLS, TRIALS, VERSION_AT_MOST, WARN_UNNEEDED, word,
 };
 use commands::check_on;
 use file_devices::{AfterOutput, Output, SharedOutput};
-use file_hints::{hint_annotations, hint_named, hint_rom};
 use inference_commands::{infer_on, suggest_on};
 use json_documents::{Command, conclude};
 use named_commands::{NamedCheck, check_named_on, suggest_named_on};
-use program_names::ProgramNames;
+use named_reports::{ProgramNames, hint_annotations, hint_named, hint_rom};
 use std::cell::RefCell;
 use texts::Sink;
-use watched_sinks::Watched;
 
 /// The most trials of a search where none is said.
 const TRIALS_UNSAID: u32 = 2_000;

@@ -5,12 +5,11 @@ use crate::streams::Remarks;
 use clap::ArgMatches;
 use command_parts::ExitStatus;
 use command_reports::{UsedDevice, end};
+use command_streams::Watched;
 use command_words::{LISTING, SYMBOLS, WARN_UNNEEDED};
-use named_reports::tell_refusal;
-use program_names::{NameFiles, ProgramNames, read_names};
+use named_reports::{NameFiles, ProgramNames, read_names, tell_refusal};
 use symbols::Symbols;
 use texts::Sink;
-use watched_sinks::Watched;
 
 /// Whether the command line names a symbol file or a listing.
 pub fn has_names(matches: &ArgMatches) -> bool {

@@ -9,17 +9,15 @@ use command_reports::{
     Clash, Reporter, UsedDevice, clash_of, end, finish_all, number_of, report, report_clash,
     twice_written,
 };
-use command_streams::{MeteredSource, Printed};
+use command_streams::{MeteredSource, Printed, Watched};
 use command_words::{DUMP, LISTING, SYMBOLS, TRACE, UNTIL_NMI, word};
 use commands::{run_on, steps_of};
 use file_devices::{Output, WriterSink};
-use file_hints::{hint_certificate, hint_rom};
 use json_documents::{Command, conclude};
-use program_names::ProgramNames;
+use named_reports::{ProgramNames, hint_certificate, hint_rom};
 use run_traces::{DumpNames, RamParts, Watching, dump_names, watch_on};
 use std::io;
 use std::io::Printer;
-use watched_sinks::Watched;
 
 /// The inputs.
 const INPUTS: [&str; 5] = ["ROM", "CERT", "INPUT", SYMBOLS, LISTING];

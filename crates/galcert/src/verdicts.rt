@@ -8,11 +8,11 @@ use certificate::Version;
 use clap::ArgMatches;
 use command_parts::ExitStatus;
 use command_reports::{Limits, UsedDevice, clash_of, end, report_clash, version_of};
+use command_streams::Watched;
 use command_words::{LISTING, QUIET, SYMBOLS, TO};
 use commands::{migrate_on, verify_on};
 use file_devices::Output;
 use json_documents::{Command, conclude};
-use watched_sinks::Watched;
 
 /// `galcert verify`. The result is the exit status.
 pub fn verify_files<'a>(rt: &'a HostRuntime, matches: &ArgMatches<'a>, notes: &mut Remarks) -> u8 {

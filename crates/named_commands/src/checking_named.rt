@@ -17,10 +17,9 @@ use commands::{make, read_annotations};
 use inference_commands::{Progress, infer};
 use named_annotations::{NamedFault, named_text};
 use named_reports::{
-    tell_bad_note, tell_conflict, tell_unknown_names, warn_of_effects, warn_of_places,
-    warn_of_refused, warn_of_unneeded,
+    ProgramNames, tell_bad_note, tell_conflict, tell_lines, tell_unknown_names, warn_of_effects,
+    warn_of_places, warn_of_refused, warn_of_unneeded,
 };
-use program_names::{ProgramNames, tell_lines};
 use runner::cert_checker::Accepted;
 use source_lines::AddressNames;
 use std::alloc::Global;

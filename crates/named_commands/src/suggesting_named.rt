@@ -8,7 +8,7 @@ ghost use Rattle.texts.specs.Device.{HasFailed, CountsNoFailure};
 use crate::checking_named::said_by;
 use command_parts::{read_all, read_rom};
 use inference_commands::{Progress, suggest};
-use program_names::ProgramNames;
+use named_reports::ProgramNames;
 use std::alloc::Global;
 use texts::{Sink, Source};
 

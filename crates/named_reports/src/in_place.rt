@@ -12,7 +12,11 @@ const QUOTES: [&str; 4] = ["\"\"\"", "'''", "\"", "'"];
 
 /// A text of annotations in which each name for an address is replaced by the address. All else stays where it is, so
 /// each line keeps its number.
-pub fn numbered(alloc: Global, text: &[u8], symbols: &Symbols) -> Result<Vec<u8>, AllocError> {
+pub(crate) fn numbered(
+    alloc: Global,
+    text: &[u8],
+    symbols: &Symbols,
+) -> Result<Vec<u8>, AllocError> {
     let places = Places::of(alloc, text)?;
     let mut made = Vec::new(alloc);
     let mut from = 0usize;

@@ -1,7 +1,7 @@
 // What is told on standard error of names, notes and refusals.
 
+use crate::telling::tell_note;
 use named_annotations::{NamedFault, UnknownName};
-use program_names::tell_note;
 use source_lines::AddressNames;
 use source_notes::NoteFault;
 use std::alloc::Global;

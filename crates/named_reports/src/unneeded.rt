@@ -1,8 +1,8 @@
 // Annotations without which a ROM is accepted too.
 
+use crate::telling::tell_note;
 use annotations::{AnnotationFault, Annotations};
 use cert_writer::{WriterFault, certify};
-use program_names::tell_note;
 use source_lines::AddressNames;
 use std::alloc::{AllocError, Global};
 use texts::Sink;

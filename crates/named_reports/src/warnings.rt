@@ -1,5 +1,6 @@
 // Warnings about annotations that have no effect, or whose address is wrong (docs/PROGRAM.md, "Warnings").
 
+use crate::telling::tell_note;
 use abs_state::Pairs;
 use address_map::Rom;
 use annotations::{Given, SplitNote};
@@ -7,7 +8,6 @@ use board_fetch::fetch;
 use certificate::Certificate;
 use data_reads::data_reads;
 use intervals::{ByteRange, WordRange};
-use program_names::tell_note;
 use runner::cert_checker::Accepted;
 use source_lines::{AddressNames, NamedAddress};
 use std::alloc::{AllocError, Global};

@@ -1,10 +1,9 @@
 // Lines in pieces.
 
-use command_streams::ColoredLines;
+use command_streams::{ColoredLines, Watched};
 use memory_devices::Taken;
 use std::test::Fail;
 use texts::{Sink, put};
-use watched_sinks::Watched;
 
 /// Lines, and the same in color (ECMA-48: 31 is red, 33 yellow, 0 none).
 const LINES: &[(&str, &str)] = &[

@@ -9,7 +9,7 @@ use texts::{Sink, put};
 const TOLD: usize = 3;
 
 /// Tells a line. What cannot be written, or made in memory, is left out.
-pub fn tell_note<N: Sink, D: fmt::Display + Drop>(alloc: Global, notes: &mut N, said: D) {
+pub(crate) fn tell_note<N: Sink, D: fmt::Display + Drop>(alloc: Global, notes: &mut N, said: D) {
     if let Ok(line) = format!(in alloc; "{said}\n") {
         let _told = put(notes, line.as_bytes());
     }

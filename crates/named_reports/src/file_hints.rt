@@ -1,10 +1,11 @@
 // Hints about files that are not what a command takes (docs/PROGRAM.md, "Hints").
 
+use crate::in_place::numbered;
+use crate::program_names::ProgramNames;
+use crate::telling::tell_note;
 use address_map::ROM_LIMIT;
 use annotation_faults::place_of_fault;
 use file_devices::{FileSource, Likeness, certified_len};
-use named_reports::numbered;
-use program_names::{ProgramNames, tell_note};
 use std::alloc::Global;
 use std::fs;
 use std::rt::Files;

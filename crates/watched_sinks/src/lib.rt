@@ -1,6 +1,0 @@
-// Sinks that remember of what they pass on (docs/PROGRAM.md, "Names for addresses").
-#![tactic(auto)]
-
-mod watched;
-
-pub use watched::Watched;
