@@ -40,12 +40,19 @@ def bytes_of_hex(text):
     return bytes(made)
 
 
+def repeated(new):
+    """A new text. A table with `text`, `from` and `count` is its text that many times, with a number that rises at each `{}`."""
+    if isinstance(new, str):
+        return new
+    return "".join(new["text"].format(new["from"] + step) for step in range(new["count"]))
+
+
 def changed(data, pairs):
     """The file with the first occurrence of each old text replaced, in turn."""
     for old, new in pairs:
         if old.encode() not in data:
             raise BadCase(f"the text has no {old!r}")
-        data = data.replace(old.encode(), new.encode(), 1)
+        data = data.replace(old.encode(), repeated(new).encode(), 1)
     return data
 
 

@@ -11,16 +11,14 @@ import re
 import subprocess
 import sys
 
-TESTS = pathlib.Path(__file__).resolve().parent.parent / "crates" / "disassembly_tests" / "src"
-TABLES = ["unprefixed", "behind_cb", "behind_ed", "behind_dd", "behind_fd"]
-CODE = re.compile(r"^ +([0-9A-F ]+): (.+?)\\n(?:\\|\";)$", re.M)
+TABLES = pathlib.Path(__file__).resolve().parent.parent / "crates/z80_tests/src/code_texts.rt"
+CODE = re.compile(r"(?:^ +|\\n)([0-9A-F]{2}(?: [0-9A-F]{2})*): (.+?)(?=\\n)", re.M)
 
 
 def codes():
     """Each text of the tables with its bytes."""
-    for table in TABLES:
-        for digits, text in CODE.findall((TESTS / f"{table}.rt").read_text()):
-            yield text, bytes.fromhex(digits)
+    for digits, text in CODE.findall(TABLES.read_text()):
+        yield text, bytes.fromhex(digits)
 
 
 def assembled(text):

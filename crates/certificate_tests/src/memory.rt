@@ -1,8 +1,8 @@
 // Memory is refused once, at each growth in turn (`tools/memory.sh`): the call answers `NoMemory`, and the next is
 // right.
 
-use crate::both_ways::is_written_as;
-use crate::parts::parts_of;
+use crate::accessors::is_every_form;
+use crate::parts::made_again;
 use crate::samples::EVERY_FORM;
 use certificate::{CertFault, Certificate, ReadFault, read, read_from};
 use memory_devices::Bytes;
@@ -17,84 +17,86 @@ enum Call {
     Of,
 }
 
-/// The report of a fault: the place where memory was refused, or that it is another fault.
-fn told(is_refused: bool, place: &'static str) -> &'static str {
-    if is_refused { place } else { "another fault" }
+/// What a call answers: the certificate, that memory was refused, or something else.
+#[derive(Clone, Copy, PartialEq, Eq)]
+enum Told {
+    Made,
+    Refused,
+    Wrong,
 }
 
-/// The certificate made of its own parts, or the report.
-fn made(alloc: Global, certificate: &Certificate) -> Result<Certificate, &'static str> {
-    match parts_of(alloc, certificate) {
-        Ok(parts) => Certificate::of(alloc, parts).map_err(|fault| told(
-            fault == CertFault::NoMemory,
-            "refused in Certificate::of",
-        )),
-        Err(_) => Err("refused before Certificate::of"),
+fn told_of(certificate: &Certificate) -> Told {
+    if is_every_form(certificate) {
+        Told::Made
+    } else {
+        Told::Wrong
     }
 }
 
-/// What a call makes, or the report if it makes nothing. The source gives a hundred bytes at once.
-fn made_by(alloc: Global, call: Call) -> Result<Certificate, &'static str> {
-    let text = EVERY_FORM.as_bytes();
+fn told_of_fault(is_refused: bool) -> Told {
+    if is_refused {
+        Told::Refused
+    } else {
+        Told::Wrong
+    }
+}
+
+fn told_of_read(alloc: Global) -> Told {
+    match read(alloc, EVERY_FORM.as_bytes()) {
+        Ok(certificate) => told_of(&certificate),
+        Err(fault) => told_of_fault(fault == CertFault::NoMemory),
+    }
+}
+
+/// The source gives a hundred bytes at once.
+fn told_of_read_from(alloc: Global) -> Told {
+    match read_from(
+        alloc,
+        &mut Bytes::failing(EVERY_FORM.as_bytes(), 100, u64::MAX),
+    ) {
+        Ok(certificate) => told_of(&certificate),
+        Err(fault) => told_of_fault(fault == ReadFault::NoMemory),
+    }
+}
+
+fn told_of_parts(alloc: Global, certificate: &Certificate) -> Told {
+    match made_again(alloc, certificate) {
+        Ok(made) => told_of(&made),
+        Err(fault) => told_of_fault(fault == CertFault::NoMemory),
+    }
+}
+
+fn told_of_made(alloc: Global) -> Told {
+    match read(alloc, EVERY_FORM.as_bytes()) {
+        Ok(certificate) => told_of_parts(alloc, &certificate),
+        Err(fault) => told_of_fault(fault == CertFault::NoMemory),
+    }
+}
+
+fn told_by(alloc: Global, call: Call) -> Told {
     match call {
-        Call::Read => read(alloc, text).map_err(|fault| told(
-            fault == CertFault::NoMemory,
-            "refused in read",
-        )),
-        Call::ReadFrom => read_from(alloc, &mut Bytes::failing(text, 100, u64::MAX)).map_err(
-            |fault| told(fault == ReadFault::NoMemory, "refused in read_from"),
-        ),
-        Call::Of => match read(alloc, text) {
-            Ok(certificate) => made(alloc, &certificate),
-            Err(_) => Err("refused before Certificate::of"),
-        },
+        Call::Read => told_of_read(alloc),
+        Call::ReadFrom => told_of_read_from(alloc),
+        Call::Of => told_of_made(alloc),
     }
 }
 
-/// Whether what was made is written as the text `EVERY_FORM`.
-fn is_every_form(alloc: Global, made: Result<Certificate, &'static str>) -> bool {
-    match made {
-        Ok(certificate) => is_written_as(alloc, &certificate, 4096, EVERY_FORM),
-        Err(_) => false,
-    }
-}
+const CALLS: &[(Call, &str)] = &[
+    (Call::Read, "refused in read"),
+    (Call::ReadFrom, "refused in read_from"),
+    (Call::Of, "refused in Certificate::of, or before it"),
+];
 
-/// The report of a call that makes the certificate.
-const MADE: &str = "made";
-
-/// The report of a call. A refused call is repeated.
-fn told_of(alloc: Global, call: Call) -> &'static str {
-    match made_by(alloc, call) {
-        Ok(certificate) if certificate.row_count() == 5 => MADE,
-        Ok(_) => "made of other rows",
-        Err(told) if is_every_form(alloc, made_by(alloc, call)) => told,
-        Err(_) => "not made when called again",
-    }
-}
-
-/// Calls, and prints the report of a refused call.
-fn again(rt: &HostRuntime, call: Call) -> Result<(), Fail> {
-    let told = told_of(rt.alloc(), call);
-    if told != MADE {
-        println!(rt; "{told}")?;
-        if !told.starts_with("refused") {
-            return Err(Fail::new("another report"));
+/// A refused call is repeated.
+#[test]
+fn made_by_each(rt: HostRuntime) -> Result<(), Fail> {
+    for &(call, report) in CALLS {
+        let mut told = told_by(rt.alloc(), call);
+        if told == Told::Refused {
+            println!(rt; "{report}")?;
+            told = told_by(rt.alloc(), call);
         }
+        assert!(rt; told == Told::Made);
     }
     Ok(())
-}
-
-#[test]
-fn read_again(rt: HostRuntime) -> Result<(), Fail> {
-    again(&rt, Call::Read)
-}
-
-#[test]
-fn read_from_again(rt: HostRuntime) -> Result<(), Fail> {
-    again(&rt, Call::ReadFrom)
-}
-
-#[test]
-fn made_again(rt: HostRuntime) -> Result<(), Fail> {
-    again(&rt, Call::Of)
 }

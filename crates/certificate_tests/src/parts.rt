@@ -1,171 +1,170 @@
 // Certificates made of parts.
 
 use crate::both_ways::is_written_as;
-use crate::samples::{EVERY_FORM, JUMP, ROUTINE};
+use crate::samples::{EVERY_FORM, EVERY_PART, JUMP};
 use abs_state::KeptCell;
 use address_map::Region;
 use certificate::BoardMap::{self, Galaxian, Raised};
 use certificate::CertFault::{self, Limit, Line};
 use certificate::Version::{self, One, Two};
-use certificate::{Certificate, Parts, Proc, ProcKind, Row, Split, read};
+use certificate::{Certificate, Parts, Proc, ProcKind, Row, RowRef, read};
 use intervals::ByteRange;
 use std::alloc::{AllocError, Global};
-use std::test::Fail;
-use z80_decode::Register8;
 
 /// A copy of a row.
-fn row_again(certificate: &Certificate, id: u32) -> Option<Row> {
-    Some(Row {
-        proc: certificate.proc_of(id)?,
-        address: certificate.address(id)?,
-        state: certificate.state(id)?,
-        parts: certificate.row(id)?.parts.copied(),
-        facts: certificate.facts(id)?.copied(),
-        potential: certificate.potential(id)?,
-    })
+fn row_again(row: &RowRef) -> Row {
+    Row {
+        proc: row.proc,
+        address: row.address,
+        state: row.state(),
+        parts: row.parts.copied(),
+        facts: row.facts.copied(),
+        potential: row.potential,
+    }
 }
 
-/// The parts of a certificate.
-pub fn parts_of(alloc: Global, certificate: &Certificate) -> Result<Parts, AllocError> {
+fn rows_again(alloc: Global, certificate: &Certificate) -> Result<Vec<Row>, AllocError> {
     let mut rows = Vec::new(alloc);
     for id in 0..certificate.row_count() {
-        if let Some(row) = row_again(certificate, id) {
-            rows.push(row)?;
+        if let Some(row) = certificate.row(id) {
+            rows.push(row_again(&row))?;
         }
     }
-    Ok(Parts {
-        version: certificate.version(),
-        rom_len: certificate.rom_len(),
-        board: certificate.board(),
-        region: certificate.region(),
-        budget: certificate.budget(),
-        procs: Vec::from_slice(alloc, certificate.procs())?,
-        splits: Vec::from_slice(alloc, certificate.splits())?,
-        inlines: Vec::from_slice(alloc, certificate.inlines())?,
-        cells: Vec::from_slice(alloc, certificate.cells())?,
-        rows,
-    })
+    Ok(rows)
+}
+
+/// The numbers before a certificate's lists.
+type Head = (Version, BoardMap, u16, Region, Option<u16>);
+
+/// Parts without lists.
+fn head_with(alloc: Global, head: Head) -> Parts {
+    let (version, board, rom_len, region, budget) = head;
+    Parts {
+        version,
+        rom_len,
+        board,
+        region,
+        budget,
+        procs: Vec::new(alloc),
+        splits: Vec::new(alloc),
+        inlines: Vec::new(alloc),
+        cells: Vec::new(alloc),
+        rows: Vec::new(alloc),
+    }
+}
+
+fn head_of(certificate: &Certificate) -> Head {
+    (
+        certificate.version(),
+        certificate.board(),
+        certificate.rom_len(),
+        certificate.region(),
+        certificate.budget(),
+    )
+}
+
+/// Copies the lists of a certificate.
+fn add_lists(certificate: &Certificate, parts: &mut Parts) -> Result<(), AllocError> {
+    parts.procs.extend_from_slice(certificate.procs())?;
+    parts.splits.extend_from_slice(certificate.splits())?;
+    parts.inlines.extend_from_slice(certificate.inlines())?;
+    parts.cells.extend_from_slice(certificate.cells())
+}
+
+/// The certificate made of the parts of this one.
+pub fn made_again(alloc: Global, certificate: &Certificate) -> Result<Certificate, CertFault> {
+    let mut parts = head_with(alloc, head_of(certificate));
+    let Ok(rows) = rows_again(alloc, certificate) else {
+        return Err(CertFault::NoMemory);
+    };
+    parts.rows = rows;
+    match add_lists(certificate, &mut parts) {
+        Ok(()) => Certificate::of(alloc, parts),
+        Err(_) => Err(CertFault::NoMemory),
+    }
+}
+
+/// Whether this certificate is made again of its parts. Its text is this one.
+fn is_made_again(alloc: Global, certificate: &Certificate, text: &str) -> bool {
+    match made_again(alloc, certificate) {
+        Ok(made) => is_written_as(alloc, &made, text),
+        Err(_) => false,
+    }
+}
+
+fn is_made(alloc: Global, text: &str) -> bool {
+    match read(alloc, text.as_bytes()) {
+        Ok(certificate) => is_made_again(alloc, &certificate, text),
+        Err(_) => false,
+    }
 }
 
 #[test]
-fn made_again(rt: HostRuntime) -> Result<(), Fail> {
-    for &text in &[JUMP, ROUTINE, EVERY_FORM] {
-        let certificate = read(rt.alloc(), text.as_bytes())?;
-        let made = Certificate::of(rt.alloc(), parts_of(rt.alloc(), &certificate)?)?;
-        assert!(rt; is_written_as(rt.alloc(), &made, 4096, text), "of {text}");
+fn in_form(rt: HostRuntime) {
+    for &text in &[JUMP, EVERY_FORM, EVERY_PART] {
+        assert!(rt; is_made(rt.alloc(), text));
     }
-    Ok(())
 }
 
-/// Procedures of one kind: the first one's entry, and how many there are, at consecutive addresses.
-type Run = (ProcKind, u16, u16);
-
-const MAIN: Run = (ProcKind::Main, 0, 1);
-
-/// The most procedures that a certificate may have, and one more.
-const MOST: &[Run] = &[MAIN, (ProcKind::Sub, 1, 1_023)];
-
-const ABOVE: &[Run] = &[MAIN, (ProcKind::Sub, 1, 1_024)];
-
-type Numbers = &'static [u16];
-
-/// Parts without rows: version, board, procedures, those of splits, inline calls, cells; then the fault, if any.
-type Case = (
-    Version,
-    BoardMap,
-    &'static [Run],
-    Numbers,
-    Numbers,
-    Numbers,
-    Option<CertFault>,
-);
+/// Parts without splits and rows: the version, the board, how many procedures at 0000, inline calls from 0000 on and
+/// cells at 4000 there are; then the fault, if there is one.
+type Case = (Version, BoardMap, u16, u16, u16, Option<CertFault>);
 
 const PARTS: &[Case] = &[
-    (One, Galaxian, &[MAIN], &[], &[], &[], None),
+    (One, Galaxian, 1, 0, 0, None),
     // An old version
-    (One, Raised, &[MAIN], &[], &[], &[], Some(Line(3))),
-    (Two, Raised, &[MAIN], &[], &[], &[], None),
-    (One, Galaxian, &[MAIN], &[], &[], &[0x4000], Some(Line(6))),
+    (One, Raised, 1, 0, 0, Some(Line(3))),
+    (One, Galaxian, 1, 0, 1, Some(Line(6))),
+    (Two, Raised, 1, 0, 0, None),
     // Out of order
-    (One, Galaxian, &[MAIN, MAIN], &[], &[], &[], Some(Line(6))),
-    (One, Galaxian, &[], &[], &[], &[], Some(Line(5))),
-    (Two, Galaxian, &[MAIN], &[], &[9, 8], &[], Some(Line(8))),
-    (Two, Galaxian, &[MAIN], &[1], &[], &[], Some(Line(7))),
-    // The limit of procedures
-    (One, Galaxian, MOST, &[], &[], &[], None),
-    (One, Galaxian, ABOVE, &[], &[], &[], Some(Limit)),
+    (One, Galaxian, 0, 0, 0, Some(Line(5))),
+    (One, Galaxian, 2, 0, 0, Some(Line(6))),
+    // The limit of inline calls
+    (Two, Galaxian, 1, 1_024, 0, None),
+    (Two, Galaxian, 1, 1_025, 0, Some(Limit)),
 ];
 
-/// The procedures of these runs.
-fn procs_of(alloc: Global, runs: &[Run]) -> Result<Vec<Proc>, AllocError> {
-    let mut procs = Vec::new(alloc);
-    for &(kind, first, count) in runs {
-        for step in 0..count {
-            procs.push(Proc {
-                kind,
-                entry: first.wrapping_add(step),
-                rank: 0,
-                depth: 2,
-                time: None,
-            })?;
-        }
-    }
-    Ok(procs)
-}
+const REGION: Region = Region {
+    low: 0x4380,
+    top: 0x4400,
+};
 
-/// Splits by B at 0003 of these procedures.
-fn splits_in(alloc: Global, procs: &[u16]) -> Result<Vec<Split>, AllocError> {
-    let mut splits = Vec::new(alloc);
-    for proc in procs {
-        splits.push(Split {
-            proc: *proc,
-            address: 3,
-            register: Register8::B,
-        })?;
-    }
-    Ok(splits)
-}
+const MAIN: Proc = Proc {
+    kind: ProcKind::Main,
+    entry: 0,
+    rank: 0,
+    depth: 2,
+    time: None,
+};
 
-/// Cells at these addresses, with full ranges.
-fn cells_at(alloc: Global, addresses: &[u16]) -> Result<Vec<KeptCell>, AllocError> {
-    let mut cells = Vec::new(alloc);
-    for at in addresses {
-        cells.push(KeptCell {
-            at: *at,
+/// Adds this many procedures, inline calls and cells.
+fn add_many(parts: &mut Parts, procs: u16, inlines: u16, cells: u16) -> Result<(), AllocError> {
+    for _ in 0..procs {
+        parts.procs.push(MAIN)?;
+    }
+    for address in 0..inlines {
+        parts.inlines.push(address)?;
+    }
+    for _ in 0..cells {
+        parts.cells.push(KeptCell {
+            at: 0x4000,
             range: ByteRange::full(),
         })?;
     }
-    Ok(cells)
+    Ok(())
 }
 
-/// The parts of a case.
-fn parts_with(alloc: Global, case: &Case) -> Result<Parts, AllocError> {
-    let &(version, board, runs, splits, inlines, cells, _) = case;
-    Ok(Parts {
-        version,
-        rom_len: 6,
-        board,
-        region: Region {
-            low: 0x4380,
-            top: 0x4400,
-        },
-        budget: None,
-        procs: procs_of(alloc, runs)?,
-        splits: splits_in(alloc, splits)?,
-        inlines: Vec::from_slice(alloc, inlines)?,
-        cells: cells_at(alloc, cells)?,
-        rows: Vec::new(alloc),
-    })
+/// Whether the parts of a case have its fault, or none.
+fn is_judged(alloc: Global, case: &Case) -> bool {
+    let &(version, board, procs, inlines, cells, fault) = case;
+    let mut parts = head_with(alloc, (version, board, 6, REGION, None));
+    add_many(&mut parts, procs, inlines, cells).is_ok()
+        && Certificate::of(alloc, parts).err() == fault
 }
 
 #[test]
-fn in_and_out_of_form(rt: HostRuntime) -> Result<(), Fail> {
+fn in_and_out_of_form(rt: HostRuntime) {
     for (place, case) in PARTS.iter().enumerate() {
-        let parts = parts_with(rt.alloc(), case)?;
-        assert!(rt;
-            Certificate::of(rt.alloc(), parts).err() == case.6,
-            "case {place}, from 0"
-        );
+        assert!(rt; is_judged(rt.alloc(), case), "case {place}, from 0");
     }
-    Ok(())
 }

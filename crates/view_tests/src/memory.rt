@@ -1,4 +1,4 @@
-// Memory is refused once, at each growth in turn (`tools/memory.sh listing_tests`).
+// Memory is refused once, at each growth in turn (`tools/memory.sh view_tests`).
 
 use crate::sample::{NAMES, write_sample};
 use listing::ListFault;

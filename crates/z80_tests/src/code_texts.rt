@@ -1,0 +1,140 @@
+// The text of each documented code, but for ED 63 and ED 6B. The texts are UM0080's, and the bytes z80asm's at 1000h
+// (`tools/spellings.py`).
+
+/// The tables of codes. A line for each code: its bytes, a colon, and its text.
+pub const PAGES: [&str; 5] = [UNPREFIXED, BEHIND_CB, BEHIND_ED, BEHIND_DD, BEHIND_FD];
+
+/// Instructions without a prefix.
+const UNPREFIXED: &str = "\
+    00: NOP\n01 35 8C: LD BC,8C35h\n02: LD (BC),A\n03: INC BC\n04: INC B\n05: DEC B\n06 A5: LD B,0A5h\n07: RLCA\n\
+    08: EX AF,AF'\n09: ADD HL,BC\n0A: LD A,(BC)\n0B: DEC BC\n0C: INC C\n0D: DEC C\n0E A5: LD C,0A5h\n0F: RRCA\n\
+    10 0E: DJNZ 1010h\n11 35 8C: LD DE,8C35h\n12: LD (DE),A\n13: INC DE\n14: INC D\n15: DEC D\n16 A5: LD D,0A5h\n\
+    17: RLA\n18 0E: JR 1010h\n19: ADD HL,DE\n1A: LD A,(DE)\n1B: DEC DE\n1C: INC E\n1D: DEC E\n1E A5: LD E,0A5h\n\
+    1F: RRA\n20 0E: JR NZ,1010h\n21 35 8C: LD HL,8C35h\n22 35 8C: LD (8C35h),HL\n23: INC HL\n24: INC H\n25: DEC H\n\
+    26 A5: LD H,0A5h\n27: DAA\n28 0E: JR Z,1010h\n29: ADD HL,HL\n2A 35 8C: LD HL,(8C35h)\n2B: DEC HL\n2C: INC L\n\
+    2D: DEC L\n2E A5: LD L,0A5h\n2F: CPL\n30 0E: JR NC,1010h\n31 35 8C: LD SP,8C35h\n32 35 8C: LD (8C35h),A\n\
+    33: INC SP\n34: INC (HL)\n35: DEC (HL)\n36 A5: LD (HL),0A5h\n37: SCF\n38 0E: JR C,1010h\n39: ADD HL,SP\n\
+    3A 35 8C: LD A,(8C35h)\n3B: DEC SP\n3C: INC A\n3D: DEC A\n3E A5: LD A,0A5h\n3F: CCF\n40: LD B,B\n41: LD B,C\n\
+    42: LD B,D\n43: LD B,E\n44: LD B,H\n45: LD B,L\n46: LD B,(HL)\n47: LD B,A\n48: LD C,B\n49: LD C,C\n4A: LD C,D\n\
+    4B: LD C,E\n4C: LD C,H\n4D: LD C,L\n4E: LD C,(HL)\n4F: LD C,A\n50: LD D,B\n51: LD D,C\n52: LD D,D\n53: LD D,E\n\
+    54: LD D,H\n55: LD D,L\n56: LD D,(HL)\n57: LD D,A\n58: LD E,B\n59: LD E,C\n5A: LD E,D\n5B: LD E,E\n5C: LD E,H\n\
+    5D: LD E,L\n5E: LD E,(HL)\n5F: LD E,A\n60: LD H,B\n61: LD H,C\n62: LD H,D\n63: LD H,E\n64: LD H,H\n65: LD H,L\n\
+    66: LD H,(HL)\n67: LD H,A\n68: LD L,B\n69: LD L,C\n6A: LD L,D\n6B: LD L,E\n6C: LD L,H\n6D: LD L,L\n\
+    6E: LD L,(HL)\n6F: LD L,A\n70: LD (HL),B\n71: LD (HL),C\n72: LD (HL),D\n73: LD (HL),E\n74: LD (HL),H\n\
+    75: LD (HL),L\n76: HALT\n77: LD (HL),A\n78: LD A,B\n79: LD A,C\n7A: LD A,D\n7B: LD A,E\n7C: LD A,H\n7D: LD A,L\n\
+    7E: LD A,(HL)\n7F: LD A,A\n80: ADD A,B\n81: ADD A,C\n82: ADD A,D\n83: ADD A,E\n84: ADD A,H\n85: ADD A,L\n\
+    86: ADD A,(HL)\n87: ADD A,A\n88: ADC A,B\n89: ADC A,C\n8A: ADC A,D\n8B: ADC A,E\n8C: ADC A,H\n8D: ADC A,L\n\
+    8E: ADC A,(HL)\n8F: ADC A,A\n90: SUB B\n91: SUB C\n92: SUB D\n93: SUB E\n94: SUB H\n95: SUB L\n96: SUB (HL)\n\
+    97: SUB A\n98: SBC A,B\n99: SBC A,C\n9A: SBC A,D\n9B: SBC A,E\n9C: SBC A,H\n9D: SBC A,L\n9E: SBC A,(HL)\n\
+    9F: SBC A,A\nA0: AND B\nA1: AND C\nA2: AND D\nA3: AND E\nA4: AND H\nA5: AND L\nA6: AND (HL)\nA7: AND A\n\
+    A8: XOR B\nA9: XOR C\nAA: XOR D\nAB: XOR E\nAC: XOR H\nAD: XOR L\nAE: XOR (HL)\nAF: XOR A\nB0: OR B\nB1: OR C\n\
+    B2: OR D\nB3: OR E\nB4: OR H\nB5: OR L\nB6: OR (HL)\nB7: OR A\nB8: CP B\nB9: CP C\nBA: CP D\nBB: CP E\nBC: CP H\n\
+    BD: CP L\nBE: CP (HL)\nBF: CP A\nC0: RET NZ\nC1: POP BC\nC2 35 8C: JP NZ,8C35h\nC3 35 8C: JP 8C35h\n\
+    C4 35 8C: CALL NZ,8C35h\nC5: PUSH BC\nC6 A5: ADD A,0A5h\nC7: RST 00h\nC8: RET Z\nC9: RET\nCA 35 8C: JP Z,8C35h\n\
+    CC 35 8C: CALL Z,8C35h\nCD 35 8C: CALL 8C35h\nCE A5: ADC A,0A5h\nCF: RST 08h\nD0: RET NC\nD1: POP DE\n\
+    D2 35 8C: JP NC,8C35h\nD3 A5: OUT (0A5h),A\nD4 35 8C: CALL NC,8C35h\nD5: PUSH DE\nD6 A5: SUB 0A5h\nD7: RST 10h\n\
+    D8: RET C\nD9: EXX\nDA 35 8C: JP C,8C35h\nDB A5: IN A,(0A5h)\nDC 35 8C: CALL C,8C35h\nDE A5: SBC A,0A5h\n\
+    DF: RST 18h\nE0: RET PO\nE1: POP HL\nE2 35 8C: JP PO,8C35h\nE3: EX (SP),HL\nE4 35 8C: CALL PO,8C35h\n\
+    E5: PUSH HL\nE6 A5: AND 0A5h\nE7: RST 20h\nE8: RET PE\nE9: JP (HL)\nEA 35 8C: JP PE,8C35h\nEB: EX DE,HL\n\
+    EC 35 8C: CALL PE,8C35h\nEE A5: XOR 0A5h\nEF: RST 28h\nF0: RET P\nF1: POP AF\nF2 35 8C: JP P,8C35h\nF3: DI\n\
+    F4 35 8C: CALL P,8C35h\nF5: PUSH AF\nF6 A5: OR 0A5h\nF7: RST 30h\nF8: RET M\nF9: LD SP,HL\nFA 35 8C: JP M,8C35h\n\
+    FB: EI\nFC 35 8C: CALL M,8C35h\nFE A5: CP 0A5h\nFF: RST 38h\n";
+
+/// Instructions with the prefix CB.
+const BEHIND_CB: &str = "\
+    CB 00: RLC B\nCB 01: RLC C\nCB 02: RLC D\nCB 03: RLC E\nCB 04: RLC H\nCB 05: RLC L\nCB 06: RLC (HL)\n\
+    CB 07: RLC A\nCB 08: RRC B\nCB 09: RRC C\nCB 0A: RRC D\nCB 0B: RRC E\nCB 0C: RRC H\nCB 0D: RRC L\n\
+    CB 0E: RRC (HL)\nCB 0F: RRC A\nCB 10: RL B\nCB 11: RL C\nCB 12: RL D\nCB 13: RL E\nCB 14: RL H\nCB 15: RL L\n\
+    CB 16: RL (HL)\nCB 17: RL A\nCB 18: RR B\nCB 19: RR C\nCB 1A: RR D\nCB 1B: RR E\nCB 1C: RR H\nCB 1D: RR L\n\
+    CB 1E: RR (HL)\nCB 1F: RR A\nCB 20: SLA B\nCB 21: SLA C\nCB 22: SLA D\nCB 23: SLA E\nCB 24: SLA H\nCB 25: SLA L\n\
+    CB 26: SLA (HL)\nCB 27: SLA A\nCB 28: SRA B\nCB 29: SRA C\nCB 2A: SRA D\nCB 2B: SRA E\nCB 2C: SRA H\n\
+    CB 2D: SRA L\nCB 2E: SRA (HL)\nCB 2F: SRA A\nCB 38: SRL B\nCB 39: SRL C\nCB 3A: SRL D\nCB 3B: SRL E\n\
+    CB 3C: SRL H\nCB 3D: SRL L\nCB 3E: SRL (HL)\nCB 3F: SRL A\nCB 40: BIT 0,B\nCB 41: BIT 0,C\nCB 42: BIT 0,D\n\
+    CB 43: BIT 0,E\nCB 44: BIT 0,H\nCB 45: BIT 0,L\nCB 46: BIT 0,(HL)\nCB 47: BIT 0,A\nCB 48: BIT 1,B\n\
+    CB 49: BIT 1,C\nCB 4A: BIT 1,D\nCB 4B: BIT 1,E\nCB 4C: BIT 1,H\nCB 4D: BIT 1,L\nCB 4E: BIT 1,(HL)\n\
+    CB 4F: BIT 1,A\nCB 50: BIT 2,B\nCB 51: BIT 2,C\nCB 52: BIT 2,D\nCB 53: BIT 2,E\nCB 54: BIT 2,H\nCB 55: BIT 2,L\n\
+    CB 56: BIT 2,(HL)\nCB 57: BIT 2,A\nCB 58: BIT 3,B\nCB 59: BIT 3,C\nCB 5A: BIT 3,D\nCB 5B: BIT 3,E\n\
+    CB 5C: BIT 3,H\nCB 5D: BIT 3,L\nCB 5E: BIT 3,(HL)\nCB 5F: BIT 3,A\nCB 60: BIT 4,B\nCB 61: BIT 4,C\n\
+    CB 62: BIT 4,D\nCB 63: BIT 4,E\nCB 64: BIT 4,H\nCB 65: BIT 4,L\nCB 66: BIT 4,(HL)\nCB 67: BIT 4,A\n\
+    CB 68: BIT 5,B\nCB 69: BIT 5,C\nCB 6A: BIT 5,D\nCB 6B: BIT 5,E\nCB 6C: BIT 5,H\nCB 6D: BIT 5,L\n\
+    CB 6E: BIT 5,(HL)\nCB 6F: BIT 5,A\nCB 70: BIT 6,B\nCB 71: BIT 6,C\nCB 72: BIT 6,D\nCB 73: BIT 6,E\n\
+    CB 74: BIT 6,H\nCB 75: BIT 6,L\nCB 76: BIT 6,(HL)\nCB 77: BIT 6,A\nCB 78: BIT 7,B\nCB 79: BIT 7,C\n\
+    CB 7A: BIT 7,D\nCB 7B: BIT 7,E\nCB 7C: BIT 7,H\nCB 7D: BIT 7,L\nCB 7E: BIT 7,(HL)\nCB 7F: BIT 7,A\n\
+    CB 80: RES 0,B\nCB 81: RES 0,C\nCB 82: RES 0,D\nCB 83: RES 0,E\nCB 84: RES 0,H\nCB 85: RES 0,L\n\
+    CB 86: RES 0,(HL)\nCB 87: RES 0,A\nCB 88: RES 1,B\nCB 89: RES 1,C\nCB 8A: RES 1,D\nCB 8B: RES 1,E\n\
+    CB 8C: RES 1,H\nCB 8D: RES 1,L\nCB 8E: RES 1,(HL)\nCB 8F: RES 1,A\nCB 90: RES 2,B\nCB 91: RES 2,C\n\
+    CB 92: RES 2,D\nCB 93: RES 2,E\nCB 94: RES 2,H\nCB 95: RES 2,L\nCB 96: RES 2,(HL)\nCB 97: RES 2,A\n\
+    CB 98: RES 3,B\nCB 99: RES 3,C\nCB 9A: RES 3,D\nCB 9B: RES 3,E\nCB 9C: RES 3,H\nCB 9D: RES 3,L\n\
+    CB 9E: RES 3,(HL)\nCB 9F: RES 3,A\nCB A0: RES 4,B\nCB A1: RES 4,C\nCB A2: RES 4,D\nCB A3: RES 4,E\n\
+    CB A4: RES 4,H\nCB A5: RES 4,L\nCB A6: RES 4,(HL)\nCB A7: RES 4,A\nCB A8: RES 5,B\nCB A9: RES 5,C\n\
+    CB AA: RES 5,D\nCB AB: RES 5,E\nCB AC: RES 5,H\nCB AD: RES 5,L\nCB AE: RES 5,(HL)\nCB AF: RES 5,A\n\
+    CB B0: RES 6,B\nCB B1: RES 6,C\nCB B2: RES 6,D\nCB B3: RES 6,E\nCB B4: RES 6,H\nCB B5: RES 6,L\n\
+    CB B6: RES 6,(HL)\nCB B7: RES 6,A\nCB B8: RES 7,B\nCB B9: RES 7,C\nCB BA: RES 7,D\nCB BB: RES 7,E\n\
+    CB BC: RES 7,H\nCB BD: RES 7,L\nCB BE: RES 7,(HL)\nCB BF: RES 7,A\nCB C0: SET 0,B\nCB C1: SET 0,C\n\
+    CB C2: SET 0,D\nCB C3: SET 0,E\nCB C4: SET 0,H\nCB C5: SET 0,L\nCB C6: SET 0,(HL)\nCB C7: SET 0,A\n\
+    CB C8: SET 1,B\nCB C9: SET 1,C\nCB CA: SET 1,D\nCB CB: SET 1,E\nCB CC: SET 1,H\nCB CD: SET 1,L\n\
+    CB CE: SET 1,(HL)\nCB CF: SET 1,A\nCB D0: SET 2,B\nCB D1: SET 2,C\nCB D2: SET 2,D\nCB D3: SET 2,E\n\
+    CB D4: SET 2,H\nCB D5: SET 2,L\nCB D6: SET 2,(HL)\nCB D7: SET 2,A\nCB D8: SET 3,B\nCB D9: SET 3,C\n\
+    CB DA: SET 3,D\nCB DB: SET 3,E\nCB DC: SET 3,H\nCB DD: SET 3,L\nCB DE: SET 3,(HL)\nCB DF: SET 3,A\n\
+    CB E0: SET 4,B\nCB E1: SET 4,C\nCB E2: SET 4,D\nCB E3: SET 4,E\nCB E4: SET 4,H\nCB E5: SET 4,L\n\
+    CB E6: SET 4,(HL)\nCB E7: SET 4,A\nCB E8: SET 5,B\nCB E9: SET 5,C\nCB EA: SET 5,D\nCB EB: SET 5,E\n\
+    CB EC: SET 5,H\nCB ED: SET 5,L\nCB EE: SET 5,(HL)\nCB EF: SET 5,A\nCB F0: SET 6,B\nCB F1: SET 6,C\n\
+    CB F2: SET 6,D\nCB F3: SET 6,E\nCB F4: SET 6,H\nCB F5: SET 6,L\nCB F6: SET 6,(HL)\nCB F7: SET 6,A\n\
+    CB F8: SET 7,B\nCB F9: SET 7,C\nCB FA: SET 7,D\nCB FB: SET 7,E\nCB FC: SET 7,H\nCB FD: SET 7,L\n\
+    CB FE: SET 7,(HL)\nCB FF: SET 7,A\n";
+
+/// Instructions with the prefix ED, but for ED 63 and ED 6B.
+const BEHIND_ED: &str = "\
+    ED 40: IN B,(C)\nED 41: OUT (C),B\nED 42: SBC HL,BC\nED 43 35 8C: LD (8C35h),BC\nED 44: NEG\nED 45: RETN\n\
+    ED 46: IM 0\nED 47: LD I,A\nED 48: IN C,(C)\nED 49: OUT (C),C\nED 4A: ADC HL,BC\nED 4B 35 8C: LD BC,(8C35h)\n\
+    ED 4D: RETI\nED 4F: LD R,A\nED 50: IN D,(C)\nED 51: OUT (C),D\nED 52: SBC HL,DE\nED 53 35 8C: LD (8C35h),DE\n\
+    ED 56: IM 1\nED 57: LD A,I\nED 58: IN E,(C)\nED 59: OUT (C),E\nED 5A: ADC HL,DE\nED 5B 35 8C: LD DE,(8C35h)\n\
+    ED 5E: IM 2\nED 5F: LD A,R\nED 60: IN H,(C)\nED 61: OUT (C),H\nED 62: SBC HL,HL\nED 67: RRD\nED 68: IN L,(C)\n\
+    ED 69: OUT (C),L\nED 6A: ADC HL,HL\nED 6F: RLD\nED 72: SBC HL,SP\nED 73 35 8C: LD (8C35h),SP\nED 78: IN A,(C)\n\
+    ED 79: OUT (C),A\nED 7A: ADC HL,SP\nED 7B 35 8C: LD SP,(8C35h)\nED A0: LDI\nED A1: CPI\nED A2: INI\nED A3: OUTI\n\
+    ED A8: LDD\nED A9: CPD\nED AA: IND\nED AB: OUTD\nED B0: LDIR\nED B1: CPIR\nED B2: INIR\nED B3: OTIR\n\
+    ED B8: LDDR\nED B9: CPDR\nED BA: INDR\nED BB: OTDR\n";
+
+/// Instructions with the prefix DD.
+const BEHIND_DD: &str = "\
+    DD 09: ADD IX,BC\nDD 19: ADD IX,DE\nDD 21 35 8C: LD IX,8C35h\nDD 22 35 8C: LD (8C35h),IX\nDD 23: INC IX\n\
+    DD 29: ADD IX,IX\nDD 2A 35 8C: LD IX,(8C35h)\nDD 2B: DEC IX\nDD 34 05: INC (IX+05h)\nDD 35 05: DEC (IX+05h)\n\
+    DD 36 05 A5: LD (IX+05h),0A5h\nDD 39: ADD IX,SP\nDD 46 05: LD B,(IX+05h)\nDD 4E 05: LD C,(IX+05h)\n\
+    DD 56 05: LD D,(IX+05h)\nDD 5E 05: LD E,(IX+05h)\nDD 66 05: LD H,(IX+05h)\nDD 6E 05: LD L,(IX+05h)\n\
+    DD 70 05: LD (IX+05h),B\nDD 71 05: LD (IX+05h),C\nDD 72 05: LD (IX+05h),D\nDD 73 05: LD (IX+05h),E\n\
+    DD 74 05: LD (IX+05h),H\nDD 75 05: LD (IX+05h),L\nDD 77 05: LD (IX+05h),A\nDD 7E 05: LD A,(IX+05h)\n\
+    DD 86 05: ADD A,(IX+05h)\nDD 8E 05: ADC A,(IX+05h)\nDD 96 05: SUB (IX+05h)\nDD 9E 05: SBC A,(IX+05h)\n\
+    DD A6 05: AND (IX+05h)\nDD AE 05: XOR (IX+05h)\nDD B6 05: OR (IX+05h)\nDD BE 05: CP (IX+05h)\n\
+    DD CB 05 06: RLC (IX+05h)\nDD CB 05 0E: RRC (IX+05h)\nDD CB 05 16: RL (IX+05h)\nDD CB 05 1E: RR (IX+05h)\n\
+    DD CB 05 26: SLA (IX+05h)\nDD CB 05 2E: SRA (IX+05h)\nDD CB 05 3E: SRL (IX+05h)\nDD CB 05 46: BIT 0,(IX+05h)\n\
+    DD CB 05 4E: BIT 1,(IX+05h)\nDD CB 05 56: BIT 2,(IX+05h)\nDD CB 05 5E: BIT 3,(IX+05h)\n\
+    DD CB 05 66: BIT 4,(IX+05h)\nDD CB 05 6E: BIT 5,(IX+05h)\nDD CB 05 76: BIT 6,(IX+05h)\n\
+    DD CB 05 7E: BIT 7,(IX+05h)\nDD CB 05 86: RES 0,(IX+05h)\nDD CB 05 8E: RES 1,(IX+05h)\n\
+    DD CB 05 96: RES 2,(IX+05h)\nDD CB 05 9E: RES 3,(IX+05h)\nDD CB 05 A6: RES 4,(IX+05h)\n\
+    DD CB 05 AE: RES 5,(IX+05h)\nDD CB 05 B6: RES 6,(IX+05h)\nDD CB 05 BE: RES 7,(IX+05h)\n\
+    DD CB 05 C6: SET 0,(IX+05h)\nDD CB 05 CE: SET 1,(IX+05h)\nDD CB 05 D6: SET 2,(IX+05h)\n\
+    DD CB 05 DE: SET 3,(IX+05h)\nDD CB 05 E6: SET 4,(IX+05h)\nDD CB 05 EE: SET 5,(IX+05h)\n\
+    DD CB 05 F6: SET 6,(IX+05h)\nDD CB 05 FE: SET 7,(IX+05h)\nDD E1: POP IX\nDD E3: EX (SP),IX\nDD E5: PUSH IX\n\
+    DD E9: JP (IX)\nDD F9: LD SP,IX\n";
+
+/// Instructions with the prefix FD.
+const BEHIND_FD: &str = "\
+    FD 09: ADD IY,BC\nFD 19: ADD IY,DE\nFD 21 35 8C: LD IY,8C35h\nFD 22 35 8C: LD (8C35h),IY\nFD 23: INC IY\n\
+    FD 29: ADD IY,IY\nFD 2A 35 8C: LD IY,(8C35h)\nFD 2B: DEC IY\nFD 34 05: INC (IY+05h)\nFD 35 05: DEC (IY+05h)\n\
+    FD 36 05 A5: LD (IY+05h),0A5h\nFD 39: ADD IY,SP\nFD 46 05: LD B,(IY+05h)\nFD 4E 05: LD C,(IY+05h)\n\
+    FD 56 05: LD D,(IY+05h)\nFD 5E 05: LD E,(IY+05h)\nFD 66 05: LD H,(IY+05h)\nFD 6E 05: LD L,(IY+05h)\n\
+    FD 70 05: LD (IY+05h),B\nFD 71 05: LD (IY+05h),C\nFD 72 05: LD (IY+05h),D\nFD 73 05: LD (IY+05h),E\n\
+    FD 74 05: LD (IY+05h),H\nFD 75 05: LD (IY+05h),L\nFD 77 05: LD (IY+05h),A\nFD 7E 05: LD A,(IY+05h)\n\
+    FD 86 05: ADD A,(IY+05h)\nFD 8E 05: ADC A,(IY+05h)\nFD 96 05: SUB (IY+05h)\nFD 9E 05: SBC A,(IY+05h)\n\
+    FD A6 05: AND (IY+05h)\nFD AE 05: XOR (IY+05h)\nFD B6 05: OR (IY+05h)\nFD BE 05: CP (IY+05h)\n\
+    FD CB 05 06: RLC (IY+05h)\nFD CB 05 0E: RRC (IY+05h)\nFD CB 05 16: RL (IY+05h)\nFD CB 05 1E: RR (IY+05h)\n\
+    FD CB 05 26: SLA (IY+05h)\nFD CB 05 2E: SRA (IY+05h)\nFD CB 05 3E: SRL (IY+05h)\nFD CB 05 46: BIT 0,(IY+05h)\n\
+    FD CB 05 4E: BIT 1,(IY+05h)\nFD CB 05 56: BIT 2,(IY+05h)\nFD CB 05 5E: BIT 3,(IY+05h)\n\
+    FD CB 05 66: BIT 4,(IY+05h)\nFD CB 05 6E: BIT 5,(IY+05h)\nFD CB 05 76: BIT 6,(IY+05h)\n\
+    FD CB 05 7E: BIT 7,(IY+05h)\nFD CB 05 86: RES 0,(IY+05h)\nFD CB 05 8E: RES 1,(IY+05h)\n\
+    FD CB 05 96: RES 2,(IY+05h)\nFD CB 05 9E: RES 3,(IY+05h)\nFD CB 05 A6: RES 4,(IY+05h)\n\
+    FD CB 05 AE: RES 5,(IY+05h)\nFD CB 05 B6: RES 6,(IY+05h)\nFD CB 05 BE: RES 7,(IY+05h)\n\
+    FD CB 05 C6: SET 0,(IY+05h)\nFD CB 05 CE: SET 1,(IY+05h)\nFD CB 05 D6: SET 2,(IY+05h)\n\
+    FD CB 05 DE: SET 3,(IY+05h)\nFD CB 05 E6: SET 4,(IY+05h)\nFD CB 05 EE: SET 5,(IY+05h)\n\
+    FD CB 05 F6: SET 6,(IY+05h)\nFD CB 05 FE: SET 7,(IY+05h)\nFD E1: POP IY\nFD E3: EX (SP),IY\nFD E5: PUSH IY\n\
+    FD E9: JP (IY)\nFD F9: LD SP,IY\n";
