@@ -121,6 +121,12 @@ impl Rows {
         self.rows.len()
     }
 
+    /// The number of the last row's shape.
+    fn last_shape(&self) -> Option<usize> {
+        let last = self.rows.last()?;
+        Some(last.shape)
+    }
+
     /// Appends a row. The numbers are those of the shapes of the rows before it; others cost memory alone. Where memory is
     /// refused, the rows stay as they were.
     pub fn push(&mut self, numbers: &mut ShapeNumbers, row: Row) -> Result<(), AllocError>
@@ -142,8 +148,8 @@ impl Rows {
             flag,
             shape,
         } = state;
-        let found = numbers.found(&shape)?;
-        let shape_number = self.shapes.number_of(shape, found)?;
+        let last = self.last_shape();
+        let shape_number = self.shapes.number_of(numbers, last, shape)?;
         let parts_number = self.parts.number_of(parts)?;
         self.rows.push(NumberedRow {
             proc,
