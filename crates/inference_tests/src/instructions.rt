@@ -2,27 +2,21 @@
 
 use loop_bounds::{Change, Effect, Part, SlotChange, SlotNumber, Variable};
 
-pub fn load_a(value: u16) -> Effect {
-    Effect {
-        a: Change::Constant(value),
-        ..Effect::unchanged()
+/// LD of A, B or C with a number.
+pub fn load(register: Variable, value: u16) -> Effect {
+    let mut effect = Effect::unchanged();
+    match register {
+        Variable::A => effect.a = Change::Constant(value),
+        Variable::B => {
+            effect.b = Change::Constant(value);
+            effect.bc = Change::Unknown;
+        }
+        _ => {
+            effect.c = Change::Constant(value);
+            effect.bc = Change::Unknown;
+        }
     }
-}
-
-pub fn load_b(value: u16) -> Effect {
-    Effect {
-        b: Change::Constant(value),
-        bc: Change::Unknown,
-        ..Effect::unchanged()
-    }
-}
-
-pub fn load_c(value: u16) -> Effect {
-    Effect {
-        c: Change::Constant(value),
-        bc: Change::Unknown,
-        ..Effect::unchanged()
-    }
+    effect
 }
 
 pub fn load_bc(value: u16) -> Effect {
@@ -61,23 +55,6 @@ pub fn raise_hl() -> Effect {
         h: Change::Unknown,
         l: Change::Unknown,
         hl: Change::Raised(Variable::Hl),
-        ..Effect::unchanged()
-    }
-}
-
-/// LD IX,nn.
-pub fn load_ix(value: u16) -> Effect {
-    Effect {
-        ix: Change::Constant(value),
-        ..Effect::unchanged()
-    }
-}
-
-/// INC B.
-pub fn raise_b() -> Effect {
-    Effect {
-        b: Change::Raised(Variable::B),
-        bc: Change::Unknown,
         ..Effect::unchanged()
     }
 }
@@ -129,16 +106,8 @@ pub fn exchange() -> Effect {
     }
 }
 
-/// LD A,(HL).
-pub fn fetch_a() -> Effect {
-    Effect {
-        a: Change::Unknown,
-        ..Effect::unchanged()
-    }
-}
-
 /// A push that writes the slot of this number with a pair and its halves.
-fn push(number: SlotNumber, word: Variable, high: Variable, low: Variable) -> Effect {
+pub fn push(number: SlotNumber, word: Variable, high: Variable, low: Variable) -> Effect {
     Effect {
         slot: Some(SlotChange {
             number,
@@ -153,16 +122,6 @@ fn push(number: SlotNumber, word: Variable, high: Variable, low: Variable) -> Ef
 /// PUSH HL, which writes the slot of this number.
 pub fn push_hl(number: SlotNumber) -> Effect {
     push(number, Variable::Hl, Variable::H, Variable::L)
-}
-
-/// PUSH DE.
-pub fn push_de(number: SlotNumber) -> Effect {
-    push(number, Variable::De, Variable::D, Variable::E)
-}
-
-/// PUSH BC.
-pub fn push_bc(number: SlotNumber) -> Effect {
-    push(number, Variable::Bc, Variable::B, Variable::C)
 }
 
 /// POP DE, which takes the slot of this number.

@@ -54,6 +54,16 @@ pub fn l_less_64() -> Linear {
     one_term(-64, 1, Variable::L)
 }
 
+/// C is set exactly if L is below 64.
+pub fn of_l() -> FlagPart {
+    part(Letter::CarryIfBelow, l_less_64())
+}
+
+/// C is set exactly if A is below 64.
+pub fn of_a() -> FlagPart {
+    part(Letter::CarryIfBelow, one_term(-64, 1, Variable::A))
+}
+
 /// C is set.
 pub fn carry_set() -> FlagPart {
     part(Letter::CarryIfBelow, no_terms(-1))
@@ -68,12 +78,11 @@ pub fn a_less(variable: Variable) -> Linear {
     }
 }
 
-/// The refined step from address 0000 of a ROM, in a called procedure, without kept cells and inline calls.
-fn refined(alloc: Global, rom: &[u8], state: &AbsState, parts: &FlagParts) -> Option<RefinedStep> {
-    let rom = Rom::of(rom)?;
+/// The refined step from address 0000, in a called procedure, without kept cells and inline calls.
+fn refined(alloc: Global, rom: &Rom, state: &AbsState, parts: &FlagParts) -> Option<RefinedStep> {
     let map = Map::galaxian(rom.len());
-    let ground = Ground::of(&rom, &map, &[]);
-    match fetch(&rom, 0) {
+    let ground = Ground::of(rom, &map, &[]);
+    match fetch(rom, 0) {
         Ok((instr, len)) => Some(refined_step(
             alloc, &ground, 0, false, false, &instr, len, state, parts,
         )),
@@ -89,7 +98,8 @@ pub fn found_parts(
     facts: &[Linear],
     row: &FlagParts,
 ) -> Option<FlagParts> {
-    let step = refined(alloc, rom, state, row)?;
+    let rom = Rom::of(rom)?;
+    let step = refined(alloc, &rom, state, row)?;
     match &step.answer {
         Ok(nexts) => match nexts.as_slice() {
             [next] => Some(parts_in(&step, next, state, facts)),
@@ -191,17 +201,13 @@ fn ground_in(
                     moved: &next.moved,
                     after: &next.state,
                 };
-                Some(claimed_ground(&step, claim))
+                Some(match claim {
+                    Claimed::Part(part) => ground_of(&step, part),
+                    Claimed::Fact(fact) => fact_ground_of(&step, fact),
+                })
             }
             _ => None,
         },
         Err(_) => None,
-    }
-}
-
-fn claimed_ground(step: &PartStep, claim: &Claimed) -> Option<PartGround> {
-    match claim {
-        Claimed::Part(part) => ground_of(step, part),
-        Claimed::Fact(fact) => fact_ground_of(step, fact),
     }
 }

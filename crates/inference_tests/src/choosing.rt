@@ -1,5 +1,5 @@
 // Common parts, and parts that are worth more than others.
-use crate::setting::{any_state, bytes, carry_set, l_less_64, part, parts, with_a};
+use crate::setting::{any_state, bytes, carry_set, of_l, part, parts, with_a};
 use abs_state::AbsState;
 use derived_parts::{carry_part, common_parts, narrowing_part};
 use flag_conditions::one_term;
@@ -12,25 +12,18 @@ fn of_a() -> FlagPart {
     part(Letter::Zero, one_term(0, 1, Variable::A))
 }
 
-fn of_l() -> FlagPart {
-    part(Letter::CarryIfBelow, l_less_64())
-}
-
 /// B is below 32 exactly if C is set.
 fn of_b() -> FlagPart {
     part(Letter::CarryIfBelow, one_term(-32, 1, Variable::B))
 }
 
+/// Common parts are in order. A constant makes the carry known.
 #[test]
-fn common_parts_are_in_order(rt: HostRuntime) {
+fn parts_in_common(rt: HostRuntime) {
     let one = parts(&[of_b(), of_l(), of_a()]);
     let other = parts(&[of_a(), of_b()]);
     assert!(rt; common_parts(&one, &other) == parts(&[of_b(), of_a()]));
     assert!(rt; common_parts(&one, &FlagParts::empty()).is_empty());
-}
-
-#[test]
-fn a_constant_makes_the_carry_known(rt: HostRuntime) {
     let row = parts(&[of_a(), of_l(), carry_set()]);
     assert!(rt; carry_part(&row, &any_state()) == Some(carry_set()));
     assert!(rt; carry_part(&parts(&[of_a(), of_l()]), &any_state()) == None);
@@ -44,7 +37,7 @@ fn with_small_b() -> AbsState {
 }
 
 /// The row has three flag parts. The part `of_a` tells Z, so it says nothing where C is tested. The part `of_l` narrows
-/// the range of L. Where B is below 32, the part `of_b` leaves nothing if C is clear.
+/// the range of L. Where B is below 32, the part `of_b` leaves nothing if C is clear. A known part is not chosen.
 #[test]
 fn what_leaves_nothing_is_preferred(rt: HostRuntime) {
     let row = parts(&[of_a(), of_l(), of_b()]);
@@ -53,10 +46,6 @@ fn what_leaves_nothing_is_preferred(rt: HostRuntime) {
     assert!(rt; found == Some(of_b()));
     let found = narrowing_part(&row, &known, Condition::NotCarry, &any_state());
     assert!(rt; found == Some(of_l()));
-}
-
-#[test]
-fn a_known_part_is_not_chosen(rt: HostRuntime) {
     let row = parts(&[of_a(), of_l()]);
     let known = parts(&[of_l()]);
     assert!(rt; narrowing_part(&row, &known, Condition::Carry, &any_state()) == None);

@@ -4,17 +4,13 @@ use derived_parts::{linear_before, negated};
 use flag_conditions::one_term;
 use loop_bounds::{Effect, Variable};
 
-/// With nothing changed A - L stays, and where A is 5 it is 5 - L.
+/// With nothing changed A - L stays, and where A is 5 it is 5 - L. A negation turns each sign.
 #[test]
-fn one_value_counts_as_that(rt: HostRuntime) {
+fn linears_before_a_step(rt: HostRuntime) {
     let unchanged = Effect::unchanged();
     let found = linear_before(&a_less(Variable::L), &unchanged, &any_state());
     assert!(rt; found == Some(a_less(Variable::L)));
     let found = linear_before(&a_less(Variable::L), &unchanged, &with_a(5, 5));
     assert!(rt; found == Some(one_term(5, -1, Variable::L)));
-}
-
-#[test]
-fn a_negation_turns_each_sign(rt: HostRuntime) {
     assert!(rt; negated(&l_less_64()) == Some(one_term(64, -1, Variable::L)));
 }

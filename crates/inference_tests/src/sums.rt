@@ -17,27 +17,16 @@ pub fn run(from: &Space, effects: &[Effect]) -> Space {
     space
 }
 
-/// `a*x + b*y + constant`.
-pub fn pair(a: (i32, Variable), b: (i32, Variable), constant: i32) -> Option<Linear> {
-    let sum = Linear::of_constant(constant)?;
-    sum.with_term(term(a))?.with_term(term(b))
-}
-
-/// `a*x + b*y + c*z + constant`.
-pub fn three(
-    a: (i32, Variable),
-    b: (i32, Variable),
-    c: (i32, Variable),
-    constant: i32,
-) -> Option<Linear> {
-    pair(a, b, constant)?.with_term(term(c))
-}
-
-fn term((coefficient, variable): (i32, Variable)) -> Term {
-    Term {
-        coefficient,
-        variable,
+/// The constant and terms: each a coefficient and a variable.
+pub fn linear(constant: i32, terms: &[(i32, Variable)]) -> Option<Linear> {
+    let mut made = Linear::of_constant(constant)?;
+    for (coefficient, variable) in terms {
+        made = made.with_term(Term {
+            coefficient: *coefficient,
+            variable: *variable,
+        })?;
     }
+    Some(made)
 }
 
 /// Whether the relations are these, in this order.
