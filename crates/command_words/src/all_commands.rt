@@ -116,7 +116,7 @@ impl Name {
         }
     }
 
-    /// The long description, but for `help`.
+    /// The long description. The command `help` has none.
     fn description(self) -> Option<&'static str> {
         match self {
             Name::Check => Some(CHECK),

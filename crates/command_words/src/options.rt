@@ -76,7 +76,7 @@ pub(crate) enum Argument {
 /// What an argument or an option takes.
 #[derive(Clone, Copy)]
 enum Form {
-    /// An argument that has to be said.
+    /// An argument that must be there.
     Required,
     /// An argument that may be left out.
     Optional,
@@ -97,7 +97,7 @@ impl Argument {
         with_alias(with_letter(argument, self.letter()), self.alias())
     }
 
-    /// The name by which what was said is found. An option is said by it too.
+    /// The name by which its value is found. An option is written with it.
     fn name(self) -> &'static str {
         match self {
             Argument::Rom => "ROM",
@@ -280,7 +280,7 @@ pub(crate) fn color_option<'a>(alloc: Global) -> Arg<'a> {
     with_colors(option)
 }
 
-/// Adds what the option may say.
+/// Adds the values that the option may have.
 fn with_colors<'a>(option: Arg<'a>) -> Arg<'a> {
     option.value_parser(ValueParser::Names(COLORS))
 }
