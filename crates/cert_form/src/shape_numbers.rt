@@ -4,8 +4,7 @@ use indexmap::IndexSet;
 use stack_shape::Shape;
 use std::alloc::{AllocError, Global};
 
-/// The number of each shape that occurred so far. A certificate that was read does not need them: so what stands on
-/// certificates alone does not load the hash table.
+/// The number of each shape that occurred so far. They are needed only while rows are read.
 #[derive(Drop)]
 pub struct ShapeNumbers {
     shapes: IndexSet<Shape>,
