@@ -159,7 +159,7 @@ fn has_state(certificate: &Certificate) -> bool {
         && has_potential(certificate)
 }
 
-/// Row 2 of `EVERY_PART` has eight flag parts, of which the second is b-128+1*A.
+/// Row 2 of `EVERY_PART` has eight flag parts. The second is b-128+1*A.
 fn has_parts(certificate: &Certificate) -> bool {
     match certificate.row(2) {
         Some(row) => {
@@ -175,7 +175,7 @@ fn has_parts(certificate: &Certificate) -> bool {
     }
 }
 
-/// A text, and what is asked of its certificate.
+/// Whether the calls answer right for the certificate of `EVERY_FORM`.
 fn are_right(alloc: Global) -> bool {
     match read(alloc, EVERY_FORM.as_bytes()) {
         Ok(certificate) => is_every_form(&certificate),

@@ -22,7 +22,7 @@ fn a_copy_is_equal(rt: HostRuntime) {
     assert!(rt; are(&copied.after(&raise_b, 0).relations(), &[one_more]));
 }
 
-/// LD B,C; LD C,5: B is the old C, of which nothing else is known.
+/// LD B,C; LD C,5: B is the old C. Nothing else is known of the old C.
 #[test]
 fn an_overwritten_source_is_forgotten(rt: HostRuntime) {
     let mut lost = after_all(&[copy_c_to_b(), load(Variable::C, 5)]);

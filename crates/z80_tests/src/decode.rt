@@ -118,7 +118,7 @@ const PAGES: &[(&str, [u8; 4], usize, &[u8; 256])] = &[
     ("FD CB 05", [0xFD, 0xCB, 5, 0], 3, BEHIND_INDEX_CB),
 ];
 
-/// There are 698 documented codes, of which CB 00 is in two tables.
+/// There are 698 documented codes. CB 00 is in two tables.
 #[test]
 fn decodes_every_code(rt: HostRuntime) {
     let mut documented = 0u16;
