@@ -1,28 +1,29 @@
 // The numbers of shapes, while rows are read.
 
-use indexmap::IndexSet;
 use stack_shape::Shape;
 use std::alloc::{AllocError, Global};
+use std::collections::HashMap;
 
 /// The number of each shape that occurred so far. They are needed only while rows are read.
 #[derive(Drop)]
 pub struct ShapeNumbers {
-    shapes: IndexSet<Shape>,
+    numbers: HashMap<Shape, usize>,
 }
 
 impl ShapeNumbers {
     pub fn new(alloc: Global) -> ShapeNumbers {
         ShapeNumbers {
-            shapes: IndexSet::new(alloc),
+            numbers: HashMap::new(alloc),
         }
     }
 
     /// The number that a shape had before; None if it is new. A new shape gets the next number.
     pub(crate) fn found(&mut self, shape: &Shape) -> Result<Option<usize>, AllocError> {
-        let found = self.shapes.get_index_of(shape);
-        if found.is_none() {
-            let _is_new = self.shapes.insert(shape.copied())?;
+        if let Some(number) = self.numbers.get(shape) {
+            return Ok(Some(*number));
         }
-        Ok(found)
+        let next = self.numbers.len();
+        self.numbers.insert(shape.copied(), next)?;
+        Ok(None)
     }
 }
