@@ -56,33 +56,35 @@ impl<'a> Report<'a> {
     pub fn write_part<W: Sink>(&mut self, number: u32, out: &mut W) -> Result<(), ListFault> {
         let mut page = Page::new(self.shown.alloc);
         self.add_part(&mut page, number)?;
-        put(out, page.bytes())?;
+        put(out, page.bytes()?)?;
         Ok(())
     }
 
     /// Adds a part to a page.
     fn add_part(&mut self, page: &mut Page, number: u32) -> Result<(), AllocError> {
         match number {
-            0 => self.add_head(page),
+            0 => self.add_head(page)?,
             1 => {
                 add_verdict(&self.shown, page)?;
-                add_meaning(&self.shown, page)
+                add_meaning(&self.shown, page);
             }
-            2 => add_times(&self.shown, page),
-            3 => add_procedures(&self.shown, page),
-            4 => add_rom(&self.shown, page),
-            5 => add_ram(&self.shown, page),
-            6 => add_stores(&self.shown, page),
-            7 => add_enable(&self.shown, page),
+            2 => add_times(&self.shown, page)?,
+            3 => add_procedures(&self.shown, page)?,
+            4 => add_rom(&self.shown, page)?,
+            5 => add_ram(&self.shown, page)?,
+            6 => add_stores(&self.shown, page)?,
+            7 => add_enable(&self.shown, page)?,
             8 => self.add_listing_start(page),
             _ => {
                 let address = number.saturating_sub(BEFORE);
                 if address < u32::from(self.shown.view.accepted().rom().len()) {
-                    return self.add_listed(page, (address % 0x1_0000) as u16);
+                    self.add_listed(page, (address % 0x1_0000) as u16)?;
+                } else {
+                    self.add_listing_end(page)?;
+                    self.add_end(page);
                 }
-                self.add_listing_end(page)?;
-                self.add_end(page)
             }
         }
+        Ok(())
     }
 }

@@ -26,31 +26,31 @@ struct RowLine {
 }
 
 /// Adds a number of rows or ways alone; `what` ends the element.
-fn add_count(page: &mut Page, count: usize, what: &'static str) -> Result<(), AllocError> {
-    page.raw(" <span class=\"cm\">")?;
-    page.number(count as u64)?;
-    page.raw(what)
+fn add_count(page: &mut Page, count: usize, what: &'static str) {
+    page.raw(" <span class=\"cm\">");
+    page.number(count as u64);
+    page.raw(what);
 }
 
 /// Adds the ways, which a reader can open.
-fn add_details(page: &mut Page, lines: &IndexSet<String>) -> Result<(), AllocError> {
-    page.raw(" <details><summary>")?;
-    page.number(lines.len() as u64)?;
-    page.raw(" ways</summary><pre>")?;
+fn add_details(page: &mut Page, lines: &IndexSet<String>) {
+    page.raw(" <details><summary>");
+    page.number(lines.len() as u64);
+    page.raw(" ways</summary><pre>");
     let mut is_first = true;
     for line in lines.iter().take(SHOWN) {
         if !is_first {
-            page.raw("\n")?;
+            page.raw("\n");
         }
         is_first = false;
-        page.text(line.as_str())?;
+        page.text(line.as_str());
     }
     if lines.len() > SHOWN {
-        page.raw("\n… ")?;
-        page.number(lines.len().saturating_sub(SHOWN) as u64)?;
-        page.raw(" more")?;
+        page.raw("\n… ");
+        page.number(lines.len().saturating_sub(SHOWN) as u64);
+        page.raw(" more");
     }
-    page.raw("</pre></details>")
+    page.raw("</pre></details>");
 }
 
 impl Report<'_> {
@@ -68,16 +68,19 @@ impl Report<'_> {
         let lines = self.way_lines(rows, instr, is_head)?;
         if lines.len() < 2 {
             return if is_head {
-                add_count(page, rows.len(), " rows</span>")
+                add_count(page, rows.len(), " rows</span>");
+                Ok(())
             } else {
                 Ok(())
             };
         }
         self.ways_shown = self.ways_shown.saturating_add(1);
         if self.ways_shown > MOST {
-            add_count(page, lines.len(), " ways</span>")
+            add_count(page, lines.len(), " ways</span>");
+            Ok(())
         } else {
-            add_details(page, &lines)
+            add_details(page, &lines);
+            Ok(())
         }
     }
 

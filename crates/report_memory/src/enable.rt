@@ -10,7 +10,7 @@ use std::alloc::AllocError;
 pub fn add_enable(report: &Reported, page: &mut Page) -> Result<(), AllocError> {
     page.raw(
         "<section id=\"nmien\" aria-labelledby=\"h-nmien\"><h2 id=\"h-nmien\">NMI enable and kept cells</h2>\n",
-    )?;
+    );
     if report
         .accesses
         .stores
@@ -19,10 +19,11 @@ pub fn add_enable(report: &Reported, page: &mut Page) -> Result<(), AllocError> 
     {
         add_enable_table(report, page)?;
     } else {
-        page.raw("<p>Nothing stores to the NMI enable.</p>\n")?;
+        page.raw("<p>Nothing stores to the NMI enable.</p>\n");
     }
     add_cells(report, page)?;
-    page.raw("</section>\n")
+    page.raw("</section>\n");
+    Ok(())
 }
 
 fn add_enable_table(report: &Reported, page: &mut Page) -> Result<(), AllocError> {
@@ -30,13 +31,14 @@ fn add_enable_table(report: &Reported, page: &mut Page) -> Result<(), AllocError
         "<table class=\"fit\"><caption>Stores that may reach the NMI enable (bit 0 of the byte: 1 on, 0 off)\
          </caption>\n<thead><tr><th scope=\"col\">At</th><th scope=\"col\">Instruction</th>\
          <th scope=\"col\">In</th><th scope=\"col\">Byte</th><th scope=\"col\">NMI then</th></tr></thead>\n<tbody>",
-    )?;
+    );
     for store in &report.accesses.stores {
         if let Some(byte) = store.enable {
             add_enabling(report, page, store, byte)?;
         }
     }
-    page.raw("</tbody></table>\n")
+    page.raw("</tbody></table>\n");
+    Ok(())
 }
 
 fn add_enabling(
@@ -47,48 +49,51 @@ fn add_enabling(
 ) -> Result<(), AllocError> {
     let rows = report.view.survey().rows().at(store.address);
     let procs = procs_of(report.alloc, rows)?;
-    page.raw("<tr><th scope=\"row\" class=\"c\">")?;
+    page.raw("<tr><th scope=\"row\" class=\"c\">");
     report.add_address(page, store.address)?;
-    page.raw("</th><td class=\"c\">")?;
+    page.raw("</th><td class=\"c\">");
     report.add_instr(page, store.address)?;
-    page.raw("</td><td>")?;
+    page.raw("</td><td>");
     report.add_procs(page, procs.as_slice(), 6)?;
-    page.raw("</td><td class=\"c\">")?;
-    page.text(report.byte_range(byte)?.as_str())?;
-    page.raw("</td><td>")?;
+    page.raw("</td><td class=\"c\">");
+    page.made(report.byte_range(byte));
+    page.raw("</td><td>");
     page.raw(match byte.value() {
         Some(byte) if byte % 2 == 1 => "on",
         Some(_) => "off",
         None => "on or off",
-    })?;
-    page.raw("</td></tr>\n")
+    });
+    page.raw("</td></tr>\n");
+    Ok(())
 }
 
 /// Adds the kept cells.
 fn add_cells(report: &Reported, page: &mut Page) -> Result<(), AllocError> {
     let cells = report.view.accepted().certificate().cells();
     if cells.is_empty() {
-        return page.raw("<p>The certificate keeps no cells.</p>\n");
+        page.raw("<p>The certificate keeps no cells.</p>\n");
+        return Ok(());
     }
     page.raw(
         "<table class=\"fit\"><caption>Kept cells: bytes that stay in their range once each has been stored, in \
          this order</caption>\n<thead><tr><th scope=\"col\">Cell</th><th scope=\"col\">Label</th>\
          <th scope=\"col\">Range</th><th scope=\"col\">Stored at</th></tr></thead>\n<tbody>",
-    )?;
+    );
     for cell in cells {
-        page.raw("<tr><th scope=\"row\" class=\"c\">")?;
-        page.address(cell.at)?;
-        page.raw("</th><td class=\"c\">")?;
-        page.text(report.label_of(cell.at)?.as_str())?;
-        page.raw("</td><td class=\"c\">")?;
-        page.text(report.byte_range(cell.range)?.as_str())?;
-        page.raw("</td><td class=\"c\">")?;
+        page.raw("<tr><th scope=\"row\" class=\"c\">");
+        page.address(cell.at);
+        page.raw("</th><td class=\"c\">");
+        page.made(report.label_of(cell.at));
+        page.raw("</td><td class=\"c\">");
+        page.made(report.byte_range(cell.range));
+        page.raw("</td><td class=\"c\">");
         if let Some(work) = report.rams.first() {
             if let Some(writers) = work.writers.get(usize::from(cell.at % 0x400)) {
                 report.add_addresses(page, writers.as_slice(), 10)?;
             }
         }
-        page.raw("</td></tr>\n")?;
+        page.raw("</td></tr>\n");
     }
-    page.raw("</tbody></table>\n")
+    page.raw("</tbody></table>\n");
+    Ok(())
 }

@@ -23,17 +23,18 @@ pub fn add_ram(report: &Reported, page: &mut Page) -> Result<(), AllocError> {
          of the program stores where. “Sweeps”, stores over 64 bytes or more such as clearing by LDIR, are listed \
          apart and do not colour the maps. A byte that both main and the NMI routine store is one to look at: the \
          NMI may come between any two instructions.</p>\n<ul class=\"key\">",
-    )?;
+    );
     for (class, words) in KINDS {
         report.add_key(page, class, words, None)?;
     }
-    page.raw("</ul>\n")?;
+    page.raw("</ul>\n");
     for (found, runs) in report.rams.iter().zip(report.runs.iter()) {
         add_ram_picture(report, page, found, runs)?;
     }
     add_runs(report, page)?;
     add_sweeps(report, page)?;
-    page.raw("</section>\n")
+    page.raw("</section>\n");
+    Ok(())
 }
 
 /// The side of instructions.
@@ -116,15 +117,15 @@ fn add_ram_picture(
             label.push_str(format!(in alloc; " {words} {bytes};")?.as_str())?;
         }
     }
-    page.raw("<h3>")?;
+    page.raw("<h3>");
     page.raw(match found.ram {
         RamKind::Work => "Work RAM",
         RamKind::Video => "Video RAM",
         RamKind::Object => "Object RAM",
-    })?;
-    page.raw(" <span class=\"mut\">")?;
-    page.text(format!(in alloc; "{:04X}–{last:04X}", found.base)?.as_str())?;
-    page.raw("</span></h3>\n")?;
+    });
+    page.raw(" <span class=\"mut\">");
+    page.made(format!(in alloc; "{:04X}–{last:04X}", found.base));
+    page.raw("</span></h3>\n");
     add_picture(
         page,
         &Picture {
@@ -143,7 +144,7 @@ fn add_runs(report: &Reported, page: &mut Page) -> Result<(), AllocError> {
          </caption>\n<thead><tr><th scope=\"col\">Address</th><th scope=\"col\">Label</th>\
          <th scope=\"col\" class=\"r\">Bytes</th><th scope=\"col\">Stored in</th><th scope=\"col\">Stored at</th>\
          <th scope=\"col\" class=\"hide\">Read at</th></tr></thead>\n<tbody>",
-    )?;
+    );
     let mut is_none = true;
     for (found, runs) in report.rams.iter().zip(report.runs.iter()) {
         for run in &runs.runs {
@@ -152,9 +153,10 @@ fn add_runs(report: &Reported, page: &mut Page) -> Result<(), AllocError> {
         }
     }
     if is_none {
-        page.raw("<tr><th scope=\"row\">none</th><td colspan=\"5\">nothing is stored</td></tr>")?;
+        page.raw("<tr><th scope=\"row\">none</th><td colspan=\"5\">nothing is stored</td></tr>");
     }
-    page.raw("</tbody></table>\n")
+    page.raw("</tbody></table>\n");
+    Ok(())
 }
 
 /// Adds a row of that table.
@@ -166,11 +168,11 @@ fn add_run(
 ) -> Result<(), AllocError> {
     let first = found.base.saturating_add(run.first());
     let id = format!(in report.alloc; "r{first:04X}")?;
-    page.open("tr", &[with("id", id.as_str())])?;
-    add_run_ends(report, page, found, run)?;
-    add_run_label(report, page, run, first)?;
-    page.raw("</td><td class=\"r\">")?;
-    page.number(u64::from(run.size()))?;
+    page.open("tr", &[with("id", id.as_str())]);
+    add_run_ends(report, page, found, run);
+    add_run_label(report, page, run, first);
+    page.raw("</td><td class=\"r\">");
+    page.number(u64::from(run.size()));
     add_run_users(report, page, found, run)
 }
 
@@ -180,18 +182,18 @@ fn add_run_ends(
     page: &mut Page,
     found: &RamUse,
     run: &RamRun,
-) -> Result<(), AllocError> {
-    page.raw("<th scope=\"row\" class=\"c\">")?;
-    page.address(found.base.saturating_add(run.first()))?;
+) {
+    page.raw("<th scope=\"row\" class=\"c\">");
+    page.address(found.base.saturating_add(run.first()));
     if let Some((low, high)) = run.ends.first() {
         if low < high {
-            page.raw("–")?;
-            page.address(found.base.saturating_add(*high))?;
+            page.raw("–");
+            page.address(found.base.saturating_add(*high));
         }
     }
     match run.step {
         Some(step) => add_run_step(report, page, run, step),
-        None => Ok(()),
+        None => {}
     }
 }
 
@@ -201,11 +203,10 @@ fn add_run_step(
     page: &mut Page,
     run: &RamRun,
     step: u16,
-) -> Result<(), AllocError> {
-    let note = format!(in report.alloc; "{} times, step {step:02X}", run.ends.len())?;
-    page.raw(" <span class=\"cm\">")?;
-    page.text(note.as_str())?;
-    page.raw("</span>")
+) {
+    page.raw(" <span class=\"cm\">");
+    page.made(format!(in report.alloc; "{} times, step {step:02X}", run.ends.len()));
+    page.raw("</span>");
 }
 
 /// The label of a run, and the range that its cell keeps.
@@ -214,15 +215,15 @@ fn add_run_label(
     page: &mut Page,
     run: &RamRun,
     first: u16,
-) -> Result<(), AllocError> {
-    page.raw("</th><td class=\"c\">")?;
-    page.text(report.label_of(first)?.as_str())?;
+) {
+    page.raw("</th><td class=\"c\">");
+    page.made(report.label_of(first));
     let Some(cell) = run.cell else {
-        return Ok(());
+        return;
     };
-    page.raw(" <span class=\"tag\">kept ")?;
-    page.text(report.byte_range(cell.range)?.as_str())?;
-    page.raw("</span>")
+    page.raw(" <span class=\"tag\">kept ");
+    page.made(report.byte_range(cell.range));
+    page.raw("</span>");
 }
 
 /// Who stores the bytes of a run, and who reads them.
@@ -232,13 +233,14 @@ fn add_run_users(
     found: &RamUse,
     run: &RamRun,
 ) -> Result<(), AllocError> {
-    page.raw("</td><td class=\"nw\">")?;
+    page.raw("</td><td class=\"nw\">");
     report.add_side(page, side_of(report, run.writers.as_slice()))?;
-    page.raw("</td><td class=\"c\">")?;
+    page.raw("</td><td class=\"c\">");
     report.add_addresses(page, run.writers.as_slice(), 8)?;
-    page.raw("</td><td class=\"c hide\">")?;
+    page.raw("</td><td class=\"c hide\">");
     report.add_addresses(page, readers_of(report, found, run)?.as_slice(), 5)?;
-    page.raw("</td></tr>\n")
+    page.raw("</td></tr>\n");
+    Ok(())
 }
 
 /// The instructions that read some byte of a run.
@@ -265,21 +267,22 @@ fn add_sweeps(report: &Reported, page: &mut Page) -> Result<(), AllocError> {
         "<h3>Sweeps</h3>\n<table class=\"fit\"><caption>Stores over 64 bytes or more</caption><thead><tr>\
          <th scope=\"col\">At</th><th scope=\"col\">Stores</th><th scope=\"col\">In</th>\
          <th scope=\"col\">Region</th></tr></thead>\n<tbody>",
-    )?;
+    );
     for store in &report.accesses.stores {
         if store.is_sweep() {
             let rows = report.view.survey().rows().at(store.address);
-            page.raw("<tr><th scope=\"row\" class=\"c\">")?;
+            page.raw("<tr><th scope=\"row\" class=\"c\">");
             report.add_address(page, store.address)?;
-            page.raw("</th><td class=\"c\">")?;
-            report.add_ranges(page, store.ranges.as_slice())?;
-            page.raw("</td><td>")?;
+            page.raw("</th><td class=\"c\">");
+            report.add_ranges(page, store.ranges.as_slice());
+            page.raw("</td><td>");
             let (_, word) = side_words(report.sides.of_rows(rows));
-            page.text(word)?;
-            page.raw("</td><td>")?;
+            page.text(word);
+            page.raw("</td><td>");
             report.add_regions(page, store.ranges.as_slice())?;
-            page.raw("</td></tr>\n")?;
+            page.raw("</td></tr>\n");
         }
     }
-    page.raw("</tbody></table>\n")
+    page.raw("</tbody></table>\n");
+    Ok(())
 }

@@ -29,15 +29,15 @@ pub fn add_rom(report: &Reported, page: &mut Page) -> Result<(), AllocError> {
         .saturating_add(count_of(spots.as_slice(), "b"));
     page.raw(
         "<section id=\"rom\" aria-labelledby=\"h-rom\"><h2 id=\"h-rom\">The ROM’s bytes</h2>\n<p>",
-    )?;
-    page.number(code)?;
-    page.raw(" of ")?;
-    page.number(whole)?;
-    page.raw(" bytes are code that is reached (")?;
-    page.share(code, whole)?;
-    page.raw("). The ROM could have 16,384 bytes; ")?;
-    page.number(MOST.saturating_sub(whole))?;
-    page.raw(" are free after it.</p>\n<ul class=\"key\">")?;
+    );
+    page.number(code);
+    page.raw(" of ");
+    page.number(whole);
+    page.raw(" bytes are code that is reached (");
+    page.share(code, whole);
+    page.raw("). The ROM could have 16,384 bytes; ");
+    page.number(MOST.saturating_sub(whole));
+    page.raw(" are free after it.</p>\n<ul class=\"key\">");
     let mut label = String::from_str(report.alloc, "Map of the ROM:")?;
     for (class, words) in KINDS {
         let bytes = count_of(spots.as_slice(), class);
@@ -46,7 +46,7 @@ pub fn add_rom(report: &Reported, page: &mut Page) -> Result<(), AllocError> {
             label.push_str(format!(in report.alloc; " {words} {bytes};")?.as_str())?;
         }
     }
-    page.raw("</ul>\n")?;
+    page.raw("</ul>\n");
     let line = if whole <= 4096 {
         64
     } else if whole <= 8192 {
@@ -64,14 +64,15 @@ pub fn add_rom(report: &Reported, page: &mut Page) -> Result<(), AllocError> {
         },
     )?;
     add_rom_note(report, page, line as u64)?;
-    page.raw("</section>\n")
+    page.raw("</section>\n");
+    Ok(())
 }
 
 /// Adds what a line of the picture is, and the instructions whose reads say nothing of a byte.
 fn add_rom_note(report: &Reported, page: &mut Page, line: u64) -> Result<(), AllocError> {
-    page.raw("<p class=\"mut\">")?;
-    page.number(line)?;
-    page.raw(" bytes a line; each block is of one procedure and leads to its listing.")?;
+    page.raw("<p class=\"mut\">");
+    page.number(line);
+    page.raw(" bytes a line; each block is of one procedure and leads to its listing.");
     let mut wide = Vec::new(report.alloc);
     for load in &report.accesses.loads {
         if load.ranges.iter().any(|range| {
@@ -81,13 +82,14 @@ fn add_rom_note(report: &Reported, page: &mut Page, line: u64) -> Result<(), All
         }
     }
     if !wide.is_empty() {
-        page.raw(" ")?;
-        page.count(wide.len() as u64, "instruction")?;
-        page.raw(" read somewhere in a range of 4,096 bytes or more, which is not shown: ")?;
+        page.raw(" ");
+        page.count(wide.len() as u64, "instruction");
+        page.raw(" read somewhere in a range of 4,096 bytes or more, which is not shown: ");
         report.add_addresses(page, wide.as_slice(), 12)?;
-        page.raw(".")?;
+        page.raw(".");
     }
-    page.raw("</p>\n")
+    page.raw("</p>\n");
+    Ok(())
 }
 
 /// What each byte of the ROM is.

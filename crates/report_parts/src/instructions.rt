@@ -14,18 +14,19 @@ impl Reported<'_> {
         };
         let after = address.wrapping_add((bytes.len() % 0x1_0000) as u16);
         let text = spelled(&instr, after);
-        page.text(text.before())?;
+        page.text(text.before());
         let Some(reference) = text.reference() else {
             return Ok(());
         };
         let label = self.view.label_of(&instr, &text);
         self.add_reference(page, reference, label)?;
-        page.text(text.after())?;
+        page.text(text.after());
         match (reference, label) {
             (Reference::Restart(_) | Reference::Constant(_), Some(label)) => {
-                page.raw(" <span class=\"cm\">")?;
-                page.text(label)?;
-                page.raw("</span>")
+                page.raw(" <span class=\"cm\">");
+                page.text(label);
+                page.raw("</span>");
+                Ok(())
             }
             _ => Ok(()),
         }
@@ -49,11 +50,15 @@ impl Reported<'_> {
                 self.add_link(page, u16::from(to), plain.as_str(), None)
             }
             (Reference::Memory(_), Some(label)) => {
-                page.open("span", &[with("title", place.as_str())])?;
-                page.text(label)?;
-                page.close("span")
+                page.open("span", &[with("title", place.as_str())]);
+                page.text(label);
+                page.close("span");
+                Ok(())
             }
-            (Reference::Memory(_), None) | (Reference::Constant(_), _) => page.text(plain.as_str()),
+            (Reference::Memory(_), None) | (Reference::Constant(_), _) => {
+                page.text(plain.as_str());
+                Ok(())
+            }
         }
     }
 }

@@ -19,8 +19,8 @@ pub fn side_words(side: Side) -> (&'static str, &'static str) {
 }
 
 /// Adds the opening tag of a link with a title.
-fn open_titled<'t>(page: &mut Page, target: &'t str, title: &'t str) -> Result<(), AllocError> {
-    page.open("a", &[with("href", target), with("title", title)])
+fn open_titled<'t>(page: &mut Page, target: &'t str, title: &'t str) {
+    page.open("a", &[with("href", target), with("title", title)]);
 }
 
 impl Reported<'_> {
@@ -36,22 +36,23 @@ impl Reported<'_> {
         let is_linked = self.is_listed && self.view.survey().rows().is_there(address);
         match (is_linked, title) {
             (true, Some(title)) => {
-                open_titled(page, target.as_str(), title)?;
-                page.text(text)?;
-                page.close("a")
+                open_titled(page, target.as_str(), title);
+                page.text(text);
+                page.close("a");
             }
             (true, None) => {
-                page.open("a", &[with("href", target.as_str())])?;
-                page.text(text)?;
-                page.close("a")
+                page.open("a", &[with("href", target.as_str())]);
+                page.text(text);
+                page.close("a");
             }
             (false, Some(title)) => {
-                page.open("span", &[with("title", title)])?;
-                page.text(text)?;
-                page.close("span")
+                page.open("span", &[with("title", title)]);
+                page.text(text);
+                page.close("span");
             }
             (false, None) => page.text(text),
         }
+        Ok(())
     }
 
     /// Adds an address that leads to its listing.
@@ -89,15 +90,15 @@ impl Reported<'_> {
         let mut is_first = true;
         for proc in procs.iter().take(most) {
             if !is_first {
-                page.raw(", ")?;
+                page.raw(", ");
             }
             is_first = false;
             self.add_proc(page, *proc)?;
         }
         if procs.len() > most {
-            page.raw(" and ")?;
-            page.number(procs.len().saturating_sub(most) as u64)?;
-            page.raw(" more")?;
+            page.raw(" and ");
+            page.number(procs.len().saturating_sub(most) as u64);
+            page.raw(" more");
         }
         Ok(())
     }
@@ -112,14 +113,14 @@ impl Reported<'_> {
         let mut is_first = true;
         for address in addresses.iter().take(most) {
             if !is_first {
-                page.raw(" ")?;
+                page.raw(" ");
             }
             is_first = false;
             self.add_address(page, *address)?;
         }
         if addresses.len() > most {
-            page.raw(" +")?;
-            page.number(addresses.len().saturating_sub(most) as u64)?;
+            page.raw(" +");
+            page.number(addresses.len().saturating_sub(most) as u64);
         }
         Ok(())
     }
@@ -128,9 +129,10 @@ impl Reported<'_> {
     pub fn add_side(&self, page: &mut Page, side: Side) -> Result<(), AllocError> {
         let (class, word) = side_words(side);
         let class = format!(in self.alloc; "sw {class}")?;
-        page.open("span", &[with("class", class.as_str())])?;
-        page.text(word)?;
-        page.close("span")
+        page.open("span", &[with("class", class.as_str())]);
+        page.text(word);
+        page.close("span");
+        Ok(())
     }
 
     /// The shown names of an address, or the nearest name at most 31 bytes below it; an empty text if there is none.
@@ -164,15 +166,16 @@ impl Reported<'_> {
         bytes: Option<u64>,
     ) -> Result<(), AllocError> {
         let class = format!(in self.alloc; "sw {class}")?;
-        page.raw("<li>")?;
-        page.open("span", &[with("class", class.as_str())])?;
-        page.text(words)?;
-        page.close("span")?;
+        page.raw("<li>");
+        page.open("span", &[with("class", class.as_str())]);
+        page.text(words);
+        page.close("span");
         if let Some(bytes) = bytes {
-            page.raw(": ")?;
-            page.count(bytes, "byte")?;
+            page.raw(": ");
+            page.count(bytes, "byte");
         }
-        page.raw("</li>")
+        page.raw("</li>");
+        Ok(())
     }
 
     /// Where a byte leads; None if there is no listing.

@@ -24,26 +24,27 @@ pub struct Picture<'a> {
 
 /// Adds a picture.
 pub fn add_picture(page: &mut Page, picture: &Picture) -> Result<(), AllocError> {
-    page.raw("<div class=\"map\" tabindex=\"0\" role=\"region\" aria-label=\"Map\">")?;
+    page.raw("<div class=\"map\" tabindex=\"0\" role=\"region\" aria-label=\"Map\">");
     page.open(
         "div",
         &[with("role", "img"), with("aria-label", picture.label)],
-    )?;
+    );
     let mut address = picture.base;
     let mut number = 0u32;
     for spots in picture.spots.chunks(picture.line.max(1)) {
-        page.raw("<div class=\"line\">")?;
+        page.raw("<div class=\"line\">");
         if number % 4 == 0 || picture.spots.len() < 512 {
-            page.raw("<span class=\"at\">")?;
-            page.address(address)?;
-            page.raw("</span>")?;
+            page.raw("<span class=\"at\">");
+            page.address(address);
+            page.raw("</span>");
         }
         add_line(page, picture.line, address, spots)?;
-        page.raw("</div>\n")?;
+        page.raw("</div>\n");
         address = address.wrapping_add((spots.len() % 0x1_0000) as u16);
         number = number.saturating_add(1);
     }
-    page.raw("</div></div>\n")
+    page.raw("</div></div>\n");
+    Ok(())
 }
 
 /// Adds the blocks of a line: equal bytes that follow one another are one.
@@ -82,9 +83,10 @@ fn add_block(
         format!(in alloc; "{first:04X}–{last:04X}")?
     };
     if spot.words.is_empty() {
-        open_blank(page, spot.class, wide.as_str())?;
-        page.text(name.as_str())?;
-        return page.close("span");
+        open_blank(page, spot.class, wide.as_str());
+        page.text(name.as_str());
+        page.close("span");
+        return Ok(());
     }
     let title = format!(in alloc; "{name} {}", spot.words)?;
     match &spot.target {
@@ -95,21 +97,22 @@ fn add_block(
                 wide.as_str(),
                 title.as_str(),
                 target.as_str(),
-            )?;
-            page.text(name.as_str())?;
-            page.close("a")
+            );
+            page.text(name.as_str());
+            page.close("a");
         }
         None => {
-            open_titled(page, spot.class, wide.as_str(), title.as_str())?;
-            page.text(name.as_str())?;
-            page.close("span")
+            open_titled(page, spot.class, wide.as_str(), title.as_str());
+            page.text(name.as_str());
+            page.close("span");
         }
     }
+    Ok(())
 }
 
 /// Adds the opening tag of a block without words.
-fn open_blank<'t>(page: &mut Page, class: &'t str, wide: &'t str) -> Result<(), AllocError> {
-    page.open("span", &[with("class", class), with("style", wide)])
+fn open_blank<'t>(page: &mut Page, class: &'t str, wide: &'t str) {
+    page.open("span", &[with("class", class), with("style", wide)]);
 }
 
 /// Adds the opening tag of a block with a title.
@@ -118,7 +121,7 @@ fn open_titled<'t>(
     class: &'t str,
     wide: &'t str,
     title: &'t str,
-) -> Result<(), AllocError> {
+) {
     page.open(
         "span",
         &[
@@ -126,7 +129,7 @@ fn open_titled<'t>(
             with("style", wide),
             with("title", title),
         ],
-    )
+    );
 }
 
 /// Adds the opening tag of a block that leads to another place.
@@ -136,7 +139,7 @@ fn open_linked<'t>(
     wide: &'t str,
     title: &'t str,
     target: &'t str,
-) -> Result<(), AllocError> {
+) {
     page.open(
         "a",
         &[
@@ -146,5 +149,5 @@ fn open_linked<'t>(
             with("href", target),
             with("tabindex", "-1"),
         ],
-    )
+    );
 }

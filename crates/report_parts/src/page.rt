@@ -7,26 +7,25 @@ use std::alloc::{AllocError, Global};
 use texts::{DeviceFault, Sink};
 
 /// HTML in memory. It is put together of markup, which is constant, and of texts, whose characters cannot be read as
-/// markup.
+/// markup. Where memory is refused, nothing more is added, and `bytes` says so in the end.
 #[derive(Drop)]
 pub struct Page {
     alloc: Global,
     bytes: Vec<u8>,
+    /// How often memory was refused.
     failures: u64,
 }
 
-/// The bytes of a page as a sink. It fails only where memory is refused.
+/// The bytes of a page as a sink. It fails from the time on that memory was refused.
 impl Sink for Page {
     ghost state = { λ s. record { bytes = None; failures = s.failures } };
 
     fn write(&mut self, bytes: &[u8]) -> Result<usize, DeviceFault> {
-        match self.bytes.extend_from_slice(bytes) {
-            Ok(()) => Ok(bytes.len()),
-            Err(_) => {
-                self.failures = self.failures.saturating_add(1);
-                Err(DeviceFault)
-            }
+        if self.failures == 0 && self.bytes.extend_from_slice(bytes).is_ok() {
+            return Ok(bytes.len());
         }
+        self.failures = self.failures.saturating_add(1);
+        Err(DeviceFault)
     }
 
     fn failures(&self) -> u64 {
@@ -39,14 +38,6 @@ pub fn with<'a>(name: &'static str, value: &'a str) -> Attribute<'a> {
     Attribute {
         name,
         value: value.as_bytes(),
-    }
-}
-
-/// What a sink in memory did: it fails only where memory is refused.
-fn in_memory(done: Result<(), DeviceFault>) -> Result<(), AllocError> {
-    match done {
-        Ok(()) => Ok(()),
-        Err(_) => Err(AllocError),
     }
 }
 
@@ -64,62 +55,70 @@ impl Page {
         self.alloc
     }
 
-    /// The bytes so far.
-    pub fn bytes(&self) -> &[u8] {
-        self.bytes.as_slice()
+    /// The bytes.
+    ///
+    /// # Errors
+    ///
+    /// `AllocError` where memory was refused for a byte of the page.
+    pub fn bytes(&self) -> Result<&[u8], AllocError> {
+        if self.failures == 0 {
+            Ok(self.bytes.as_slice())
+        } else {
+            Err(AllocError)
+        }
     }
 
     /// Adds markup as it is.
-    pub fn raw(&mut self, markup: &'static str) -> Result<(), AllocError> {
-        self.bytes.extend_from_slice(markup.as_bytes())
+    pub fn raw(&mut self, markup: &'static str) {
+        let _ = self.write(markup.as_bytes());
     }
 
     /// Adds text.
-    pub fn text(&mut self, text: &str) -> Result<(), AllocError> {
-        let done = write_text(text.as_bytes(), self);
-        in_memory(done)
+    pub fn text(&mut self, text: &str) {
+        let _ = write_text(text.as_bytes(), self);
+    }
+
+    /// Adds a text that was just made, unless memory was refused for it.
+    pub fn made(&mut self, text: Result<String, AllocError>) {
+        match text {
+            Ok(text) => self.text(text.as_str()),
+            Err(_) => self.failures = self.failures.saturating_add(1),
+        }
     }
 
     /// Adds the opening tag of an element.
-    pub fn open(
-        &mut self,
-        element: &'static str,
-        attributes: &[Attribute],
-    ) -> Result<(), AllocError> {
-        let done = open_tag(element, attributes, self);
-        in_memory(done)
+    pub fn open(&mut self, element: &'static str, attributes: &[Attribute]) {
+        let _ = open_tag(element, attributes, self);
     }
 
     /// Adds the closing tag of an element.
-    pub fn close(&mut self, element: &'static str) -> Result<(), AllocError> {
-        let done = close_tag(element, self);
-        in_memory(done)
+    pub fn close(&mut self, element: &'static str) {
+        let _ = close_tag(element, self);
     }
 
     /// Adds a number with its digits in groups: `12,396`.
-    pub fn number(&mut self, number: u64) -> Result<(), AllocError> {
-        let text = grouped(self.alloc, number)?;
-        self.text(text.as_str())
+    pub fn number(&mut self, number: u64) {
+        self.made(grouped(self.alloc, number));
     }
 
     /// Adds a number and a noun, with an `s` if it is not 1.
-    pub fn count(&mut self, number: u64, noun: &'static str) -> Result<(), AllocError> {
-        self.number(number)?;
-        self.raw(" ")?;
-        self.raw(noun)?;
-        if number == 1 { Ok(()) } else { self.raw("s") }
+    pub fn count(&mut self, number: u64, noun: &'static str) {
+        self.number(number);
+        self.raw(" ");
+        self.raw(noun);
+        if number != 1 {
+            self.raw("s");
+        }
     }
 
     /// Adds an address: four hexadecimal digits.
-    pub fn address(&mut self, address: u16) -> Result<(), AllocError> {
-        let text = format!(in self.alloc; "{address:04X}")?;
-        self.text(text.as_str())
+    pub fn address(&mut self, address: u16) {
+        self.made(format!(in self.alloc; "{address:04X}"));
     }
 
     /// Adds a share in percent: `24.8 %`, or `-` of nothing.
-    pub fn share(&mut self, part: u64, whole: u64) -> Result<(), AllocError> {
-        let text = share_text(self.alloc, part, whole)?;
-        self.text(text.as_str())
+    pub fn share(&mut self, part: u64, whole: u64) {
+        self.made(share_text(self.alloc, part, whole));
     }
 }
 

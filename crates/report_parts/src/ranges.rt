@@ -31,29 +31,27 @@ impl Reported<'_> {
     }
 
     /// Adds ranges: equal ranges at equal steps as one with their number, others one by one, four at most.
-    pub fn add_ranges(&self, page: &mut Page, ranges: &[WordRange]) -> Result<(), AllocError> {
+    pub fn add_ranges(&self, page: &mut Page, ranges: &[WordRange]) {
         if let (Some(step), Some(first)) = (step_of(ranges), ranges.first()) {
-            page.text(self.word_range(*first)?.as_str())?;
+            page.made(self.word_range(*first));
             let count = ranges.len();
-            let note = format!(in self.alloc; "{count} times, step {step:02X}")?;
-            page.raw(" <span class=\"cm\">")?;
-            page.text(note.as_str())?;
-            return page.raw("</span>");
+            page.raw(" <span class=\"cm\">");
+            page.made(format!(in self.alloc; "{count} times, step {step:02X}"));
+            page.raw("</span>");
+            return;
         }
         let mut is_first = true;
         for range in ranges.iter().take(MOST) {
             if !is_first {
-                page.raw(" ")?;
+                page.raw(" ");
             }
             is_first = false;
-            page.text(self.word_range(*range)?.as_str())?;
+            page.made(self.word_range(*range));
         }
         if let (Some(last), true) = (ranges.last(), ranges.len() > MOST) {
             let (high, count) = (last.high(), ranges.len());
-            let note = format!(in self.alloc; " … {high:04X} ({count} ranges)")?;
-            page.text(note.as_str())?;
+            page.made(format!(in self.alloc; " … {high:04X} ({count} ranges)"));
         }
-        Ok(())
     }
 
     /// Adds the names of the regions that ranges meet, each once.
@@ -75,10 +73,10 @@ impl Reported<'_> {
         let mut is_first = true;
         for name in &names {
             if !is_first {
-                page.raw(", ")?;
+                page.raw(", ");
             }
             is_first = false;
-            page.text(*name)?;
+            page.text(*name);
         }
         Ok(())
     }

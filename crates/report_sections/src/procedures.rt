@@ -29,7 +29,7 @@ pub fn add_procedures(report: &Reported, page: &mut Page) -> Result<(), AllocErr
          <th scope=\"col\" class=\"r\">Depth</th><th scope=\"col\" class=\"r\">Time</th>\
          <th scope=\"col\" class=\"r hide\">Callers</th><th scope=\"col\" class=\"hide\">Keeps</th></tr></thead>\n\
          <tbody>",
-    )?;
+    );
     let mut number: ProcId = 0;
     for proc in report.view.accepted().certificate().procs() {
         add_procedure(report, page, number, proc)?;
@@ -38,13 +38,14 @@ pub fn add_procedures(report: &Reported, page: &mut Page) -> Result<(), AllocErr
     page.raw(
         "</tbody></table>\n<h3>Who calls whom</h3>\n<p>Stack depth and time with all that is called. The deepest \
          chain of each tree is bold and marked; a procedure’s calls are shown where it comes first.</p>\n",
-    )?;
+    );
     add_tree(report, page)?;
     add_chain(report, page, 0)?;
     if let Some((nmi, _)) = report.nmi {
         add_chain(report, page, nmi)?;
     }
-    page.raw("</section>\n")
+    page.raw("</section>\n");
+    Ok(())
 }
 
 /// Adds a row of the table.
@@ -54,49 +55,54 @@ fn add_procedure(
     number: ProcId,
     proc: &Proc,
 ) -> Result<(), AllocError> {
-    page.raw("<tr><th scope=\"row\">")?;
+    page.raw("<tr><th scope=\"row\">");
     report.add_proc(page, number)?;
-    page.raw("</th><td class=\"c\">")?;
-    page.address(proc.entry)?;
-    page.raw("</td><td class=\"nw\">")?;
+    page.raw("</th><td class=\"c\">");
+    page.address(proc.entry);
+    page.raw("</td><td class=\"nw\">");
     report.add_side(page, report.sides.of_proc(number))?;
-    page.raw("</td><td class=\"r\">")?;
-    page.number(u64::from(proc.depth))?;
-    page.raw("</td><td class=\"r\">")?;
+    page.raw("</td><td class=\"r\">");
+    page.number(u64::from(proc.depth));
+    page.raw("</td><td class=\"r\">");
     match proc.time {
-        Some(time) => page.number(u64::from(time))?,
-        None => page.raw("–")?,
+        Some(time) => page.number(u64::from(time)),
+        None => page.raw("–"),
     }
-    page.raw("</td><td class=\"r hide\">")?;
+    page.raw("</td><td class=\"r hide\">");
     if proc.kind == ProcKind::Sub {
-        page.number(report.view.survey().calls().of(number).len() as u64)?;
+        page.number(report.view.survey().calls().of(number).len() as u64);
     }
-    page.raw("</td><td class=\"hide c\">")?;
+    page.raw("</td><td class=\"hide c\">");
     if proc.kind != ProcKind::Main {
-        add_keeps(report, page, number)?;
+        add_keeps(report, page, number);
     }
-    page.raw("</td></tr>\n")
+    page.raw("</td></tr>\n");
+    Ok(())
 }
 
 /// Adds the pairs that a procedure keeps.
-pub fn add_keeps(report: &Reported, page: &mut Page, proc: ProcId) -> Result<(), AllocError> {
+pub fn add_keeps(report: &Reported, page: &mut Page, proc: ProcId) {
     let Some(kept) = report.view.survey().kept(proc) else {
-        return page.raw("never returns");
+        page.raw("never returns");
+        return;
     };
     if PAIRS.iter().all(|pair| kept.contains(*pair)) {
-        return page.raw("all");
+        page.raw("all");
+        return;
     }
     let mut is_none = true;
     for pair in PAIRS {
         if kept.contains(pair) {
             if !is_none {
-                page.raw(" ")?;
+                page.raw(" ");
             }
             is_none = false;
-            page.text(pair_name(pair))?;
+            page.text(pair_name(pair));
         }
     }
-    if is_none { page.raw("nothing") } else { Ok(()) }
+    if is_none {
+        page.raw("nothing");
+    }
 }
 
 /// Adds the tree of calls.
@@ -108,13 +114,13 @@ fn add_tree(report: &Reported, page: &mut Page) -> Result<(), AllocError> {
         branches.push(Branch::Proc(nmi, true))?;
     }
     branches.push(Branch::Proc(0, true))?;
-    page.raw("<ul class=\"tree\">")?;
+    page.raw("<ul class=\"tree\">");
     for _ in 0..MOST {
         let Some(branch) = branches.pop() else {
             break;
         };
         match branch {
-            Branch::End(markup) => page.raw(markup)?,
+            Branch::End(markup) => page.raw(markup),
             Branch::Proc(proc, is_deep) => {
                 let is_first = seen.get(usize::from(proc)).copied() == Some(false);
                 if let Some(mark) = seen.get_mut(usize::from(proc)) {
@@ -124,7 +130,8 @@ fn add_tree(report: &Reported, page: &mut Page) -> Result<(), AllocError> {
             }
         }
     }
-    page.raw("</ul>\n")
+    page.raw("</ul>\n");
+    Ok(())
 }
 
 /// Adds a procedure to the tree, and the procedures that it calls to those that come next.
@@ -141,25 +148,25 @@ fn add_branch(
         "<li class=\"deep\"><span>"
     } else {
         "<li><span>"
-    })?;
+    });
     report.add_proc(page, proc)?;
-    page.raw(" <span class=\"nums\">")?;
+    page.raw(" <span class=\"nums\">");
     if let Some(procedure) = report.view.accepted().certificate().proc(proc) {
-        page.count(u64::from(procedure.depth), "byte")?;
+        page.count(u64::from(procedure.depth), "byte");
         if let Some(time) = procedure.time {
-            page.raw(", ")?;
-            page.number(u64::from(time))?;
-            page.raw(" T")?;
+            page.raw(", ");
+            page.number(u64::from(time));
+            page.raw(" T");
         }
     }
-    page.raw("</span>")?;
+    page.raw("</span>");
     if is_deep {
-        page.raw(" <span class=\"tag\">deepest</span>")?;
+        page.raw(" <span class=\"tag\">deepest</span>");
     }
     if !is_first && !callees.is_empty() {
-        page.raw(" <span class=\"nums\">– see above</span>")?;
+        page.raw(" <span class=\"nums\">– see above</span>");
     }
-    page.raw("</span>")?;
+    page.raw("</span>");
     branches.push(Branch::End("</li>\n"))?;
     if is_first && !callees.is_empty() {
         let chain = report.chains.from(report.alloc, proc)?;
@@ -167,7 +174,7 @@ fn add_branch(
             Some(link) => link.callee,
             None => None,
         };
-        page.raw("<ul>")?;
+        page.raw("<ul>");
         branches.push(Branch::End("</ul>"))?;
         for callee in callees.iter().rev() {
             branches.push(Branch::Proc(*callee, is_deep && next == Some(*callee)))?;
@@ -189,25 +196,26 @@ fn callees_of(report: &Reported, caller: ProcId) -> Result<Vec<ProcId>, AllocErr
 
 /// Adds the deepest chain from a procedure, and its sum.
 fn add_chain(report: &Reported, page: &mut Page, proc: ProcId) -> Result<(), AllocError> {
-    page.raw("<p class=\"mut\">Deepest from ")?;
-    page.text(report.name_of(proc)?.as_str())?;
-    page.raw(": ")?;
+    page.raw("<p class=\"mut\">Deepest from ");
+    page.made(report.name_of(proc));
+    page.raw(": ");
     let mut sum = 0u64;
     let mut is_first = true;
     let chain = report.chains.from(report.alloc, proc)?;
     for link in &chain {
         if !is_first {
-            page.raw(" + ")?;
+            page.raw(" + ");
         }
         is_first = false;
         sum = sum.saturating_add(u64::from(link.own));
-        page.number(u64::from(link.own))?;
-        page.raw(" in ")?;
-        page.text(report.name_of(link.proc)?.as_str())?;
-        page.raw(" at ")?;
+        page.number(u64::from(link.own));
+        page.raw(" in ");
+        page.made(report.name_of(link.proc));
+        page.raw(" at ");
         report.add_address(page, link.address)?;
     }
-    page.raw(" = ")?;
-    page.count(sum, "byte")?;
-    page.raw(".</p>\n")
+    page.raw(" = ");
+    page.count(sum, "byte");
+    page.raw(".</p>\n");
+    Ok(())
 }

@@ -18,22 +18,23 @@ pub fn add_times(report: &Reported, page: &mut Page) -> Result<(), AllocError> {
     page.raw(
         "<section id=\"time\" aria-labelledby=\"h-time\"><h2 id=\"h-time\">Where the NMI’s time goes</h2>\n\
          <p>The dearest way through the NMI routine that the proof allows for: ",
-    )?;
-    page.number(u64::from(time))?;
-    page.raw(" T-states")?;
+    );
+    page.number(u64::from(time));
+    page.raw(" T-states");
     let left = time.saturating_sub(walk.sum);
     if left > 0 {
-        page.raw(", of which ")?;
-        page.number(u64::from(left))?;
-        page.raw(" are not accounted for below")?;
+        page.raw(", of which ");
+        page.number(u64::from(left));
+        page.raw(" are not accounted for below");
     }
     page.raw(
         ". Each block is as wide as its share; what it calls stands under it. Dashed blocks are loops.</p>\n",
-    )?;
+    );
     add_flame(report, page, walks, walk)?;
     add_totals(report, page, walks, u64::from(time))?;
     add_steps(report, page, walks)?;
-    page.raw("</section>\n")
+    page.raw("</section>\n");
+    Ok(())
 }
 
 /// Adds the T-states by procedure.
@@ -49,7 +50,7 @@ fn add_totals(
          <th scope=\"col\" class=\"r\">Times run</th><th scope=\"col\" class=\"r\">Own</th>\
          <th scope=\"col\" class=\"r tiny\">In loops</th><th scope=\"col\" class=\"r hide\">Each, with calls</th>\
          <th scope=\"col\" class=\"r\">Share</th></tr></thead>\n<tbody>",
-    )?;
+    );
     let most = match walks.totals().first() {
         Some(total) => total.own.saturating_add(total.loops).max(1),
         None => 1,
@@ -59,7 +60,8 @@ fn add_totals(
             add_total(report, page, total, &proc, time, most)?;
         }
     }
-    page.raw("</tbody></table></div>\n")
+    page.raw("</tbody></table></div>\n");
+    Ok(())
 }
 
 fn add_total(
@@ -71,23 +73,23 @@ fn add_total(
     most: u64,
 ) -> Result<(), AllocError> {
     let sum = total.own.saturating_add(total.loops);
-    page.raw("<tr><th scope=\"row\">")?;
+    page.raw("<tr><th scope=\"row\">");
     report.add_proc(page, total.proc)?;
-    page.raw("</th><td class=\"r\">")?;
-    page.number(total.times)?;
-    page.raw("</td><td class=\"r\">")?;
-    page.number(total.own)?;
-    page.raw("</td><td class=\"r tiny\">")?;
+    page.raw("</th><td class=\"r\">");
+    page.number(total.times);
+    page.raw("</td><td class=\"r\">");
+    page.number(total.own);
+    page.raw("</td><td class=\"r tiny\">");
     if total.loops > 0 {
-        page.number(total.loops)?;
+        page.number(total.loops);
     } else {
-        page.raw("–")?;
+        page.raw("–");
     }
-    page.raw("</td><td class=\"r hide\">")?;
-    page.number(u64::from(proc.time.unwrap_or(0)))?;
-    page.raw("</td><td class=\"r share\">")?;
-    page.share(sum, time)?;
-    page.raw("<svg aria-hidden=\"true\" viewBox=\"0 0 100 10\" preserveAspectRatio=\"none\">")?;
+    page.raw("</td><td class=\"r hide\">");
+    page.number(u64::from(proc.time.unwrap_or(0)));
+    page.raw("</td><td class=\"r share\">");
+    page.share(sum, time);
+    page.raw("<svg aria-hidden=\"true\" viewBox=\"0 0 100 10\" preserveAspectRatio=\"none\">");
     let wide = format!(in report.alloc; "{}", ratio(sum, most, 100))?;
     page.open(
         "rect",
@@ -96,13 +98,14 @@ fn add_total(
             with("width", wide.as_str()),
             with("height", "10"),
         ],
-    )?;
-    page.raw("</rect></svg></td></tr>\n")
+    );
+    page.raw("</rect></svg></td></tr>\n");
+    Ok(())
 }
 
 /// Adds the items of each procedure, callers first.
 fn add_steps(report: &Reported, page: &mut Page, walks: &Walks) -> Result<(), AllocError> {
-    page.raw("<h3>Step by step</h3>\n")?;
+    page.raw("<h3>Step by step</h3>\n");
     for proc in walks.order() {
         let Some(walk) = walks.walk(*proc) else {
             continue;
@@ -114,29 +117,29 @@ fn add_steps(report: &Reported, page: &mut Page, walks: &Walks) -> Result<(), Al
             "<details class=\"box\" open=\"open\"><summary>"
         } else {
             "<details class=\"box\"><summary>"
-        })?;
+        });
         let name = report.view.proc_name(&procedure)?;
-        page.text(name.as_str())?;
-        page.raw(" <span class=\"mut\">")?;
-        page.address(procedure.entry)?;
-        page.raw(", ")?;
-        page.number(u64::from(procedure.time.unwrap_or(0)))?;
-        page.raw(" T-states</span></summary>\n<table class=\"walk fit\"><caption>The items of ")?;
-        page.text(name.as_str())?;
+        page.text(name.as_str());
+        page.raw(" <span class=\"mut\">");
+        page.address(procedure.entry);
+        page.raw(", ");
+        page.number(u64::from(procedure.time.unwrap_or(0)));
+        page.raw(" T-states</span></summary>\n<table class=\"walk fit\"><caption>The items of ");
+        page.text(name.as_str());
         page.raw(
             "</caption><thead><tr><th scope=\"col\" class=\"r\">T-states</th><th scope=\"col\">Where</th>\
              <th scope=\"col\">What</th></tr></thead>\n<tbody>",
-        )?;
+        );
         for segment in &walk.segments {
             add_segment(report, page, walk, segment)?;
         }
         let left = procedure.time.unwrap_or(0).saturating_sub(walk.sum);
         if left > 0 {
-            page.raw("<tr><td class=\"r\">")?;
-            page.number(u64::from(left))?;
-            page.raw("</td><td></td><td>not accounted for</td></tr>\n")?;
+            page.raw("<tr><td class=\"r\">");
+            page.number(u64::from(left));
+            page.raw("</td><td></td><td>not accounted for</td></tr>\n");
         }
-        page.raw("</tbody></table></details>\n")?;
+        page.raw("</tbody></table></details>\n");
     }
     Ok(())
 }
@@ -150,31 +153,31 @@ fn add_segment(
 ) -> Result<(), AllocError> {
     let is_folded = segment.times > 1;
     if is_folded {
-        page.raw("<tr><td class=\"r\">")?;
-        page.number(segment.cost)?;
-        page.raw("</td><td></td><td>")?;
-        page.number(segment.times as u64)?;
-        page.raw(" times")?;
+        page.raw("<tr><td class=\"r\">");
+        page.number(segment.cost);
+        page.raw("</td><td></td><td>");
+        page.number(segment.times as u64);
+        page.raw(" times");
         if let Some(each) = segment.each() {
-            page.raw(" ")?;
-            page.number(each)?;
+            page.raw(" ");
+            page.number(each);
         }
-        page.raw(":</td></tr>\n")?;
+        page.raw(":</td></tr>\n");
     }
     for item in segment.items(&walk.items) {
-        page.raw("<tr><td class=\"r\">")?;
+        page.raw("<tr><td class=\"r\">");
         if !is_folded {
-            page.number(u64::from(item.cost))?;
+            page.number(u64::from(item.cost));
         }
-        page.raw("</td><td class=\"c\">")?;
+        page.raw("</td><td class=\"c\">");
         if is_folded {
-            page.raw("<span class=\"mut\">· </span>")?;
+            page.raw("<span class=\"mut\">· </span>");
         }
         let place = address_text(report.alloc, item, walk)?;
         report.add_link(page, item.address, place.as_str(), None)?;
-        page.raw("</td><td>")?;
+        page.raw("</td><td>");
         add_item(report, page, walk, item)?;
-        page.raw("</td></tr>\n")?;
+        page.raw("</td></tr>\n");
     }
     Ok(())
 }
@@ -188,18 +191,20 @@ fn add_item(
 ) -> Result<(), AllocError> {
     match item.kind {
         ItemKind::Call(callee, own, time) => {
-            page.raw("CALL ")?;
+            page.raw("CALL ");
             report.add_proc(page, callee)?;
             let (own, time) = (
                 grouped(report.alloc, u64::from(own))?,
                 grouped(report.alloc, u64::from(time))?,
             );
-            page.raw(" <span class=\"mut\">")?;
-            page.text(format!(in report.alloc; "({own} + {time})")?.as_str())?;
-            page.raw("</span>")
+            page.raw(" <span class=\"mut\">");
+            page.made(format!(in report.alloc; "({own} + {time})"));
+            page.raw("</span>");
+            Ok(())
         }
         ItemKind::Accepted | ItemKind::Run(_, _) | ItemKind::Loop(_) => {
-            page.text(item_text(report.alloc, &report.view, item, walk)?.as_str())
+            page.made(item_text(report.alloc, &report.view, item, walk));
+            Ok(())
         }
     }
 }

@@ -35,7 +35,7 @@ pub fn add_flame(
 ) -> Result<(), AllocError> {
     page.raw(
         "<div class=\"flame\" role=\"region\" aria-label=\"T-states by procedure, nested\" tabindex=\"0\"><ul>",
-    )?;
+    );
     let sum = u64::from(walk.sum).max(1);
     let mut blocks = Vec::new(report.alloc);
     blocks.push(Block::Proc(walks.root(), 1, sum, sum, WHOLE, 0))?;
@@ -44,7 +44,7 @@ pub fn add_flame(
             break;
         };
         match block {
-            Block::End(markup) => page.raw(markup)?,
+            Block::End(markup) => page.raw(markup),
             Block::Loop(proc, number, cost, above) => {
                 if let Some(walk) = walks.walk(proc) {
                     add_loop_block(report, page, walk, number, cost, above)?;
@@ -59,7 +59,8 @@ pub fn add_flame(
             }
         }
     }
-    page.raw("</ul></div>\n")
+    page.raw("</ul></div>\n");
+    Ok(())
 }
 
 /// Adds the block of a procedure; its item stays open.
@@ -88,7 +89,7 @@ fn add_proc_block(
         format!(in alloc; "{name} {whole}")?
     };
     let wide = width_text(alloc, cost, above)?;
-    page.open("li", &[with("class", class), with("style", wide.as_str())])?;
+    page.open("li", &[with("class", class), with("style", wide.as_str())]);
     add_block_label(report, page, label.as_str(), cost)
 }
 
@@ -101,9 +102,10 @@ fn add_block_label(
 ) -> Result<(), AllocError> {
     let whole = grouped(report.alloc, cost)?;
     let title = format!(in report.alloc; "{label}: {whole} T-states")?;
-    page.open("span", &[with("title", title.as_str())])?;
-    page.text(label)?;
-    page.close("span")
+    page.open("span", &[with("title", title.as_str())]);
+    page.text(label);
+    page.close("span");
+    Ok(())
 }
 
 /// Adds the block of a loop.
@@ -125,9 +127,10 @@ fn add_loop_block(
         None => format!(in alloc; "loop {first:04X}")?,
     };
     let wide = width_text(alloc, cost, above)?;
-    page.open("li", &[with("class", "lo"), with("style", wide.as_str())])?;
+    page.open("li", &[with("class", "lo"), with("style", wide.as_str())]);
     add_block_label(report, page, label.as_str(), cost)?;
-    page.raw("</li>")
+    page.raw("</li>");
+    Ok(())
 }
 
 /// Adds the blocks in the block of a procedure, the widest first, to those that come next.
@@ -147,7 +150,7 @@ fn add_inner(
     if !has_room || depth == u8::MAX {
         return Ok(());
     }
-    page.raw("<ul>")?;
+    page.raw("<ul>");
     blocks.push(Block::End("</ul>"))?;
     add_shares(inner.as_slice(), sum, share, blocks)
 }

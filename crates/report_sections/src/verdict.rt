@@ -25,26 +25,27 @@ struct Bar<'a> {
 /// Adds the verdict.
 pub fn add_verdict(report: &Reported, page: &mut Page) -> Result<(), AllocError> {
     let certificate = report.view.accepted().certificate();
-    page.raw("<section id=\"sum\" aria-labelledby=\"h-sum\"><h1 id=\"h-sum\">")?;
-    page.text(report.names.rom)?;
-    page.raw("</h1>\n<p><span class=\"v\">✓ accepted</span> for the ")?;
+    page.raw("<section id=\"sum\" aria-labelledby=\"h-sum\"><h1 id=\"h-sum\">");
+    page.text(report.names.rom);
+    page.raw("</h1>\n<p><span class=\"v\">✓ accepted</span> for the ");
     page.raw(match certificate.board() {
         BoardMap::Galaxian => "Galaxian",
         BoardMap::Raised => "raised",
-    })?;
-    page.raw(" map, certificate version ")?;
+    });
+    page.raw(" map, certificate version ");
     page.raw(match certificate.version() {
         Version::One => "1",
         Version::Two => "2",
         Version::Three => "3",
-    })?;
-    page.raw(".</p>\n<dl>")?;
+    });
+    page.raw(".</p>\n<dl>");
     add_files(report, page)?;
-    page.raw("</dl>\n<div class=\"bars\">")?;
+    page.raw("</dl>\n<div class=\"bars\">");
     add_bars(report, page)?;
-    page.raw("</div>\n")?;
-    add_bars_note(report, page)?;
-    page.raw("</section>\n")
+    page.raw("</div>\n");
+    add_bars_note(report, page);
+    page.raw("</section>\n");
+    Ok(())
 }
 
 /// Adds what the files are.
@@ -52,36 +53,36 @@ fn add_files(report: &Reported, page: &mut Page) -> Result<(), AllocError> {
     let alloc = report.alloc;
     let certificate = report.view.accepted().certificate();
     let rom = report.view.accepted().rom();
-    page.raw("<dt>ROM</dt><dd>")?;
-    page.count(u64::from(rom.len()), "byte")?;
-    page.raw(", 0000–")?;
-    page.address(rom.len().saturating_sub(1))?;
-    page.raw("</dd>\n<dt>its SHA-256</dt><dd><code>")?;
-    page.text(digits_of(alloc, &bytes_digest(rom.bytes_from(0)))?.as_str())?;
-    page.raw("</code></dd>\n<dt>Certificate</dt><dd>")?;
-    page.text(report.names.cert)?;
-    page.raw(", ")?;
-    page.count(u64::from(certificate.row_count()), "row")?;
-    page.raw(", SHA-256 <code>")?;
+    page.raw("<dt>ROM</dt><dd>");
+    page.count(u64::from(rom.len()), "byte");
+    page.raw(", 0000–");
+    page.address(rom.len().saturating_sub(1));
+    page.raw("</dd>\n<dt>its SHA-256</dt><dd><code>");
+    page.made(digits_of(alloc, &bytes_digest(rom.bytes_from(0))));
+    page.raw("</code></dd>\n<dt>Certificate</dt><dd>");
+    page.text(report.names.cert);
+    page.raw(", ");
+    page.count(u64::from(certificate.row_count()), "row");
+    page.raw(", SHA-256 <code>");
     let digits = digits_of(alloc, &certificate_digest(certificate))?;
-    page.text(digits.as_str().get(..16).unwrap_or(""))?;
-    page.raw("…</code></dd>\n<dt>Code</dt><dd>")?;
-    page.count(u64::from(report.instrs), "instruction")?;
-    page.raw(" in ")?;
-    page.count(certificate.procs().len() as u64, "procedure")?;
-    page.raw("</dd>")?;
+    page.text(digits.as_str().get(..16).unwrap_or(""));
+    page.raw("…</code></dd>\n<dt>Code</dt><dd>");
+    page.count(u64::from(report.instrs), "instruction");
+    page.raw(" in ");
+    page.count(certificate.procs().len() as u64, "procedure");
+    page.raw("</dd>");
     if let Some(file) = report.names.symbols {
-        page.raw("\n<dt>Labels</dt><dd>")?;
-        page.number(report.view.symbols().names().len() as u64)?;
-        page.raw(" from ")?;
-        page.text(file)?;
+        page.raw("\n<dt>Labels</dt><dd>");
+        page.number(report.view.symbols().names().len() as u64);
+        page.raw(" from ");
+        page.text(file);
         let others = report.view.symbols().other_lines().len() as u64;
         if others > 0 {
-            page.raw(", ")?;
-            page.count(others, "line")?;
-            page.raw(" not understood")?;
+            page.raw(", ");
+            page.count(others, "line");
+            page.raw(" not understood");
         }
-        page.raw("</dd>")?;
+        page.raw("</dd>");
     }
     Ok(())
 }
@@ -162,25 +163,26 @@ fn add_time_bars(report: &Reported, page: &mut Page) -> Result<(), AllocError> {
 }
 
 /// Adds what the colours of the bars are.
-fn add_bars_note(report: &Reported, page: &mut Page) -> Result<(), AllocError> {
+fn add_bars_note(report: &Reported, page: &mut Page) {
     let (main, nmi) = depths(report);
     if report.nmi.is_none() {
-        return page.raw(
+        page.raw(
             "<p>There is no NMI routine: the certificate claims no time, and shows that the ROM never enables \
              the NMI.</p>\n",
         );
+        return;
     }
-    page.raw("<p class=\"mut\"><span class=\"sw m\">Main code</span>: ")?;
-    page.count(main, "byte")?;
-    page.raw(". <span class=\"sw n\">NMI routine</span> on top of it: ")?;
-    page.count(nmi, "byte")?;
-    page.raw(". A frame has ")?;
-    page.number(FRAME)?;
-    page.raw(" T-states; the mark in the last bar is the budget.</p>\n")
+    page.raw("<p class=\"mut\"><span class=\"sw m\">Main code</span>: ");
+    page.count(main, "byte");
+    page.raw(". <span class=\"sw n\">NMI routine</span> on top of it: ");
+    page.count(nmi, "byte");
+    page.raw(". A frame has ");
+    page.number(FRAME);
+    page.raw(" T-states; the mark in the last bar is the budget.</p>\n");
 }
 
 /// Adds what the verdict means.
-pub fn add_meaning(report: &Reported, page: &mut Page) -> Result<(), AllocError> {
+pub fn add_meaning(report: &Reported, page: &mut Page) {
     let region = report.view.accepted().certificate().region();
     page.raw(
         "<section id=\"mean\" aria-labelledby=\"h-mean\"><h2 id=\"h-mean\">What it means</h2>\n<ul class=\"mean\">\
@@ -189,27 +191,27 @@ pub fn add_meaning(report: &Reported, page: &mut Page) -> Result<(), AllocError>
          <li><b>No store goes astray.</b> Stores reach RAM, latches and the sound pitch only: never the ROM, never \
          an unmapped address, and never the stack while something is on it.</li>\n\
          <li><b>The stack stays in its region</b> ",
-    )?;
-    page.address(region.low)?;
-    page.raw("–")?;
-    page.address(region.top.wrapping_sub(1))?;
-    page.raw(", also if an NMI comes at the worst moment.</li>\n")?;
+    );
+    page.address(region.low);
+    page.raw("–");
+    page.address(region.top.wrapping_sub(1));
+    page.raw(", also if an NMI comes at the worst moment.</li>\n");
     match report.nmi {
         Some((_, proc)) => {
-            page.raw("<li><b>The NMI routine ends within ")?;
-            page.number(u64::from(proc.time.unwrap_or(0)))?;
+            page.raw("<li><b>The NMI routine ends within ");
+            page.number(u64::from(proc.time.unwrap_or(0)));
             page.raw(
                 " T-states each time</b>, and hands back all registers as it found them. Times are upper bounds; \
                  the dearest way may never be taken.</li>\n",
-            )?;
+            );
         }
-        None => page.raw("<li><b>No time is promised</b>, as there is no NMI routine.</li>\n")?,
+        None => page.raw("<li><b>No time is promised</b>, as there is no NMI routine.</li>\n"),
     }
     page.raw(
         "<li><b>It doesn’t say that the game is right</b>, fun, or drawn well, that main code ever finishes \
          anything, nor that a real board behaves as the model of docs/BOARD.md. “Never reached” means reached by \
          nothing; “reached” means only that the proof allows for it.</li></ul></section>\n",
-    )
+    );
 }
 
 /// Adds a bar.
@@ -222,11 +224,11 @@ fn add_bar(page: &mut Page, bar: &Bar) -> Result<(), AllocError> {
     }
     words.push_str("of ")?;
     words.push_str(grouped(alloc, bar.whole)?.as_str())?;
-    page.raw("<div class=\"bar\"><p><span>")?;
-    page.text(bar.label)?;
-    page.raw("</span> <b>")?;
-    page.text(bar.text)?;
-    page.raw("</b></p>\n")?;
+    page.raw("<div class=\"bar\"><p><span>");
+    page.text(bar.label);
+    page.raw("</span> <b>");
+    page.text(bar.text);
+    page.raw("</b></p>\n");
     page.open(
         "svg",
         &[
@@ -235,8 +237,8 @@ fn add_bar(page: &mut Page, bar: &Bar) -> Result<(), AllocError> {
             with("viewBox", "0 0 1000 20"),
             with("preserveAspectRatio", "none"),
         ],
-    )?;
-    page.raw("<rect class=\"z\" width=\"1000\" height=\"20\"/>")?;
+    );
+    page.raw("<rect class=\"z\" width=\"1000\" height=\"20\"/>");
     let mut left = 0u64;
     for (amount, class, _) in bar.parts {
         let wide = ratio(*amount, bar.whole, 1000);
@@ -246,15 +248,17 @@ fn add_bar(page: &mut Page, bar: &Bar) -> Result<(), AllocError> {
     if let Some(mark) = bar.mark {
         add_rect(page, "k", ratio(mark, bar.whole, 1000).min(998), 2)?;
     }
-    page.raw("</svg></div>\n")
+    page.raw("</svg></div>\n");
+    Ok(())
 }
 
 fn add_rect(page: &mut Page, class: &str, left: u64, wide: u64) -> Result<(), AllocError> {
     let alloc = page.alloc();
     let left = format!(in alloc; "{left}")?;
     let wide = format!(in alloc; "{wide}")?;
-    open_rect(page, class, left.as_str(), wide.as_str())?;
-    page.close("rect")
+    open_rect(page, class, left.as_str(), wide.as_str());
+    page.close("rect");
+    Ok(())
 }
 
 /// Adds the opening tag of a rectangle.
@@ -263,7 +267,7 @@ fn open_rect<'t>(
     class: &'t str,
     left: &'t str,
     wide: &'t str,
-) -> Result<(), AllocError> {
+) {
     page.open(
         "rect",
         &[
@@ -272,5 +276,5 @@ fn open_rect<'t>(
             with("width", wide),
             with("height", "20"),
         ],
-    )
+    );
 }
