@@ -12,8 +12,8 @@ use std::time::Instant;
 pub struct Reporter<'t, C: Clock> {
     clock: &'t C,
     stderr: Stderr,
-    /// How many trials a search took.
-    trials: u32,
+    /// How many trials were left when the search began.
+    trials: Option<u32>,
     /// What is done with bytes.
     passed: &'static str,
     start: Option<Instant>,
@@ -41,7 +41,7 @@ impl<'t, C: Clock> Reporter<'t, C> {
         Reporter {
             clock,
             stderr,
-            trials: 0,
+            trials: None,
             passed,
             start,
             tenths: 9,
@@ -66,13 +66,13 @@ impl<'t, C: Clock> Reporter<'t, C> {
 }
 
 impl<'t, C: Clock> Progress for Reporter<'t, C> {
-    fn tell(&mut self, _left: u32, refused: usize) {
-        self.trials = self.trials.saturating_add(1);
+    fn tell(&mut self, left: u32, refused: usize) {
+        let trials = *self.trials.get_or_insert(left);
         if self.is_due() {
-            let taken = self.trials;
+            let taken = trials.saturating_sub(left);
             let _told = write!(
                 self.stderr,
-                "\rtrial {taken}, {refused} addresses refused \r"
+                "\r{taken} trials, {refused} addresses refused \r"
             );
         }
     }

@@ -217,20 +217,28 @@ fn told<P: Progress>(
     };
     let analyses = analyses_of(case.explored.list.rows().len());
     let trials = analyses / 3;
-    let mut search = Search::of(alloc, &context, plan, trials, progress)?;
+    let mut search = Search::of(alloc, &context, plan, trials)?;
     let mut remedies = Remedies::new(alloc, analyses);
     let mut text = String::new(alloc);
     add_fault(&mut text, with, case, &mut search, asked.fault)?;
-    add_refusals(&mut text, with, case, &mut search, &mut remedies, asked)?;
+    add_refusals(
+        &mut text,
+        with,
+        case,
+        &mut search,
+        &mut remedies,
+        asked,
+        progress,
+    )?;
     Ok(text)
 }
 
 /// Adds the lines of a fault that is no refusal.
-fn add_fault<P: Progress>(
+fn add_fault(
     text: &mut String,
     with: &Wording,
     case: &Case,
-    search: &mut Search<P>,
+    search: &mut Search,
     fault: &WriterFault,
 ) -> Result<(), FlowFault> {
     match fault {
@@ -247,11 +255,11 @@ fn add_fault<P: Progress>(
 }
 
 /// Adds the lines about a loop without a bound.
-fn add_loop<P: Progress>(
+fn add_loop(
     text: &mut String,
     with: &Wording,
     case: &Case,
-    search: &mut Search<P>,
+    search: &mut Search,
     at: u16,
 ) -> Result<(), FlowFault> {
     let alloc = case.alloc;
@@ -269,9 +277,10 @@ fn add_refusals<P: Progress>(
     text: &mut String,
     with: &Wording,
     case: &Case,
-    search: &mut Search<P>,
+    search: &mut Search,
     remedies: &mut Remedies,
     asked: &Asked,
+    progress: &mut P,
 ) -> Result<(), FlowFault> {
     let alloc = case.alloc;
     let facts = case.said.facts();
@@ -283,6 +292,7 @@ fn add_refusals<P: Progress>(
             text.push_str(format!(in alloc; "and {more} more\n")?.as_str())?;
             break;
         }
+        progress.tell(search.left, refusals.len());
         let remedy = match remedies.find(case, search, refusal)? {
             // Nothing stands above the first one.
             Remedy::Untried if count == 0 => Remedy::Unknown,

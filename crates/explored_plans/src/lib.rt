@@ -10,7 +10,7 @@ mod values;
 
 pub use explored_plan::{ExploredPlan, OF_CONTEXTS, OF_RANGES, Refusals, exploring};
 pub use plans::{Base, Family, Finding, Plan, copy_of_split, split_of};
-pub use progress::{Progress, Unwatched};
+pub use progress::Progress;
 pub use reads::read_by;
 pub use search_context::SearchContext;
 pub use trials::{Attempt, Search, SetAside, entry_of};

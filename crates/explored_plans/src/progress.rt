@@ -2,14 +2,6 @@
 
 /// What watches a search.
 pub trait Progress {
-    /// A trial begins: so many trials are left, and so many addresses are refused.
+    /// The search goes on: so many trials are left, and so many addresses are refused. At first all trials are left.
     fn tell(&mut self, left: u32, refused: usize);
-}
-
-/// Nobody watches.
-#[derive(Clone, Copy)]
-pub struct Unwatched;
-
-impl Progress for Unwatched {
-    fn tell(&mut self, _left: u32, _refused: usize) {}
 }

@@ -1,7 +1,6 @@
 // The state of a search: the explored plan, and the trials that are left.
 
 use crate::explored_plan::ExploredPlan;
-use crate::progress::Progress;
 use crate::search_context::SearchContext;
 use analysis::FlowFault;
 use board_fetch::fetch;
@@ -20,7 +19,7 @@ pub type Attempt = (u8, u16, u16, u64);
 
 /// A search: the explored plan, and the trials that are left.
 #[derive(Drop)]
-pub struct Search<'s, P: Progress> {
+pub struct Search<'s> {
     pub alloc: Global,
     pub context: &'s SearchContext<'s>,
     pub explored: ExploredPlan,
@@ -39,7 +38,6 @@ pub struct Search<'s, P: Progress> {
     settled: usize,
     /// The places that were refused then.
     known: BTreeSet<u64>,
-    progress: &'s mut P,
 }
 
 /// What a search goes back to: its explored plan and the graph of its rows.
@@ -50,15 +48,14 @@ pub struct SetAside {
     edges: Vec<RowEdge>,
 }
 
-impl<'s, P: Progress> Search<'s, P> {
+impl<'s> Search<'s> {
     /// A search that begins with an explored plan.
     pub fn of(
         alloc: Global,
         context: &'s SearchContext<'s>,
         explored: ExploredPlan,
         trials: u32,
-        progress: &'s mut P,
-    ) -> Result<Search<'s, P>, FlowFault> {
+    ) -> Result<Search<'s>, FlowFault> {
         let edges = explored.edges(alloc, context)?;
         let graph = FlowGraph::of(alloc, &edges)?;
         let settled = explored.plan.findings.len();
@@ -75,7 +72,6 @@ impl<'s, P: Progress> Search<'s, P> {
             passed: BTreeSet::new(alloc),
             settled,
             known,
-            progress,
         })
     }
 
@@ -145,7 +141,6 @@ impl<'s, P: Progress> Search<'s, P> {
         if self.left == 0 {
             return Ok(None);
         }
-        self.progress.tell(self.left, self.explored.refused.len());
         self.left = self.left.saturating_sub(1);
         self.explored.with_plan(self.alloc, self.context, plan)
     }
@@ -176,7 +171,6 @@ impl<'s, P: Progress> Search<'s, P> {
         if self.left == 0 {
             return Ok(None);
         }
-        self.progress.tell(self.left, self.explored.refused.len());
         self.left = self.left.saturating_sub(1);
         self.explored.with_reaches(
             self.alloc,
@@ -269,7 +263,6 @@ impl<'s, P: Progress> Search<'s, P> {
         if self.left == 0 {
             return Ok(None);
         }
-        self.progress.tell(self.left, self.explored.refused.len());
         self.left = self.left.saturating_sub(1);
         let before = self
             .explored

@@ -5,7 +5,7 @@ mod finding;
 mod inferring_run;
 mod suggesting;
 
-pub use explored_plans::{Progress, Unwatched};
+pub use explored_plans::Progress;
 pub use finding::infer;
 pub use inferring_run::infer_on;
 pub use suggesting::{suggest, suggest_on};

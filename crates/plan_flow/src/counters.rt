@@ -2,7 +2,7 @@
 
 use abs_state::FlagFact;
 use analysis::FlowFault;
-use explored_plans::{Progress, Search, variable_of};
+use explored_plans::{Search, variable_of};
 use inferred_rows::InferredRow;
 use loop_bounds::{Ranges, Variable};
 use row_graph::NaturalLoop;
@@ -16,8 +16,8 @@ fn is_repeating(kind: BlockKind) -> bool {
 }
 
 /// What counts the turns of a loop, and whether it goes up.
-pub(crate) fn counter_of<P: Progress>(
-    search: &Search<P>,
+pub(crate) fn counter_of(
+    search: &Search,
     proc: u32,
     of: &NaturalLoop,
 ) -> Result<Option<(Variable, bool)>, FlowFault> {
@@ -31,8 +31,8 @@ pub(crate) fn counter_of<P: Progress>(
 }
 
 /// What counts the turns of a loop down to 0.
-fn falling_counter<P: Progress>(
-    search: &Search<P>,
+fn falling_counter(
+    search: &Search,
     proc: u32,
     of: &NaturalLoop,
 ) -> Result<Option<Variable>, FlowFault> {
@@ -71,8 +71,8 @@ fn falling_counter<P: Progress>(
 }
 
 /// The register whose zero the Z flag tells, in each row of a procedure at an address.
-fn tested_at<P: Progress>(
-    search: &Search<P>,
+fn tested_at(
+    search: &Search,
     proc: u32,
     at: u16,
 ) -> Result<Option<Variable>, FlowFault> {
@@ -106,8 +106,8 @@ fn raised_by(instr: &Instr) -> Option<Variable> {
 
 /// The variable that a loop raises and whose range at the loop's head is the narrowest. One whose range ends at its
 /// greatest value is none: nothing bounds it.
-fn rising_counter<P: Progress>(
-    search: &Search<P>,
+fn rising_counter(
+    search: &Search,
     proc: u32,
     of: &NaturalLoop,
 ) -> Result<Option<Variable>, FlowFault> {
@@ -163,8 +163,8 @@ fn width_of(rows: &[&InferredRow], variable: &Variable) -> Option<u16> {
 }
 
 /// The first register of eight bits that a loop raises, or else a pair: a pair is a pointer more often.
-pub(crate) fn raised_variable<P: Progress>(
-    search: &Search<P>,
+pub(crate) fn raised_variable(
+    search: &Search,
     of: &NaturalLoop,
 ) -> Option<Variable> {
     let mut pair = None;

@@ -3,7 +3,7 @@
 use crate::unrolling::try_unroll;
 use analysis::{FlowFault, MAIN, NMI, sub_of};
 use board_fetch::fetch;
-use explored_plans::{ExploredPlan, Family, OF_CONTEXTS, Progress, REGISTERS, Search};
+use explored_plans::{ExploredPlan, Family, OF_CONTEXTS, REGISTERS, Search};
 use inferred_rows::ContextPoint;
 use intervals::ByteRange;
 use plan_values::{Splitting, try_lookup, with_split};
@@ -42,12 +42,12 @@ fn low_of(pair: StackPair) -> Option<Register8> {
     }
 }
 
-fn called_at<P: Progress>(search: &Search<P>, address: u16) -> Option<u16> {
+fn called_at(search: &Search, address: u16) -> Option<u16> {
     called_by(&search.instr_at(address)?)
 }
 
 /// The addresses of the calls of a procedure, rising.
-fn sites_of<P: Progress>(search: &Search<P>, proc: u32) -> Result<Vec<u16>, FlowFault> {
+fn sites_of(search: &Search, proc: u32) -> Result<Vec<u16>, FlowFault> {
     let mut sites = Vec::new(search.alloc);
     for caller in search.explored.list.callers_of(search.alloc, proc)? {
         sites.push(ContextPoint::of(caller).address)?;
@@ -57,13 +57,13 @@ fn sites_of<P: Progress>(search: &Search<P>, proc: u32) -> Result<Vec<u16>, Flow
     Ok(sites)
 }
 
-fn is_inline<P: Progress>(search: &Search<P>, address: u16) -> bool {
+fn is_inline(search: &Search, address: u16) -> bool {
     search.explored.said.inlines().contains(&address)
 }
 
 /// A plan in which the callers of a procedure that takes its return address are inline.
-pub fn try_inline<P: Progress>(
-    search: &mut Search<P>,
+pub fn try_inline(
+    search: &mut Search,
     refused: u16,
 ) -> Result<Option<ExploredPlan>, FlowFault> {
     let refusals = search.explored.refusals_at(refused);
@@ -101,7 +101,7 @@ pub fn try_inline<P: Progress>(
 }
 
 /// Whether a call of this entry is inline.
-fn some_inline_calls<P: Progress>(search: &Search<P>, entry: u16) -> bool {
+fn some_inline_calls(search: &Search, entry: u16) -> bool {
     search
         .explored
         .said
@@ -112,8 +112,8 @@ fn some_inline_calls<P: Progress>(search: &Search<P>, entry: u16) -> bool {
 
 /// A plan with a split by which the inline calls of an entry are distinguished: by a register that differs between
 /// them, or by the low byte of the return address that it pops.
-pub fn try_inline_split<P: Progress>(
-    search: &mut Search<P>,
+pub fn try_inline_split(
+    search: &mut Search,
     refused: u16,
 ) -> Result<Option<ExploredPlan>, FlowFault> {
     if !search.explored.refusals_at(refused).has_any(&OF_CONTEXTS) {
@@ -152,7 +152,7 @@ pub fn try_inline_split<P: Progress>(
 }
 
 /// The entries of inline calls, rising.
-fn inline_entries<P: Progress>(search: &Search<P>) -> Result<Vec<u16>, FlowFault> {
+fn inline_entries(search: &Search) -> Result<Vec<u16>, FlowFault> {
     let mut entries = Vec::new(search.alloc);
     for site in search.explored.said.inlines() {
         if let Some(entry) = called_at(search, *site) {
@@ -165,7 +165,7 @@ fn inline_entries<P: Progress>(search: &Search<P>) -> Result<Vec<u16>, FlowFault
 }
 
 /// The inline calls of an entry.
-fn inline_sites<P: Progress>(search: &Search<P>, entry: u16) -> Result<Vec<u16>, FlowFault> {
+fn inline_sites(search: &Search, entry: u16) -> Result<Vec<u16>, FlowFault> {
     let mut sites = Vec::new(search.alloc);
     for site in search.explored.said.inlines() {
         if called_at(search, *site) == Some(entry) {
@@ -176,8 +176,8 @@ fn inline_sites<P: Progress>(search: &Search<P>, entry: u16) -> Result<Vec<u16>,
 }
 
 /// The ranges of a register at calls that are reached, if those of each two are apart.
-fn parts_by_site<P: Progress>(
-    search: &Search<P>,
+fn parts_by_site(
+    search: &Search,
     sites: &[u16],
     register: Register8,
 ) -> Result<Option<Vec<ByteRange>>, FlowFault> {
@@ -215,8 +215,8 @@ fn parts_by_site<P: Progress>(
 }
 
 /// A plan with a split by the low byte of the return address, after the POP at the entry.
-fn split_by_return<P: Progress>(
-    search: &mut Search<P>,
+fn split_by_return(
+    search: &mut Search,
     refused: u16,
     entry: u16,
     sites: &[u16],
@@ -253,8 +253,8 @@ fn split_by_return<P: Progress>(
 
 /// A plan in which calls near before a refused row, or those of its procedure, are inline: each is then a context of
 /// its own.
-pub fn try_context<P: Progress>(
-    search: &mut Search<P>,
+pub fn try_context(
+    search: &mut Search,
     refused: u16,
 ) -> Result<Option<ExploredPlan>, FlowFault> {
     if !search.explored.refusals_at(refused).has_any(&OF_CONTEXTS) {
@@ -289,8 +289,8 @@ pub fn try_context<P: Progress>(
 }
 
 /// A further move that helps a refused row in another explored, and leaves nothing worse than here.
-fn within<P: Progress>(
-    search: &mut Search<P>,
+fn within(
+    search: &mut Search,
     explored: ExploredPlan,
     refused: u16,
 ) -> Result<Option<ExploredPlan>, FlowFault> {
@@ -304,8 +304,8 @@ fn within<P: Progress>(
 }
 
 /// The first move that takes the refusals at an address away, beside inline calls and cells.
-fn next_move<P: Progress>(
-    search: &mut Search<P>,
+fn next_move(
+    search: &mut Search,
     refused: u16,
 ) -> Result<Option<ExploredPlan>, FlowFault> {
     let found = try_inline_split(search, refused)?;
@@ -320,7 +320,7 @@ fn next_move<P: Progress>(
 }
 
 /// Calls that may become inline together.
-fn contexts<P: Progress>(search: &Search<P>, refused: u16) -> Result<Vec<Vec<u16>>, FlowFault> {
+fn contexts(search: &Search, refused: u16) -> Result<Vec<Vec<u16>>, FlowFault> {
     let mut all = Vec::new(search.alloc);
     for proc in search.explored.procs_at(search.alloc, refused)? {
         let mut near = 0u32;

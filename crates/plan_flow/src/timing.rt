@@ -5,7 +5,7 @@ use crate::unrolling::{Unrolling, first_exits, unrollings};
 use analysis::{FlowFault, NMI};
 use annotations::{LoopNote, SplitNote, TurnNote};
 use explored_plans::{
-    ExploredPlan, Family, Finding, Plan, Progress, Search, code_of, register_of, split_of,
+    ExploredPlan, Family, Finding, Plan, Search, code_of, register_of, split_of,
 };
 use inferred_rows::ContextPoint;
 use intervals::ByteRange;
@@ -21,7 +21,7 @@ const FEW_TURNS: usize = 16;
 const TWO_TURNS: usize = 2;
 
 /// The timed procedures, rising.
-fn timed_procs<P: Progress>(search: &Search<P>) -> Result<Vec<u32>, FlowFault> {
+fn timed_procs(search: &Search) -> Result<Vec<u32>, FlowFault> {
     let mut procs = Vec::new(search.alloc);
     let mut last = None;
     for (number, _) in search.explored.list.rows().iter() {
@@ -35,7 +35,7 @@ fn timed_procs<P: Progress>(search: &Search<P>) -> Result<Vec<u32>, FlowFault> {
 }
 
 /// A plan with a counter or a split for each loop of a timed procedure that has none, if there is one to give.
-pub fn with_counters<P: Progress>(search: &Search<P>) -> Result<Vec<Plan>, FlowFault> {
+pub fn with_counters(search: &Search) -> Result<Vec<Plan>, FlowFault> {
     let mut plan = search.explored.plan.copied(search.alloc)?;
     let mut grew = false;
     for proc in timed_procs(search)? {
@@ -63,7 +63,7 @@ pub fn with_counters<P: Progress>(search: &Search<P>) -> Result<Vec<Plan>, FlowF
 }
 
 /// Whether a split at the head of a loop keeps its turns apart: it does not end within the loop.
-fn has_turns_apart<P: Progress>(search: &Search<P>, plan: &Plan, found: &NaturalLoop) -> bool {
+fn has_turns_apart(search: &Search, plan: &Plan, found: &NaturalLoop) -> bool {
     search
         .context
         .base()
@@ -83,8 +83,8 @@ fn keeps_apart(split: &SplitNote, found: &NaturalLoop) -> bool {
 
 /// What bounds a loop: its counter, or where it has none, a split by turns. A loop of many turns that raises a variable
 /// gets that as its counter, with the first turn distinguished: the compare at its end bounds only the others.
-fn bounding<P: Progress>(
-    search: &Search<P>,
+fn bounding(
+    search: &Search,
     proc: u32,
     found: &NaturalLoop,
 ) -> Result<Vec<Family>, FlowFault> {
@@ -127,8 +127,8 @@ fn counted_by(found: &NaturalLoop, counter: Variable, rises: bool) -> Family {
 }
 
 /// The first exit of a loop; its head if it has none.
-fn first_exit<P: Progress>(
-    search: &Search<P>,
+fn first_exit(
+    search: &Search,
     proc: u32,
     found: &NaturalLoop,
 ) -> Result<u16, FlowFault> {
@@ -139,8 +139,8 @@ fn first_exit<P: Progress>(
 }
 
 /// The split of a loop's turns by a register, up to the loop's first exit.
-fn unrolled_by<P: Progress>(
-    search: &Search<P>,
+fn unrolled_by(
+    search: &Search,
     proc: u32,
     found: &NaturalLoop,
     unrolling: &Unrolling,
@@ -153,8 +153,8 @@ fn unrolled_by<P: Progress>(
 
 /// Plans in which a loop around an address is bounded in another way: a first turn with the counter 0 apart, or a
 /// split in the place of the counter.
-pub fn with_other_bounds<P: Progress>(
-    search: &mut Search<P>,
+pub fn with_other_bounds(
+    search: &mut Search,
     address: u16,
 ) -> Result<Vec<Plan>, FlowFault> {
     let mut plans = Vec::new(search.alloc);
@@ -168,8 +168,8 @@ pub fn with_other_bounds<P: Progress>(
     Ok(plans)
 }
 
-fn add_other_bounds<P: Progress>(
-    search: &mut Search<P>,
+fn add_other_bounds(
+    search: &mut Search,
     plans: &mut Vec<Plan>,
     proc: u32,
     found: &NaturalLoop,
@@ -204,7 +204,7 @@ fn add_other_bounds<P: Progress>(
 }
 
 /// The register of eight bits that counts the loop at an address down, by the plan.
-fn register_of_loop<P: Progress>(search: &Search<P>, at: u16) -> Option<Register8> {
+fn register_of_loop(search: &Search, at: u16) -> Option<Register8> {
     for finding in search.explored.plan.findings.as_slice() {
         if let Family::Loop(note) = &finding.family {
             if note.at == at && !note.rises {

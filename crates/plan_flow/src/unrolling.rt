@@ -4,7 +4,7 @@ use abs_state::AbsState;
 use analysis::{FlowFault, MAIN, NMI};
 use annotations::TurnNote;
 use explored_plans::{
-    ByteSet, ExploredPlan, Family, OF_RANGES, Progress, REGISTERS, Search, code_of, entry_of,
+    ByteSet, ExploredPlan, Family, OF_RANGES, REGISTERS, Search, code_of, entry_of,
     split_of,
 };
 use inferred_rows::ContextPoint;
@@ -27,8 +27,8 @@ pub(crate) struct Unrolling {
 }
 
 /// The registers by which the turns of a loop are distinguished.
-pub(crate) fn unrollings<P: Progress>(
-    search: &Search<P>,
+pub(crate) fn unrollings(
+    search: &Search,
     proc: u32,
     of: &NaturalLoop,
 ) -> Result<Vec<Unrolling>, FlowFault> {
@@ -60,8 +60,8 @@ pub(crate) fn unrollings<P: Progress>(
 }
 
 /// The ranges of a register turn by turn, if no two share a value.
-fn parts_apart<P: Progress>(
-    search: &Search<P>,
+fn parts_apart(
+    search: &Search,
     turns: &[AbsState],
     register: Register8,
 ) -> Result<Option<Vec<ByteRange>>, FlowFault> {
@@ -87,8 +87,8 @@ fn parts_apart<P: Progress>(
 }
 
 /// A part for each value of a register whose range moves one way, turn by turn.
-fn parts_sliding<P: Progress>(
-    search: &Search<P>,
+fn parts_sliding(
+    search: &Search,
     turns: &[AbsState],
     register: Register8,
 ) -> Result<Option<Vec<ByteRange>>, FlowFault> {
@@ -117,8 +117,8 @@ fn parts_sliding<P: Progress>(
 }
 
 /// A plan with a loop unrolled, around a refused row, before it, or around a call of its procedure.
-pub fn try_unroll<P: Progress>(
-    search: &mut Search<P>,
+pub fn try_unroll(
+    search: &mut Search,
     refused: u16,
 ) -> Result<Option<ExploredPlan>, FlowFault> {
     let procs = search.explored.procs_at(search.alloc, refused)?;
@@ -154,8 +154,8 @@ pub fn try_unroll<P: Progress>(
 }
 
 /// A plan in which the first turn of a loop around a refused row is distinguished from the others.
-pub fn try_first_turn<P: Progress>(
-    search: &mut Search<P>,
+pub fn try_first_turn(
+    search: &mut Search,
     refused: u16,
 ) -> Result<Option<ExploredPlan>, FlowFault> {
     if !search.explored.refusals_at(refused).has_any(&OF_RANGES) {
@@ -186,8 +186,8 @@ pub fn try_first_turn<P: Progress>(
 }
 
 /// A plan with a loop unrolled that takes the refusals at an address away.
-fn unrolled<P: Progress>(
-    search: &mut Search<P>,
+fn unrolled(
+    search: &mut Search,
     refused: u16,
     proc: u32,
     found: &NaturalLoop,
@@ -213,8 +213,8 @@ fn unrolled<P: Progress>(
 }
 
 /// The first two exits of a loop.
-pub(crate) fn first_exits<P: Progress>(
-    search: &Search<P>,
+pub(crate) fn first_exits(
+    search: &Search,
     proc: u32,
     found: &NaturalLoop,
 ) -> Result<Vec<u16>, FlowFault> {
@@ -224,8 +224,8 @@ pub(crate) fn first_exits<P: Progress>(
 }
 
 /// A plan with a loop unrolled in a procedure that calls the one of a refused row.
-fn unrolled_in_callers<P: Progress>(
-    search: &mut Search<P>,
+fn unrolled_in_callers(
+    search: &mut Search,
     refused: u16,
     proc: u32,
 ) -> Result<Option<ExploredPlan>, FlowFault> {
@@ -259,8 +259,8 @@ fn unrolled_in_callers<P: Progress>(
 }
 
 /// A plan with a loop unrolled at its head, and by the same register at the entry of a callee.
-fn unrolled_twice<P: Progress>(
-    search: &mut Search<P>,
+fn unrolled_twice(
+    search: &mut Search,
     refused: u16,
     proc: u32,
     found: &NaturalLoop,

@@ -179,8 +179,8 @@ fn fitted<'r, P: Progress>(
     let Some(explored) = ExploredPlan::of(alloc, &context, plan)? else {
         return Err(FlowFault::Limit);
     };
-    let mut search = Search::of(alloc, &context, explored, left, progress)?;
-    let SearchEnd { low, judged, stuck } = answered(&mut search, bytes, base, is_last)?;
+    let mut search = Search::of(alloc, &context, explored, left)?;
+    let SearchEnd { low, judged, stuck } = answered(&mut search, bytes, base, is_last, progress)?;
     let Search { explored, left, .. } = search;
     Ok(Fitting {
         explored,
@@ -201,17 +201,18 @@ struct SearchEnd<'r> {
 
 /// Lets a search run, and asks the writer where the region fits the depth, or `is_last`.
 fn answered<'r, P: Progress>(
-    search: &mut Search<P>,
+    search: &mut Search,
     bytes: &'r [u8],
     base: &Base,
     is_last: bool,
+    progress: &mut P,
 ) -> Result<SearchEnd<'r>, FlowFault>
     ensures { IfOk result (λ answered. IfSome answered.judged (λ judged. judged ≡ bytes.now)) }
 {
-    clear(search)?;
+    clear(search, progress)?;
     let low = low_of(base, stack_depth(search.alloc, &search.explored.list)?);
     let judged = if is_last || low == base.region.low {
-        Some(bound_and_lessen(search, bytes)?)
+        Some(bound_and_lessen(search, bytes, progress)?)
     } else {
         None
     };

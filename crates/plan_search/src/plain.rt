@@ -27,10 +27,7 @@ pub fn plain_annotations(
     if !has_plain_form(found) {
         return Ok(None);
     }
-    let mut facts = Vec::new(alloc);
-    for fact in found.base.given.facts.as_slice() {
-        facts.push(*fact)?;
-    }
+    let mut facts = Vec::from_slice(alloc, found.base.given.facts.as_slice())?;
     for (number, own) in found.judged.guide().facts.iter() {
         let address = ContextPoint::of(*number).address;
         add_facts(&mut facts, address, own)?;

@@ -19,10 +19,14 @@ const MOVES: u32 = 2_000;
 const BOUNDS: u32 = 60;
 
 /// Takes refusals away, move by move, until none is left or no move helps. At last the whole plan is explored.
-pub(crate) fn clear<P: Progress>(search: &mut Search<P>) -> Result<(), FlowFault> {
+pub(crate) fn clear<P: Progress>(search: &mut Search, progress: &mut P) -> Result<(), FlowFault> {
     for _ in 0..MOVES {
         let is_done = search.explored.is_clean() || !search.has_trials();
-        let found = if is_done { None } else { helping(search)? };
+        let found = if is_done {
+            None
+        } else {
+            helping(search, progress)?
+        };
         match found {
             Some(explored) => search.keep(explored)?,
             None if search.explored.is_near => search.explore_whole()?,
@@ -35,23 +39,30 @@ pub(crate) fn clear<P: Progress>(search: &mut Search<P>) -> Result<(), FlowFault
 /// The first move that helps: what is cheap first, then cells, then what costs trials. Rows that lead nowhere come
 /// before others, since more code is reached from them. What costs trials is left out where only a part of the plan was
 /// explored.
-fn helping<P: Progress>(search: &mut Search<P>) -> Result<Option<ExploredPlan>, FlowFault> {
+fn helping<P: Progress>(
+    search: &mut Search,
+    progress: &mut P,
+) -> Result<Option<ExploredPlan>, FlowFault> {
     search.repeats = false;
-    let found = first_helping(search)?;
+    let found = first_helping(search, progress)?;
     if found.is_some() || !search.has_trials() || search.explored.is_near {
         return Ok(found);
     }
     search.repeats = true;
-    first_helping(search)
+    first_helping(search, progress)
 }
 
 /// The first new move that helps; None if none does.
-fn first_helping<P: Progress>(search: &mut Search<P>) -> Result<Option<ExploredPlan>, FlowFault> {
+fn first_helping<P: Progress>(
+    search: &mut Search,
+    progress: &mut P,
+) -> Result<Option<ExploredPlan>, FlowFault> {
     let refused = in_order(search)?;
     for address in refused.as_slice() {
         if search.is_passed(*address) {
             continue;
         }
+        progress.tell(search.left, refused.len());
         let found = cheap(search, *address)?;
         if found.is_some() || !search.has_trials() {
             return Ok(found);
@@ -66,6 +77,7 @@ fn first_helping<P: Progress>(search: &mut Search<P>) -> Result<Option<ExploredP
         return Ok(found);
     }
     for address in refused.as_slice() {
+        progress.tell(search.left, refused.len());
         let found = dear(search, *address)?;
         if found.is_some() || !search.has_trials() {
             return Ok(found);
@@ -75,7 +87,7 @@ fn first_helping<P: Progress>(search: &mut Search<P>) -> Result<Option<ExploredP
 }
 
 /// The refused addresses: those that lead nowhere first, then the others, both rising.
-fn in_order<P: Progress>(search: &Search<P>) -> Result<Vec<u16>, FlowFault> {
+fn in_order(search: &Search) -> Result<Vec<u16>, FlowFault> {
     let refused = search.explored.refused_addresses(search.alloc)?;
     let mut order = Vec::new(search.alloc);
     for first in [true, false] {
@@ -94,8 +106,8 @@ fn in_order<P: Progress>(search: &Search<P>) -> Result<Vec<u16>, FlowFault> {
 /// # Errors
 ///
 /// `NoMemory` where memory was refused.
-pub fn helping_at<P: Progress>(
-    search: &mut Search<P>,
+pub fn helping_at(
+    search: &mut Search,
     refused: u16,
 ) -> Result<Option<ExploredPlan>, FlowFault> {
     search.repeats = false;
@@ -109,8 +121,8 @@ pub fn helping_at<P: Progress>(
 }
 
 /// A plan, explored as a whole. Before, only a part of it may have been explored.
-fn whole_of<P: Progress>(
-    search: &Search<P>,
+fn whole_of(
+    search: &Search,
     found: Option<ExploredPlan>,
 ) -> Result<Option<ExploredPlan>, FlowFault> {
     match found {
@@ -124,8 +136,8 @@ fn whole_of<P: Progress>(
     }
 }
 
-fn first_at<P: Progress>(
-    search: &mut Search<P>,
+fn first_at(
+    search: &mut Search,
     refused: u16,
 ) -> Result<Option<ExploredPlan>, FlowFault> {
     let found = cheap(search, refused)?;
@@ -135,8 +147,8 @@ fn first_at<P: Progress>(
     dear(search, refused)
 }
 
-fn cheap<P: Progress>(
-    search: &mut Search<P>,
+fn cheap(
+    search: &mut Search,
     refused: u16,
 ) -> Result<Option<ExploredPlan>, FlowFault> {
     let found = try_parts(search, refused)?;
@@ -154,8 +166,8 @@ fn cheap<P: Progress>(
     try_lookup(search, refused)
 }
 
-fn dear<P: Progress>(
-    search: &mut Search<P>,
+fn dear(
+    search: &mut Search,
     refused: u16,
 ) -> Result<Option<ExploredPlan>, FlowFault> {
     let found = try_first_turn(search, refused)?;
@@ -174,11 +186,16 @@ fn dear<P: Progress>(
 }
 
 /// Bounds the loops of timed procedures, and answers what the writer answers at last.
-fn bound<'r, P: Progress>(search: &mut Search<P>, bytes: &'r [u8]) -> Result<Judged<'r>, FlowFault>
+fn bound<'r, P: Progress>(
+    search: &mut Search,
+    bytes: &'r [u8],
+    progress: &mut P,
+) -> Result<Judged<'r>, FlowFault>
     ensures { IfOk result (λ judged. judged ≡ bytes.now) }
 {
     let mut judged = judge(search.alloc, search.context, bytes, &search.explored)?;
     for _ in 0..BOUNDS {
+        progress.tell(search.left, search.explored.refused.len());
         let Some(better) = bettered(search, bytes, &judged)? else {
             return Ok(judged);
         };
@@ -188,8 +205,8 @@ fn bound<'r, P: Progress>(search: &mut Search<P>, bytes: &'r [u8]) -> Result<Jud
 }
 
 /// A better answer by other bounds, which the search then keeps; None if no plan has one.
-fn bettered<'r, P: Progress>(
-    search: &mut Search<P>,
+fn bettered<'r>(
+    search: &mut Search,
     bytes: &'r [u8],
     judged: &Judged<'r>,
 ) -> Result<Option<Judged<'r>>, FlowFault>
@@ -206,12 +223,13 @@ fn bettered<'r, P: Progress>(
 
 /// The same; an accepted plan loses the families that it does not need.
 pub(crate) fn bound_and_lessen<'r, P: Progress>(
-    search: &mut Search<P>,
+    search: &mut Search,
     bytes: &'r [u8],
+    progress: &mut P,
 ) -> Result<Judged<'r>, FlowFault>
     ensures { IfOk result (λ judged. judged ≡ bytes.now) }
 {
-    let judged = bound(search, bytes)?;
+    let judged = bound(search, bytes, progress)?;
     if judged.answer().is_ok() {
         lessen(search, bytes, judged)
     } else {
@@ -220,8 +238,8 @@ pub(crate) fn bound_and_lessen<'r, P: Progress>(
 }
 
 /// What the writer answers to the first of these plans whose answer is better. The search goes on with that plan.
-fn first_better<'r, P: Progress>(
-    search: &mut Search<P>,
+fn first_better<'r>(
+    search: &mut Search,
     bytes: &'r [u8],
     judged: &Judged<'r>,
     plans: Vec<Plan>,
@@ -242,8 +260,8 @@ fn first_better<'r, P: Progress>(
 }
 
 /// What the writer answers to a plan, if that is better.
-fn with_other<'r, P: Progress>(
-    search: &mut Search<P>,
+fn with_other<'r>(
+    search: &mut Search,
     bytes: &'r [u8],
     judged: &Judged<'r>,
     plan: Plan,
@@ -262,8 +280,8 @@ fn with_other<'r, P: Progress>(
 }
 
 /// The same for a plan with bounds of more loops. Its rows are the same, and need the facts that they needed before.
-fn with_loops<'r, P: Progress>(
-    search: &mut Search<P>,
+fn with_loops<'r>(
+    search: &mut Search,
     bytes: &'r [u8],
     judged: &Judged<'r>,
     plan: Plan,
@@ -289,8 +307,8 @@ fn with_loops<'r, P: Progress>(
 
 /// Leaves families out, the last ones first, as long as the plan is accepted without them. The answer is that to the
 /// plan that is left.
-fn lessen<'r, P: Progress>(
-    search: &mut Search<P>,
+fn lessen<'r>(
+    search: &mut Search,
     bytes: &'r [u8],
     judged: Judged<'r>,
 ) -> Result<Judged<'r>, FlowFault>
@@ -313,8 +331,8 @@ fn lessen<'r, P: Progress>(
 
 /// What the writer answers without the family at a place, if it accepts. The search then goes on without it. First only
 /// what the family distinguishes is explored again; if that refuses more, the family stays.
-fn without_family<'r, P: Progress>(
-    search: &mut Search<P>,
+fn without_family<'r>(
+    search: &mut Search,
     bytes: &'r [u8],
     place: usize,
 ) -> Result<Option<Judged<'r>>, FlowFault>
@@ -341,8 +359,8 @@ fn without_family<'r, P: Progress>(
 }
 
 /// The same for the bound of a loop. The rows are the same without it.
-fn without_loop<'r, P: Progress>(
-    search: &mut Search<P>,
+fn without_loop<'r>(
+    search: &mut Search,
     bytes: &'r [u8],
     judged: &Judged<'r>,
     place: usize,

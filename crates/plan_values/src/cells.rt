@@ -5,7 +5,7 @@ use abs_draft::DataWrite;
 use abs_state::{KeptCell, Mode};
 use analysis::{FlowFault, MAIN};
 use board_fetch::fetch;
-use explored_plans::{ExploredPlan, Family, Plan, Progress, Search, read_by};
+use explored_plans::{ExploredPlan, Family, Plan, Search, read_by};
 use inferred_rows::ContextPoint;
 use intervals::ByteRange;
 use std::alloc::Global;
@@ -96,7 +96,7 @@ impl Attempted {
 
 /// A plan with cells for the bytes of work RAM that are read at one address: each begins with what the last store
 /// before NMIs leaves, and grows by the stores that are seen until none is outside.
-pub fn try_cells<P: Progress>(search: &mut Search<P>) -> Result<Option<ExploredPlan>, FlowFault> {
+pub fn try_cells(search: &mut Search) -> Result<Option<ExploredPlan>, FlowFault> {
     let rest = search.explored.refused.len() as u64;
     let rows = search.explored.list.rows().len().min(0xFFFF) as u16;
     if !search.is_new((6, rows, 0, rest))? {
@@ -133,7 +133,7 @@ pub fn try_cells<P: Progress>(search: &mut Search<P>) -> Result<Option<ExploredP
 }
 
 /// Whether some refused place is not refused in another plan.
-fn takes_some_away<P: Progress>(search: &Search<P>, explored: &ExploredPlan) -> bool {
+fn takes_some_away(search: &Search, explored: &ExploredPlan) -> bool {
     search
         .explored
         .refused
@@ -142,8 +142,8 @@ fn takes_some_away<P: Progress>(search: &Search<P>, explored: &ExploredPlan) -> 
 }
 
 /// Another plan with a split for a look-up, which takes refusals away that the search has too.
-fn with_lookup<P: Progress>(
-    search: &mut Search<P>,
+fn with_lookup(
+    search: &mut Search,
     explored: ExploredPlan,
 ) -> Result<Option<ExploredPlan>, FlowFault> {
     let refused = explored.refused_addresses(search.alloc)?;
@@ -157,8 +157,8 @@ fn with_lookup<P: Progress>(
 }
 
 /// The first plan with a split for a look-up that takes the refusals at one of these addresses away.
-fn first_lookup<P: Progress>(
-    search: &mut Search<P>,
+fn first_lookup(
+    search: &mut Search,
     refused: &[u16],
 ) -> Result<Option<ExploredPlan>, FlowFault> {
     for address in refused {
@@ -171,7 +171,7 @@ fn first_lookup<P: Progress>(
 }
 
 /// Whether another plan's rows are refused where these have nothing refused; dropped states do not count.
-fn is_worse_without_drops<P: Progress>(search: &Search<P>, explored: &ExploredPlan) -> bool {
+fn is_worse_without_drops(search: &Search, explored: &ExploredPlan) -> bool {
     for (number, refusals) in explored.refused.iter() {
         let is_known = !search
             .explored
@@ -185,14 +185,14 @@ fn is_worse_without_drops<P: Progress>(search: &Search<P>, explored: &ExploredPl
 }
 
 /// Whether the plan has these cells already.
-fn has_these_cells<P: Progress>(search: &Search<P>, cells: &Attempted) -> bool {
+fn has_these_cells(search: &Search, cells: &Attempted) -> bool {
     let said = search.explored.said.cells();
     said.len() == cells.ranges.len()
         && said.iter().all(|cell| cells.ranges.get(&cell.at).copied() == Some(cell.range))
 }
 
 /// The plan with these cells in the place of all others that were found.
-fn plan_with_cells<P: Progress>(search: &Search<P>, cells: &Attempted) -> Result<Plan, FlowFault> {
+fn plan_with_cells(search: &Search, cells: &Attempted) -> Result<Plan, FlowFault> {
     let mut list = Vec::new(search.alloc);
     for (at, range) in cells.ranges.iter() {
         list.push(KeptCell {
@@ -206,7 +206,7 @@ fn plan_with_cells<P: Progress>(search: &Search<P>, cells: &Attempted) -> Result
 
 /// The bytes of work RAM outside the stack that are read at one address, each with what the last store before NMIs
 /// leaves.
-fn first_cells<P: Progress>(search: &Search<P>) -> Result<Attempted, FlowFault> {
+fn first_cells(search: &Search) -> Result<Attempted, FlowFault> {
     let mut cells = Attempted {
         ranges: BTreeMap::new(search.alloc),
         growths: BTreeMap::new(search.alloc),
@@ -223,7 +223,7 @@ fn first_cells<P: Progress>(search: &Search<P>) -> Result<Attempted, FlowFault> 
 }
 
 /// The bytes of work RAM outside the stack that are read at one address.
-fn wanted_cells<P: Progress>(search: &Search<P>) -> Result<BTreeSet<u16>, FlowFault> {
+fn wanted_cells(search: &Search) -> Result<BTreeSet<u16>, FlowFault> {
     let mut wanted = BTreeSet::new(search.alloc);
     for (number, row) in search.explored.list.rows().iter() {
         let address = ContextPoint::of(*number).address;
@@ -251,8 +251,8 @@ struct LastStore {
 }
 
 /// The last stores to these bytes in main before NMIs, as far as they leave less than all values.
-fn last_stores<P: Progress>(
-    search: &Search<P>,
+fn last_stores(
+    search: &Search,
     wanted: &BTreeSet<u16>,
 ) -> Result<BTreeMap<u16, LastStore>, FlowFault> {
     let distances = search.graph.distances(search.alloc, MAIN, 0)?;
@@ -293,36 +293,33 @@ fn keep_later(
 }
 
 /// Whether an address may be that of a cell: in the first 400h addresses of work RAM, outside the stack region.
-fn may_be_cell<P: Progress>(search: &Search<P>, at: u16) -> bool {
+fn may_be_cell(search: &Search, at: u16) -> bool {
     let base = search.context.base();
     base.board.is_in_work(at) && !(base.region.low <= at && at < base.region.top)
 }
 
 /// The data writes of a row.
-fn writes_of<P: Progress>(
-    search: &Search<P>,
+fn writes_of(
+    search: &Search,
     explored: &ExploredPlan,
     number: u64,
 ) -> Result<Vec<DataWrite>, FlowFault> {
-    let mut writes = Vec::new(search.alloc);
-    let Some(task) = search.context.task(&explored.said) else {
-        return Ok(writes);
+    let (Some(task), Some(row)) = (
+        search.context.task(&explored.said),
+        explored.list.row(number),
+    ) else {
+        return Ok(Vec::new(search.alloc));
     };
-    if let Some(row) = explored.list.row(number) {
-        let judged = explored
-            .list
-            .judged_row_at(search.alloc, &task, number, row)?;
-        for write in judged.as_ref().writes.as_slice() {
-            writes.push(*write)?;
-        }
-    }
-    Ok(writes)
+    let judged = explored
+        .list
+        .judged_row_at(search.alloc, &task, number, row)?;
+    Ok(Vec::from_slice(search.alloc, judged.as_ref().writes.as_slice())?)
 }
 
 /// Lets the ranges of cells grow by the stores of a explored. The result is the address of a cell that is not armed
 /// where NMIs are enabled.
-fn grow_by<P: Progress>(
-    search: &Search<P>,
+fn grow_by(
+    search: &Search,
     explored: &ExploredPlan,
     cells: &mut Attempted,
 ) -> Result<Option<u16>, FlowFault> {

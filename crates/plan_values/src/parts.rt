@@ -3,7 +3,7 @@
 use analysis::FlowFault;
 use annotations::SplitNote;
 use explored_plans::{
-    ByteSet, ExploredPlan, Family, PARTS, Plan, Progress, Search, copy_of_split, exploring,
+    ByteSet, ExploredPlan, Family, PARTS, Plan, Search, copy_of_split, exploring,
 };
 use inferred_rows::ContextPoint;
 use inferring::SplitReach;
@@ -13,8 +13,8 @@ use row_worklist::Watch;
 
 /// A plan in which a split has the parts that states of a refused row lack, after those that it has. The rows of the other
 /// parts stay.
-pub fn try_parts<P: Progress>(
-    search: &mut Search<P>,
+pub fn try_parts(
+    search: &mut Search,
     refused: u16,
 ) -> Result<Option<ExploredPlan>, FlowFault> {
     if !search.explored.refusals_at(refused).has(0) {
@@ -48,8 +48,8 @@ pub fn try_parts<P: Progress>(
 
 /// The splits to which rows at an address send states that lack a part: the procedure, the split's address, and the
 /// register's range.
-fn lacking_at<P: Progress>(
-    search: &Search<P>,
+fn lacking_at(
+    search: &Search,
     refused: u16,
 ) -> Result<Vec<(u32, u16, ByteRange)>, FlowFault> {
     let mut all = Vec::new(search.alloc);
@@ -70,8 +70,8 @@ fn lacking_at<P: Progress>(
 }
 
 /// A copy of the split at an address, if the search found it.
-fn split_found_at<P: Progress>(
-    search: &Search<P>,
+fn split_found_at(
+    search: &Search,
     at: u16,
 ) -> Result<Option<SplitNote>, FlowFault> {
     for finding in search.explored.plan.findings.as_slice() {
@@ -85,8 +85,8 @@ fn split_found_at<P: Progress>(
 }
 
 /// The parts of a split with those that a range lacks: the turns of the loop at its address, or single values.
-fn more_parts<P: Progress>(
-    search: &Search<P>,
+fn more_parts(
+    search: &Search,
     proc: u32,
     split: &SplitNote,
     range: ByteRange,
@@ -95,10 +95,7 @@ fn more_parts<P: Progress>(
     for part in split.parts.as_slice() {
         have.add_range(*part);
     }
-    let mut parts = Vec::new(search.alloc);
-    for part in split.parts.as_slice() {
-        parts.push(*part)?;
-    }
+    let mut parts = Vec::from_slice(search.alloc, split.parts.as_slice())?;
     for turn in turns_at(search, proc, split)? {
         if !touches(&have, turn) {
             have.add_range(turn);
@@ -118,8 +115,8 @@ fn more_parts<P: Progress>(
 }
 
 /// The ranges of a split's register turn by turn, where the split is at the head of a loop.
-fn turns_at<P: Progress>(
-    search: &Search<P>,
+fn turns_at(
+    search: &Search,
     proc: u32,
     split: &SplitNote,
 ) -> Result<Vec<ByteRange>, FlowFault> {
@@ -139,8 +136,8 @@ fn turns_at<P: Progress>(
 }
 
 /// The loop with its head at an address, of a procedure or else of another that has the address.
-fn loop_at<P: Progress>(
-    search: &Search<P>,
+fn loop_at(
+    search: &Search,
     proc: u32,
     head: u16,
 ) -> Result<Option<NaturalLoop>, FlowFault> {
@@ -160,8 +157,8 @@ fn loop_at<P: Progress>(
 }
 
 /// The plan with other parts of the split at an address.
-fn plan_with_parts<P: Progress>(
-    search: &Search<P>,
+fn plan_with_parts(
+    search: &Search,
     at: u16,
     parts: &[ByteRange],
 ) -> Result<Plan, FlowFault> {
@@ -169,11 +166,7 @@ fn plan_with_parts<P: Progress>(
     for finding in &mut plan.findings {
         if let Family::Split(split) = &mut finding.family {
             if split.at == at {
-                let mut list = Vec::new(search.alloc);
-                for part in parts {
-                    list.push(*part)?;
-                }
-                split.parts = list;
+                split.parts = Vec::from_slice(search.alloc, parts)?;
             }
         }
     }

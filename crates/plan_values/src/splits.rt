@@ -4,7 +4,7 @@ use abs_state::AbsState;
 use analysis::FlowFault;
 use board_fetch::fetch;
 use explored_plans::{
-    ByteSet, ExploredPlan, Family, PARTS, Progress, REGISTERS, Search, code_of, cut, split_of,
+    ByteSet, ExploredPlan, Family, PARTS, REGISTERS, Search, code_of, cut, split_of,
     values_in,
 };
 use inferred_rows::ContextPoint;
@@ -56,8 +56,8 @@ pub struct Splitting<'p> {
 /// A plan with this split that takes the refusals at an address away. Without an end the parts stay apart the longest:
 /// where that does not help, no end is tried. Otherwise it ends where the parts come together first, if that helps too.
 /// Only what the split distinguishes is explored again; where the search repeats its moves, all is.
-pub fn with_split<P: Progress>(
-    search: &mut Search<P>,
+pub fn with_split(
+    search: &mut Search,
     refused: u16,
     splitting: Splitting,
 ) -> Result<Option<ExploredPlan>, FlowFault> {
@@ -91,8 +91,8 @@ pub fn with_split<P: Progress>(
 
 /// The plan with the end of a split with the fewest rows with which it helps, or that without an end. `open` is the plan
 /// with the split without an end. Of each plan only what the split distinguishes is explored again.
-fn with_near_end<P: Progress>(
-    search: &mut Search<P>,
+fn with_near_end(
+    search: &mut Search,
     refused: u16,
     splitting: Splitting,
     open: ExploredPlan,
@@ -118,8 +118,8 @@ fn with_near_end<P: Progress>(
 }
 
 /// The plan with a split up to an address, where only what the split distinguishes is explored again.
-fn near_split<P: Progress>(
-    search: &mut Search<P>,
+fn near_split(
+    search: &mut Search,
     refused: u16,
     splitting: Splitting,
     until: u16,
@@ -135,8 +135,8 @@ fn near_split<P: Progress>(
 }
 
 /// The same as `with_near_end`, where each plan is explored as a whole.
-fn with_far_end<P: Progress>(
-    search: &mut Search<P>,
+fn with_far_end(
+    search: &mut Search,
     refused: u16,
     splitting: Splitting,
 ) -> Result<Option<ExploredPlan>, FlowFault> {
@@ -160,8 +160,8 @@ fn with_far_end<P: Progress>(
 }
 
 /// The plan with a split up to an address.
-fn split_until<P: Progress>(
-    search: &mut Search<P>,
+fn split_until(
+    search: &mut Search,
     refused: u16,
     splitting: Splitting,
     until: u16,
@@ -178,16 +178,13 @@ fn split_until<P: Progress>(
 
 /// The addresses that are tried as the end of a split: those given, the one after the refused row if it is reached, and
 /// those after it where the most parts come together, the nearest first.
-fn ends_of<P: Progress>(
-    search: &Search<P>,
+fn ends_of(
+    search: &Search,
     open: &ExploredPlan,
     refused: u16,
     splitting: Splitting,
 ) -> Result<Vec<u16>, FlowFault> {
-    let mut ends = Vec::new(search.alloc);
-    for end in splitting.ends {
-        ends.push(*end)?;
-    }
+    let mut ends = Vec::from_slice(search.alloc, splitting.ends)?;
     if let Ok((_, len)) = fetch(search.context.rom(), refused) {
         let behind = refused.wrapping_add(u16::from(len));
         if !open.rows_at(behind).is_empty() {
@@ -224,8 +221,8 @@ fn ends_of<P: Progress>(
 
 /// These ends in another order: first those after which a run from the states that meet there comes to no row that is
 /// newly refused. Each part keeps its order.
-fn hopeful_first<P: Progress>(
-    search: &Search<P>,
+fn hopeful_first(
+    search: &Search,
     open: &ExploredPlan,
     splitting: Splitting,
     ends: &[u16],
@@ -239,15 +236,13 @@ fn hopeful_first<P: Progress>(
             order.push(*end)?;
         }
     }
-    for end in others {
-        order.push(end)?;
-    }
+    order.extend_from_slice(others.as_slice())?;
     Ok(order)
 }
 
 /// Whether a run from the joined states of an open split at an address comes to a row that is newly refused.
-fn is_refused_after<P: Progress>(
-    search: &Search<P>,
+fn is_refused_after(
+    search: &Search,
     open: &ExploredPlan,
     splitting: Splitting,
     end: u16,
@@ -282,8 +277,8 @@ fn is_refused_after<P: Progress>(
 }
 
 /// Whether a state is refused at an address of a procedure where nothing was refused.
-fn is_newly_refused<P: Progress>(
-    search: &Search<P>,
+fn is_newly_refused(
+    search: &Search,
     open: &ExploredPlan,
     proc: u32,
     address: u16,
@@ -303,8 +298,8 @@ fn is_newly_refused<P: Progress>(
 }
 
 /// How many parts each address of a procedure has.
-fn parts_at<P: Progress>(
-    search: &Search<P>,
+fn parts_at(
+    search: &Search,
     explored: &ExploredPlan,
     proc: u32,
 ) -> Result<BTreeMap<u16, u16>, FlowFault> {
@@ -328,8 +323,8 @@ fn parts_at<P: Progress>(
 
 /// A plan with a split by a register of few values, before a refused row. Each value is first followed from the
 /// split to the row.
-pub fn try_lookup<P: Progress>(
-    search: &mut Search<P>,
+pub fn try_lookup(
+    search: &mut Search,
     refused: u16,
 ) -> Result<Option<ExploredPlan>, FlowFault> {
     let candidates = lookups(search, refused)?;
@@ -362,7 +357,7 @@ pub fn try_lookup<P: Progress>(
 }
 
 /// The splits by registers of few values at or before a refused row: the fewest values first, then the nearest.
-fn lookups<P: Progress>(search: &Search<P>, refused: u16) -> Result<Vec<Candidate>, FlowFault> {
+fn lookups(search: &Search, refused: u16) -> Result<Vec<Candidate>, FlowFault> {
     let mut candidates = Vec::new(search.alloc);
     for proc in search.explored.procs_at(search.alloc, refused)? {
         let mut places = Vec::new(search.alloc);
@@ -382,8 +377,8 @@ fn lookups<P: Progress>(search: &Search<P>, refused: u16) -> Result<Vec<Candidat
     Ok(candidates)
 }
 
-fn add_lookups<P: Progress>(
-    search: &Search<P>,
+fn add_lookups(
+    search: &Search,
     candidates: &mut Vec<Candidate>,
     proc: u32,
     at: u16,
@@ -412,8 +407,8 @@ fn add_lookups<P: Progress>(
 }
 
 /// Whether a refused row is reached with some value, and with none of them refused.
-fn each_value_passes<P: Progress>(
-    search: &Search<P>,
+fn each_value_passes(
+    search: &Search,
     refused: u16,
     candidate: &Candidate,
 ) -> Result<bool, FlowFault> {
@@ -440,8 +435,8 @@ fn each_value_passes<P: Progress>(
 }
 
 /// How a state at an address comes to a refused row.
-fn comes_to<P: Progress>(
-    search: &Search<P>,
+fn comes_to(
+    search: &Search,
     proc: u32,
     at: u16,
     state: &AbsState,
@@ -465,8 +460,8 @@ fn comes_to<P: Progress>(
     }
 }
 
-fn passing_at<P: Progress>(
-    search: &Search<P>,
+fn passing_at(
+    search: &Search,
     proc: u32,
     refused: u16,
     row: &LocalRow,
@@ -487,8 +482,8 @@ fn passing_at<P: Progress>(
 }
 
 /// A part for each value.
-pub fn singles<P: Progress>(
-    search: &Search<P>,
+pub fn singles(
+    search: &Search,
     values: &ByteSet,
 ) -> Result<Vec<ByteRange>, FlowFault> {
     let mut parts = Vec::new(search.alloc);
@@ -501,8 +496,8 @@ pub fn singles<P: Progress>(
 }
 
 /// A plan with a split where paths join before a refused row.
-pub fn try_join<P: Progress>(
-    search: &mut Search<P>,
+pub fn try_join(
+    search: &mut Search,
     refused: u16,
 ) -> Result<Option<ExploredPlan>, FlowFault> {
     let mut tries = 0u32;
@@ -552,8 +547,8 @@ pub fn try_join<P: Progress>(
 }
 
 /// The hull of a register's ranges in the rows of a procedure at an address.
-fn range_at<P: Progress>(
-    search: &Search<P>,
+fn range_at(
+    search: &Search,
     proc: u32,
     at: u16,
     register: Register8,

@@ -40,16 +40,7 @@ pub struct Plan {
 
 /// A copy of a split.
 pub fn copy_of_split(alloc: Global, split: &SplitNote) -> Result<SplitNote, FlowFault> {
-    let mut parts = Vec::new(alloc);
-    for part in split.parts.as_slice() {
-        parts.push(*part)?;
-    }
-    Ok(SplitNote {
-        at: split.at,
-        register: split.register,
-        parts,
-        until: split.until,
-    })
+    split_of(alloc, split.at, split.register, split.parts.as_slice(), split.until)
 }
 
 /// The split of a register at an address into parts.
@@ -60,14 +51,10 @@ pub fn split_of(
     parts: &[ByteRange],
     until: u16,
 ) -> Result<SplitNote, FlowFault> {
-    let mut list = Vec::new(alloc);
-    for part in parts {
-        list.push(*part)?;
-    }
     Ok(SplitNote {
         at,
         register,
-        parts: list,
+        parts: Vec::from_slice(alloc, parts)?,
         until,
     })
 }
@@ -223,15 +210,12 @@ impl Plan {
         let mut notes = Notes {
             inlines: Vec::from_slice(alloc, base.given.inlines.as_slice())?,
             splits: Vec::new(alloc),
-            facts: Vec::new(alloc),
+            facts: Vec::from_slice(alloc, base.given.facts.as_slice())?,
             loops: Vec::new(alloc),
             cells: Vec::from_slice(alloc, base.given.cells.as_slice())?,
         };
         for split in base.given.splits.as_slice() {
             notes.splits.push(copy_of_split(alloc, split)?)?;
-        }
-        for fact in base.given.facts.as_slice() {
-            notes.facts.push(*fact)?;
         }
         for note in base.given.loops.as_slice() {
             add_loop(&mut notes.loops, note)?;
@@ -256,22 +240,12 @@ impl Plan {
     /// `NoMemory` where memory was refused.
     pub fn guide(&self, alloc: Global, base: &Base) -> Result<Guide, FlowFault> {
         let mut guide = Guide::none(alloc);
-        for call in base.given.contexts.as_slice() {
-            guide.calls.push(*call)?;
-        }
-        for note in base.given.turns.as_slice() {
-            guide.turns.push(*note)?;
-        }
-        for note in base.given.ranges.as_slice() {
-            guide.ranges.push(*note)?;
-        }
+        guide.calls.extend_from_slice(base.given.contexts.as_slice())?;
+        guide.turns.extend_from_slice(base.given.turns.as_slice())?;
+        guide.ranges.extend_from_slice(base.given.ranges.as_slice())?;
         for finding in self.findings.as_slice() {
             match &finding.family {
-                Family::Calls(calls) => {
-                    for call in calls.as_slice() {
-                        guide.calls.push(*call)?;
-                    }
-                }
+                Family::Calls(calls) => guide.calls.extend_from_slice(calls.as_slice())?,
                 Family::Turns(note) => guide.turns.push(*note)?,
                 _ => {}
             }

@@ -5,7 +5,7 @@ use crate::looking::{Remedies, Remedy};
 use analysis::{FlowFault, MAIN};
 use annotations::{Annotations, FactNote};
 use explanations::{Refusal, RowSteps, unshown_rows};
-use explored_plans::{ExploredPlan, Progress, Search, exploring};
+use explored_plans::{ExploredPlan, Search, exploring};
 use fact_closure::{FactSearch, needed_facts};
 use inferred_rows::{ContextPoint, Guide};
 use row_graph::NaturalLoop;
@@ -33,9 +33,9 @@ pub(crate) struct RowNeeds {
 
 impl RowNeeds {
     /// The facts that rows of an explored plan need.
-    pub(crate) fn of<P: Progress>(
+    pub(crate) fn of(
         alloc: Global,
-        search: &Search<P>,
+        search: &Search,
         explored: &ExploredPlan,
     ) -> Result<RowNeeds, FlowFault> {
         Ok(RowNeeds {
@@ -247,9 +247,9 @@ fn first_of_kinds(alloc: Global, facts: &[FactNote]) -> Result<Vec<FactNote>, Fl
 }
 
 /// The facts that rows of an analysis need, by rising address, each once.
-fn facts_of<P: Progress>(
+fn facts_of(
     alloc: Global,
-    search: &Search<P>,
+    search: &Search,
     explored: &ExploredPlan,
 ) -> Result<Vec<FactNote>, FlowFault> {
     let mut facts: Vec<FactNote> = Vec::new(alloc);

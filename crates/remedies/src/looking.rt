@@ -10,7 +10,7 @@ use address_map::{Region, Rom};
 use analysis::FlowFault;
 use annotations::Annotations;
 use explanations::{Refusal, Situation, falling_with, unshown_after};
-use explored_plans::{ExploredPlan, Family, Progress, Search};
+use explored_plans::{ExploredPlan, Family, Search};
 use inferred_rows::ContextPoint;
 use std::alloc::Global;
 use t_states::MAX_BUDGET;
@@ -80,10 +80,10 @@ impl Remedies {
     /// # Errors
     ///
     /// `NoMemory` where memory was refused.
-    pub fn find<P: Progress>(
+    pub fn find(
         &mut self,
         case: &Case,
-        search: &mut Search<P>,
+        search: &mut Search,
         refusal: &Refusal,
     ) -> Result<Remedy, FlowFault> {
         self.is_spent = false;
@@ -133,10 +133,10 @@ impl Remedies {
         }
     }
 
-    fn looked_for<P: Progress>(
+    fn looked_for(
         &mut self,
         case: &Case,
-        search: &mut Search<P>,
+        search: &mut Search,
         refusal: &Refusal,
     ) -> Result<Remedy, FlowFault> {
         match refusal.reason {
@@ -277,10 +277,10 @@ impl Remedies {
     }
 
     /// Notes that a search finds for a refused row.
-    fn found<P: Progress>(
+    fn found(
         &mut self,
         case: &Case,
-        search: &mut Search<P>,
+        search: &mut Search,
         refusal: &Refusal,
     ) -> Result<Remedy, FlowFault> {
         if search.explored.rows_at(refusal.address).is_empty() {
@@ -297,10 +297,10 @@ impl Remedies {
     }
 
     /// Facts that the rows of the search need, if they take a refusal away; else only an inferring run has them.
-    fn with_needed<P: Progress>(
+    fn with_needed(
         &mut self,
         case: &Case,
-        search: &Search<P>,
+        search: &Search,
         refusal: &Refusal,
     ) -> Result<Remedy, FlowFault> {
         let needed = match self.needed.take() {
@@ -314,9 +314,9 @@ impl Remedies {
     }
 
     /// The first move of a search that takes the refusals of an address away.
-    fn moved<P: Progress>(
+    fn moved(
         &mut self,
-        search: &mut Search<P>,
+        search: &mut Search,
         address: u16,
     ) -> Result<Option<ExploredPlan>, FlowFault> {
         let left = search.left;
@@ -329,10 +329,10 @@ impl Remedies {
     }
 
     /// The notes of a move, with facts if these are needed.
-    fn with_move<P: Progress>(
+    fn with_move(
         &mut self,
         case: &Case,
-        search: &Search<P>,
+        search: &Search,
         refusal: &Refusal,
         other: &ExploredPlan,
     ) -> Result<Remedy, FlowFault> {

@@ -4,7 +4,7 @@ use crate::case::Case;
 use crate::looking::{Remedy, has_plain_form};
 use analysis::FlowFault;
 use annotations::Annotations;
-use explored_plans::{ExploredPlan, Family, Progress, Search};
+use explored_plans::{ExploredPlan, Family, Search};
 use plan_flow::{with_counters, with_other_bounds};
 use tried_notes::{add_loop, added_of, is_bounded, merged, only_loops};
 
@@ -13,9 +13,9 @@ use tried_notes::{add_loop, added_of, is_bounded, merged, only_loops};
 /// # Errors
 ///
 /// `NoMemory` where memory was refused.
-pub fn for_loop<P: Progress>(
+pub fn for_loop(
     case: &Case,
-    search: &mut Search<P>,
+    search: &mut Search,
     at: u16,
 ) -> Result<Remedy, FlowFault> {
     let mut is_found = false;
@@ -81,9 +81,9 @@ fn falling_loops(
 }
 
 /// Another bound of a loop around an address, for its time.
-pub(crate) fn for_time<P: Progress>(
+pub(crate) fn for_time(
     case: &Case,
-    search: &mut Search<P>,
+    search: &mut Search,
     address: u16,
 ) -> Result<Remedy, FlowFault> {
     for plan in with_other_bounds(search, address)? {

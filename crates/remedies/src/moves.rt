@@ -1,7 +1,7 @@
 // Moves of the search that help one refused row.
 
 use analysis::FlowFault;
-use explored_plans::{ExploredPlan, Progress, Search};
+use explored_plans::{ExploredPlan, Search};
 use inferred_rows::ContextPoint;
 use plan_search::helping_at;
 
@@ -13,8 +13,8 @@ const MOVES: u32 = 4;
 /// # Errors
 ///
 /// `NoMemory` where memory was refused.
-pub(crate) fn helping_on<P: Progress>(
-    search: &mut Search<P>,
+pub(crate) fn helping_on(
+    search: &mut Search,
     address: u16,
 ) -> Result<Option<ExploredPlan>, FlowFault> {
     for _ in 0..MOVES {
