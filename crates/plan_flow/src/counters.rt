@@ -71,11 +71,7 @@ fn falling_counter(
 }
 
 /// The register whose zero the Z flag tells, in each row of a procedure at an address.
-fn tested_at(
-    search: &Search,
-    proc: u32,
-    at: u16,
-) -> Result<Option<Variable>, FlowFault> {
+fn tested_at(search: &Search, proc: u32, at: u16) -> Result<Option<Variable>, FlowFault> {
     let mut found: Option<Variable> = None;
     for row in search.explored.rows_of(search.alloc, Some(proc), at)? {
         let Some(FlagFact::Zero(register)) = row.state.flag else {
@@ -163,10 +159,7 @@ fn width_of(rows: &[&InferredRow], variable: &Variable) -> Option<u16> {
 }
 
 /// The first register of eight bits that a loop raises, or else a pair: a pair is a pointer more often.
-pub(crate) fn raised_variable(
-    search: &Search,
-    of: &NaturalLoop,
-) -> Option<Variable> {
+pub(crate) fn raised_variable(search: &Search, of: &NaturalLoop) -> Option<Variable> {
     let mut pair = None;
     for at in of.body.iter() {
         if let Some(instr) = search.instr_at(*at) {

@@ -62,10 +62,7 @@ fn is_inline(search: &Search, address: u16) -> bool {
 }
 
 /// A plan in which the callers of a procedure that takes its return address are inline.
-pub fn try_inline(
-    search: &mut Search,
-    refused: u16,
-) -> Result<Option<ExploredPlan>, FlowFault> {
+pub fn try_inline(search: &mut Search, refused: u16) -> Result<Option<ExploredPlan>, FlowFault> {
     let refusals = search.explored.refusals_at(refused);
     if refusals.has(0) && !is_inline(search, refused) {
         if let Some(entry) = called_at(search, refused) {
@@ -253,10 +250,7 @@ fn split_by_return(
 
 /// A plan in which calls near before a refused row, or those of its procedure, are inline: each is then a context of
 /// its own.
-pub fn try_context(
-    search: &mut Search,
-    refused: u16,
-) -> Result<Option<ExploredPlan>, FlowFault> {
+pub fn try_context(search: &mut Search, refused: u16) -> Result<Option<ExploredPlan>, FlowFault> {
     if !search.explored.refusals_at(refused).has_any(&OF_CONTEXTS) {
         return Ok(None);
     }
@@ -304,10 +298,7 @@ fn within(
 }
 
 /// The first move that takes the refusals at an address away, beside inline calls and cells.
-fn next_move(
-    search: &mut Search,
-    refused: u16,
-) -> Result<Option<ExploredPlan>, FlowFault> {
+fn next_move(search: &mut Search, refused: u16) -> Result<Option<ExploredPlan>, FlowFault> {
     let found = try_inline_split(search, refused)?;
     if found.is_some() {
         return Ok(found);

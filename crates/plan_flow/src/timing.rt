@@ -4,9 +4,7 @@ use crate::counters::{counter_of, raised_variable};
 use crate::unrolling::{Unrolling, first_exits, unrollings};
 use analysis::{FlowFault, NMI};
 use annotations::{LoopNote, SplitNote, TurnNote};
-use explored_plans::{
-    ExploredPlan, Family, Finding, Plan, Search, code_of, register_of, split_of,
-};
+use explored_plans::{ExploredPlan, Family, Finding, Plan, Search, code_of, register_of, split_of};
 use inferred_rows::ContextPoint;
 use intervals::ByteRange;
 use loop_bounds::Variable;
@@ -83,11 +81,7 @@ fn keeps_apart(split: &SplitNote, found: &NaturalLoop) -> bool {
 
 /// What bounds a loop: its counter, or where it has none, a split by turns. A loop of many turns that raises a variable
 /// gets that as its counter, with the first turn distinguished: the compare at its end bounds only the others.
-fn bounding(
-    search: &Search,
-    proc: u32,
-    found: &NaturalLoop,
-) -> Result<Vec<Family>, FlowFault> {
+fn bounding(search: &Search, proc: u32, found: &NaturalLoop) -> Result<Vec<Family>, FlowFault> {
     let mut families = Vec::new(search.alloc);
     let unrollings = unrollings(search, proc, found)?;
     let first = unrollings.first();
@@ -127,11 +121,7 @@ fn counted_by(found: &NaturalLoop, counter: Variable, rises: bool) -> Family {
 }
 
 /// The first exit of a loop; its head if it has none.
-fn first_exit(
-    search: &Search,
-    proc: u32,
-    found: &NaturalLoop,
-) -> Result<u16, FlowFault> {
+fn first_exit(search: &Search, proc: u32, found: &NaturalLoop) -> Result<u16, FlowFault> {
     Ok(match first_exits(search, proc, found)?.first() {
         Some(exit) => *exit,
         None => found.head,
@@ -153,10 +143,7 @@ fn unrolled_by(
 
 /// Plans in which a loop around an address is bounded in another way: a first turn with the counter 0 apart, or a
 /// split in the place of the counter.
-pub fn with_other_bounds(
-    search: &mut Search,
-    address: u16,
-) -> Result<Vec<Plan>, FlowFault> {
+pub fn with_other_bounds(search: &mut Search, address: u16) -> Result<Vec<Plan>, FlowFault> {
     let mut plans = Vec::new(search.alloc);
     for proc in search.explored.procs_at(search.alloc, address)? {
         for found in search.loops(proc)? {

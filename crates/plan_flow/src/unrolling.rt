@@ -4,8 +4,7 @@ use abs_state::AbsState;
 use analysis::{FlowFault, MAIN, NMI};
 use annotations::TurnNote;
 use explored_plans::{
-    ByteSet, ExploredPlan, Family, OF_RANGES, REGISTERS, Search, code_of, entry_of,
-    split_of,
+    ByteSet, ExploredPlan, Family, OF_RANGES, REGISTERS, Search, code_of, entry_of, split_of,
 };
 use inferred_rows::ContextPoint;
 use intervals::ByteRange;
@@ -117,10 +116,7 @@ fn parts_sliding(
 }
 
 /// A plan with a loop unrolled, around a refused row, before it, or around a call of its procedure.
-pub fn try_unroll(
-    search: &mut Search,
-    refused: u16,
-) -> Result<Option<ExploredPlan>, FlowFault> {
+pub fn try_unroll(search: &mut Search, refused: u16) -> Result<Option<ExploredPlan>, FlowFault> {
     let procs = search.explored.procs_at(search.alloc, refused)?;
     for proc in procs.as_slice() {
         let before = search

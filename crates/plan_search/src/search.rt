@@ -106,10 +106,7 @@ fn in_order(search: &Search) -> Result<Vec<u16>, FlowFault> {
 /// # Errors
 ///
 /// `NoMemory` where memory was refused.
-pub fn helping_at(
-    search: &mut Search,
-    refused: u16,
-) -> Result<Option<ExploredPlan>, FlowFault> {
+pub fn helping_at(search: &mut Search, refused: u16) -> Result<Option<ExploredPlan>, FlowFault> {
     search.repeats = false;
     let found = first_at(search, refused)?;
     if found.is_some() || !search.has_trials() {
@@ -136,10 +133,7 @@ fn whole_of(
     }
 }
 
-fn first_at(
-    search: &mut Search,
-    refused: u16,
-) -> Result<Option<ExploredPlan>, FlowFault> {
+fn first_at(search: &mut Search, refused: u16) -> Result<Option<ExploredPlan>, FlowFault> {
     let found = cheap(search, refused)?;
     if found.is_some() || !search.has_trials() {
         return Ok(found);
@@ -147,10 +141,7 @@ fn first_at(
     dear(search, refused)
 }
 
-fn cheap(
-    search: &mut Search,
-    refused: u16,
-) -> Result<Option<ExploredPlan>, FlowFault> {
+fn cheap(search: &mut Search, refused: u16) -> Result<Option<ExploredPlan>, FlowFault> {
     let found = try_parts(search, refused)?;
     if found.is_some() {
         return Ok(found);
@@ -166,10 +157,7 @@ fn cheap(
     try_lookup(search, refused)
 }
 
-fn dear(
-    search: &mut Search,
-    refused: u16,
-) -> Result<Option<ExploredPlan>, FlowFault> {
+fn dear(search: &mut Search, refused: u16) -> Result<Option<ExploredPlan>, FlowFault> {
     let found = try_first_turn(search, refused)?;
     if found.is_some() {
         return Ok(found);

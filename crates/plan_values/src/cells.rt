@@ -157,10 +157,7 @@ fn with_lookup(
 }
 
 /// The first plan with a split for a look-up that takes the refusals at one of these addresses away.
-fn first_lookup(
-    search: &mut Search,
-    refused: &[u16],
-) -> Result<Option<ExploredPlan>, FlowFault> {
+fn first_lookup(search: &mut Search, refused: &[u16]) -> Result<Option<ExploredPlan>, FlowFault> {
     for address in refused {
         let found = try_lookup(search, *address)?;
         if found.is_some() {

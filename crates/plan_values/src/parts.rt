@@ -13,10 +13,7 @@ use row_worklist::Watch;
 
 /// A plan in which a split has the parts that states of a refused row lack, after those that it has. The rows of the other
 /// parts stay.
-pub fn try_parts(
-    search: &mut Search,
-    refused: u16,
-) -> Result<Option<ExploredPlan>, FlowFault> {
+pub fn try_parts(search: &mut Search, refused: u16) -> Result<Option<ExploredPlan>, FlowFault> {
     if !search.explored.refusals_at(refused).has(0) {
         return Ok(None);
     }
@@ -48,10 +45,7 @@ pub fn try_parts(
 
 /// The splits to which rows at an address send states that lack a part: the procedure, the split's address, and the
 /// register's range.
-fn lacking_at(
-    search: &Search,
-    refused: u16,
-) -> Result<Vec<(u32, u16, ByteRange)>, FlowFault> {
+fn lacking_at(search: &Search, refused: u16) -> Result<Vec<(u32, u16, ByteRange)>, FlowFault> {
     let mut all = Vec::new(search.alloc);
     let Some(task) = search.context.task(&search.explored.said) else {
         return Ok(all);
@@ -70,10 +64,7 @@ fn lacking_at(
 }
 
 /// A copy of the split at an address, if the search found it.
-fn split_found_at(
-    search: &Search,
-    at: u16,
-) -> Result<Option<SplitNote>, FlowFault> {
+fn split_found_at(search: &Search, at: u16) -> Result<Option<SplitNote>, FlowFault> {
     for finding in search.explored.plan.findings.as_slice() {
         if let Family::Split(split) = &finding.family {
             if split.at == at {
@@ -115,11 +106,7 @@ fn more_parts(
 }
 
 /// The ranges of a split's register turn by turn, where the split is at the head of a loop.
-fn turns_at(
-    search: &Search,
-    proc: u32,
-    split: &SplitNote,
-) -> Result<Vec<ByteRange>, FlowFault> {
+fn turns_at(search: &Search, proc: u32, split: &SplitNote) -> Result<Vec<ByteRange>, FlowFault> {
     let mut ranges = Vec::new(search.alloc);
     let Some(found) = loop_at(search, proc, split.at)? else {
         return Ok(ranges);
@@ -136,11 +123,7 @@ fn turns_at(
 }
 
 /// The loop with its head at an address, of a procedure or else of another that has the address.
-fn loop_at(
-    search: &Search,
-    proc: u32,
-    head: u16,
-) -> Result<Option<NaturalLoop>, FlowFault> {
+fn loop_at(search: &Search, proc: u32, head: u16) -> Result<Option<NaturalLoop>, FlowFault> {
     for found in search.loops(proc)? {
         if found.head == head {
             return Ok(Some(found));
@@ -157,11 +140,7 @@ fn loop_at(
 }
 
 /// The plan with other parts of the split at an address.
-fn plan_with_parts(
-    search: &Search,
-    at: u16,
-    parts: &[ByteRange],
-) -> Result<Plan, FlowFault> {
+fn plan_with_parts(search: &Search, at: u16, parts: &[ByteRange]) -> Result<Plan, FlowFault> {
     let mut plan = search.explored.plan.copied(search.alloc)?;
     for finding in &mut plan.findings {
         if let Family::Split(split) = &mut finding.family {

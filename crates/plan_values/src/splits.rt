@@ -4,8 +4,7 @@ use abs_state::AbsState;
 use analysis::FlowFault;
 use board_fetch::fetch;
 use explored_plans::{
-    ByteSet, ExploredPlan, Family, PARTS, REGISTERS, Search, code_of, cut, split_of,
-    values_in,
+    ByteSet, ExploredPlan, Family, PARTS, REGISTERS, Search, code_of, cut, split_of, values_in,
 };
 use inferred_rows::ContextPoint;
 use intervals::ByteRange;
@@ -323,10 +322,7 @@ fn parts_at(
 
 /// A plan with a split by a register of few values, before a refused row. Each value is first followed from the
 /// split to the row.
-pub fn try_lookup(
-    search: &mut Search,
-    refused: u16,
-) -> Result<Option<ExploredPlan>, FlowFault> {
+pub fn try_lookup(search: &mut Search, refused: u16) -> Result<Option<ExploredPlan>, FlowFault> {
     let candidates = lookups(search, refused)?;
     let mut tries = 0u32;
     for candidate in candidates.iter().take(CANDIDATES) {
@@ -482,10 +478,7 @@ fn passing_at(
 }
 
 /// A part for each value.
-pub fn singles(
-    search: &Search,
-    values: &ByteSet,
-) -> Result<Vec<ByteRange>, FlowFault> {
+pub fn singles(search: &Search, values: &ByteSet) -> Result<Vec<ByteRange>, FlowFault> {
     let mut parts = Vec::new(search.alloc);
     for value in 0..=255u8 {
         if values.contains(value) {
@@ -496,10 +489,7 @@ pub fn singles(
 }
 
 /// A plan with a split where paths join before a refused row.
-pub fn try_join(
-    search: &mut Search,
-    refused: u16,
-) -> Result<Option<ExploredPlan>, FlowFault> {
+pub fn try_join(search: &mut Search, refused: u16) -> Result<Option<ExploredPlan>, FlowFault> {
     let mut tries = 0u32;
     for proc in search.explored.procs_at(search.alloc, refused)? {
         let mut places = Vec::new(search.alloc);

@@ -40,7 +40,13 @@ pub struct Plan {
 
 /// A copy of a split.
 pub fn copy_of_split(alloc: Global, split: &SplitNote) -> Result<SplitNote, FlowFault> {
-    split_of(alloc, split.at, split.register, split.parts.as_slice(), split.until)
+    split_of(
+        alloc,
+        split.at,
+        split.register,
+        split.parts.as_slice(),
+        split.until,
+    )
 }
 
 /// The split of a register at an address into parts.
@@ -240,9 +246,13 @@ impl Plan {
     /// `NoMemory` where memory was refused.
     pub fn guide(&self, alloc: Global, base: &Base) -> Result<Guide, FlowFault> {
         let mut guide = Guide::none(alloc);
-        guide.calls.extend_from_slice(base.given.contexts.as_slice())?;
+        guide
+            .calls
+            .extend_from_slice(base.given.contexts.as_slice())?;
         guide.turns.extend_from_slice(base.given.turns.as_slice())?;
-        guide.ranges.extend_from_slice(base.given.ranges.as_slice())?;
+        guide
+            .ranges
+            .extend_from_slice(base.given.ranges.as_slice())?;
         for finding in self.findings.as_slice() {
             match &finding.family {
                 Family::Calls(calls) => guide.calls.extend_from_slice(calls.as_slice())?,

@@ -13,11 +13,7 @@ use tried_notes::{add_loop, added_of, is_bounded, merged, only_loops};
 /// # Errors
 ///
 /// `NoMemory` where memory was refused.
-pub fn for_loop(
-    case: &Case,
-    search: &mut Search,
-    at: u16,
-) -> Result<Remedy, FlowFault> {
+pub fn for_loop(case: &Case, search: &mut Search, at: u16) -> Result<Remedy, FlowFault> {
     let mut is_found = false;
     for plan in with_counters(search)? {
         let Some(other) = search.try_plan(plan)? else {

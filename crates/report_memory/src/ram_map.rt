@@ -177,12 +177,7 @@ fn add_run(
 }
 
 /// The addresses of a run, and how often it comes again.
-fn add_run_ends(
-    report: &Reported,
-    page: &mut Page,
-    found: &RamUse,
-    run: &RamRun,
-) {
+fn add_run_ends(report: &Reported, page: &mut Page, found: &RamUse, run: &RamRun) {
     page.raw("<th scope=\"row\" class=\"c\">");
     page.address(found.base.saturating_add(run.first()));
     if let Some((low, high)) = run.ends.first() {
@@ -198,24 +193,14 @@ fn add_run_ends(
 }
 
 /// How often a run comes again, and at which step.
-fn add_run_step(
-    report: &Reported,
-    page: &mut Page,
-    run: &RamRun,
-    step: u16,
-) {
+fn add_run_step(report: &Reported, page: &mut Page, run: &RamRun, step: u16) {
     page.raw(" <span class=\"cm\">");
     page.made(format!(in report.alloc; "{} times, step {step:02X}", run.ends.len()));
     page.raw("</span>");
 }
 
 /// The label of a run, and the range that its cell keeps.
-fn add_run_label(
-    report: &Reported,
-    page: &mut Page,
-    run: &RamRun,
-    first: u16,
-) {
+fn add_run_label(report: &Reported, page: &mut Page, run: &RamRun, first: u16) {
     page.raw("</th><td class=\"c\">");
     page.made(report.label_of(first));
     let Some(cell) = run.cell else {

@@ -116,12 +116,7 @@ fn open_blank<'t>(page: &mut Page, class: &'t str, wide: &'t str) {
 }
 
 /// Adds the opening tag of a block with a title.
-fn open_titled<'t>(
-    page: &mut Page,
-    class: &'t str,
-    wide: &'t str,
-    title: &'t str,
-) {
+fn open_titled<'t>(page: &mut Page, class: &'t str, wide: &'t str, title: &'t str) {
     page.open(
         "span",
         &[

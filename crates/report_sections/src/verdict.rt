@@ -262,12 +262,7 @@ fn add_rect(page: &mut Page, class: &str, left: u64, wide: u64) -> Result<(), Al
 }
 
 /// Adds the opening tag of a rectangle.
-fn open_rect<'t>(
-    page: &mut Page,
-    class: &'t str,
-    left: &'t str,
-    wide: &'t str,
-) {
+fn open_rect<'t>(page: &mut Page, class: &'t str, left: &'t str, wide: &'t str) {
     page.open(
         "rect",
         &[
