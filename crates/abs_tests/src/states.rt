@@ -1,145 +1,108 @@
 // States on their own: entries, the state after a call, covering, joins and tightening.
-use crate::setting::{bytes, of_high, one_slot, pair, set_up};
-use abs_state::{AbsState, FlagFact, Mode};
-use intervals::{ByteRange, Pair, RegPair};
-use loop_bounds::{Linear, Term, Variable};
-use stack_shape::Shape;
-use z80_decode::Register8;
+use crate::claims::are_same;
+use crate::reading::{columns_of, linear_of, state_of, with};
+use abs_state::AbsState;
 
 /// A caller's state at a call: DE is 2000, B is 00 to 08 with a flag fact, and a word is on the stack.
-fn caller() -> AbsState {
-    let mut state = set_up();
-    state.mode = Mode::Nmi;
-    state.armed = 3;
-    state.pairs.de = pair(0x2000, 0x2000);
-    state.pairs.bc = of_high(0x00, 0x08);
-    state.flag = Some(FlagFact::Zero(Register8::B));
-    state.shape = one_slot(Pair::full());
-    state
+const CALLER: &str = "mode:n armed:3 DE:2000 B:00-08 fact:zB shape:*";
+
+/// Whether these words hold of a state.
+fn is(state: &AbsState, text: &str) -> bool {
+    match with(state, text) {
+        Some(wanted) => are_same(&wanted, state),
+        None => false,
+    }
 }
 
-fn callee_begins() -> bool {
-    let callee = caller().callee();
-    let own_de = Pair {
-        origin: Some(RegPair::De),
-        ..pair(0x2000, 0x2000)
+/// The callee has its own DE and HL'. It leaves the old DE in HL, 00 to 03 in D, and 07 in A.
+fn gives_back() -> bool {
+    let Some(caller) = state_of(CALLER) else {
+        return false;
     };
-    let own = callee.pairs.de == own_de
-        && callee.pairs.alternate_hl == Pair::of_origin(RegPair::AlternateHl);
-    callee.mode == Mode::Nmi
-        && callee.armed == 3
-        && callee.flag.is_none()
-        && callee.shape.is_empty()
-        && own
-}
-
-/// The callee leaves the old DE in HL, 00 to 03 in D, and 7 in A.
-fn call_ends() -> bool {
-    let mut exit = caller().callee();
-    exit.armed = 4;
-    let own_de = exit.pair(RegPair::De);
-    exit.pairs.set(RegPair::Hl, own_de);
-    exit.pairs.set(RegPair::De, of_high(0x00, 0x03));
-    exit.pairs.set(RegPair::Af, of_high(0x07, 0x07));
-    let after = caller().after_call(&exit);
-    let pairs = after.pairs.hl == pair(0x2000, 0x2000)
-        && after.pairs.de == of_high(0x00, 0x03)
-        && after.pairs.bc == of_high(0x00, 0x08)
-        && after.pairs.af == of_high(0x07, 0x07);
-    pairs && after.armed == 4 && after.flag.is_none() && after.shape.len() == 1
-}
-
-#[test]
-fn calls_keep_what_their_callees_give_back(rt: HostRuntime) {
-    assert!(rt; callee_begins() && call_ends());
+    let begun = "mode:n armed:3 fact:- shape:- DE:2000-2000:20-20:00-00@DE HL':*@HL'";
+    let left = "armed:4 HL:2000-2000:20-20:00-00@DE D:00-03 A:07";
+    let after = "armed:4 HL:2000 D:00-03 B:00-08 A:07 fact:- shape:*";
+    let callee = caller.callee();
+    match with(&callee, left) {
+        Some(exit) => is(&callee, begun) && is(&caller.after_call(&exit), after),
+        None => false,
+    }
 }
 
 /// The NMI routine begins in mode `n` with each pair its own origin; main begins in mode `u` with nothing known.
-#[test]
-fn entries(rt: HostRuntime) {
-    let (main, nmi) = (AbsState::of_main(), AbsState::of_nmi(2));
-    assert!(rt; main.mode == Mode::Unset && main.armed == 0 && main.pairs.af == Pair::full());
-    assert!(rt; nmi.mode == Mode::Nmi && nmi.armed == 2 && nmi.shape.is_empty());
-    assert!(rt; nmi.pairs.iy == Pair::of_origin(RegPair::Iy));
-}
-
-/// The caller's state with another mode, number of armed cells, flag fact and shape.
-fn but(mode: Mode, armed: u16, flag: Option<FlagFact>, shape: Shape) -> AbsState {
-    let mut state = caller();
-    state.mode = mode;
-    state.armed = armed;
-    state.flag = flag;
-    state.shape = shape;
-    state
-}
-
-const OF_B: Option<FlagFact> = Some(FlagFact::Zero(Register8::B));
-
-fn one() -> Shape {
-    one_slot(Pair::full())
-}
-
-fn covered() -> bool {
-    let here = caller();
-    here.covers(&but(Mode::Set, 3, OF_B, one()))
-        && here.covers(&but(Mode::Nmi, 4, OF_B, one()))
-        && !here.covers(&but(Mode::Unset, 3, OF_B, one()))
-        && !here.covers(&but(Mode::Nmi, 2, OF_B, one()))
-        && !here.covers(&but(Mode::Nmi, 3, None, one()))
-        && !here.covers(&but(Mode::Nmi, 3, Some(FlagFact::Compared(0)), one()))
-        && !here.covers(&but(Mode::Nmi, 3, OF_B, Shape::empty()))
-        && here.covers(&but(Mode::Nmi, 3, OF_B, one_slot(pair(1, 2))))
-}
-
-fn joined() -> bool {
-    let mut other = but(Mode::Set, 1, None, one_slot(pair(1, 2)));
-    other.pairs.de = pair(0x2100, 0x2100);
-    let Some(both) = caller().join(&other) else {
-        return false;
-    };
-    let hull = Pair {
-        low: bytes(0x00, 0x00),
-        ..pair(0x2000, 0x2100)
-    };
-    let modes = caller().join(&but(Mode::Unset, 3, OF_B, one())).is_none();
-    let shapes = caller()
-        .join(&but(Mode::Nmi, 3, OF_B, Shape::empty()))
-        .is_none();
-    both.mode == Mode::Nmi
-        && both.armed == 1
-        && both.flag.is_none()
-        && both.shape == one()
-        && both.pairs.de == hull
-        && modes
-        && shapes
-}
-
-#[test]
-fn states_are_covered_and_joined(rt: HostRuntime) {
-    assert!(rt; covered() && joined());
+fn begin() -> bool {
+    is(&AbsState::of_main(), "mode:u armed:0 AF:*")
+        && is(&AbsState::of_nmi(2), "mode:n armed:2 shape:- IY:*@IY")
 }
 
 /// 2 * B - C - 3 = 0 with B and C from 0 to 10: B is 3 / 2 to 13 / 2, inwards 2 to 6, and then C 1 to 9.
-fn tightened() -> Option<Pair> {
-    let fact = Linear::of_constant(-3)?.with_term(Term {
-        coefficient: 2,
-        variable: Variable::B,
-    })?;
-    let fact = fact.with_term(Term {
-        coefficient: -1,
-        variable: Variable::C,
-    })?;
-    let mut state = set_up();
-    state.pairs.bc = Pair::of_bytes(bytes(0, 10), bytes(0, 10));
-    if state.tighten(&fact) {
-        Some(state.pairs.bc)
-    } else {
-        None
+fn is_tightened() -> bool {
+    let state = state_of("BC:0000-0A0A:00-0A:00-0A");
+    let (Some(mut state), Some(fact)) = (state, linear_of(b"-3+2*B-1*C")) else {
+        return false;
+    };
+    state.tighten(&fact) && is(&state, "BC:0201-0609:02-06:01-09")
+}
+
+#[test]
+fn states_begin_return_and_are_cut(rt: HostRuntime) {
+    assert!(rt; begin(), "entries");
+    assert!(rt; gives_back(), "a call");
+    assert!(rt; is_tightened(), "a fact");
+}
+
+/// What another state has otherwise than the caller's, and whether the caller's covers it.
+const COVERED: &str = "\
+mode:s                      | yes
+armed:4                     | yes
+mode:u                      | no
+armed:2                     | no
+fact:-                      | no
+fact:c00                    | no
+shape:-                     | no
+shape:0001-0002:00-00:01-02 | yes
+";
+
+fn is_covered(row: &str) -> bool {
+    let columns = columns_of(row);
+    let ([other, wanted], Some(caller)) = (columns.as_slice(), state_of(CALLER)) else {
+        return false;
+    };
+    match (with(&caller, other), *wanted) {
+        (Some(other), "yes") => caller.covers(&other),
+        (Some(other), "no") => !caller.covers(&other),
+        _ => false,
+    }
+}
+
+/// What another state has otherwise than the caller's, and what the join has otherwise.
+const JOINED: &str = "\
+mode:s armed:1 fact:- shape:0001-0002:00-00:01-02 DE:2100 | armed:1 fact:- shape:* DE:2000-2100:20-21:00-00
+mode:u                                                    | none
+shape:-                                                   | none
+";
+
+fn is_joined(row: &str) -> bool {
+    let columns = columns_of(row);
+    let ([other, wanted], Some(caller)) = (columns.as_slice(), state_of(CALLER)) else {
+        return false;
+    };
+    let Some(other) = with(&caller, other) else {
+        return false;
+    };
+    match (caller.join(&other), with(&caller, wanted)) {
+        (Some(both), Some(wanted)) => are_same(&both, &wanted),
+        (None, _) => *wanted == "none",
+        _ => false,
     }
 }
 
 #[test]
-fn a_fact_cuts_a_state(rt: HostRuntime) {
-    let wanted = Pair::of_bytes(bytes(2, 6), bytes(1, 9));
-    assert!(rt; tightened() == Some(wanted) && wanted.low != ByteRange::full());
+fn states_are_covered_and_joined(rt: HostRuntime) {
+    for row in COVERED.lines() {
+        assert!(rt; is_covered(row), "{row}");
+    }
+    for row in JOINED.lines() {
+        assert!(rt; is_joined(row), "{row}");
+    }
 }
