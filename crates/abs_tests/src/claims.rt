@@ -53,7 +53,7 @@ fn leaves(effect: &Effect, name: &[u8], change: &[u8]) -> bool {
     }
 }
 
-/// Whether what stands before the equals sign is what stands behind it.
+/// Whether a successor has this value under this name.
 fn is_equal(next: &Next, name: &[u8], value: &[u8]) -> bool {
     match name {
         b"to" => hex4_field(value) == Some(next.address),

@@ -99,7 +99,7 @@ pub fn with(state: &AbsState, text: &str) -> Option<AbsState> {
     Some(state)
 }
 
-/// The state of which only this is known: SP is set, no NMI comes, and what these words say.
+/// A state of main code where SP is set, with what these words say. Nothing else is known of it.
 pub fn state_of(text: &str) -> Option<AbsState> {
     let mut state = AbsState::of_main();
     state.mode = Mode::Set;
