@@ -47,7 +47,7 @@ pub struct ExploredPlan {
     pub plan: Plan,
     pub said: Annotations,
     pub guide: Guide,
-    pub list: Worklist,
+    pub list: Box<Worklist>,
     /// Why rows are refused, by procedure and address.
     pub refused: BTreeMap<u64, Refusals>,
     /// The rows at each address, by address and then by number.
@@ -77,7 +77,7 @@ impl ExploredPlan {
         alloc: Global,
         context: &SearchContext,
         plan: Plan,
-    ) -> Result<Option<ExploredPlan>, FlowFault> {
+    ) -> Result<Option<Box<ExploredPlan>>, FlowFault> {
         ExploredPlan::with_rows(
             alloc,
             context,
@@ -97,7 +97,7 @@ impl ExploredPlan {
         alloc: Global,
         context: &SearchContext,
         plan: Plan,
-    ) -> Result<Option<ExploredPlan>, FlowFault> {
+    ) -> Result<Option<Box<ExploredPlan>>, FlowFault> {
         ExploredPlan::with_rows(
             alloc,
             context,
@@ -118,7 +118,7 @@ impl ExploredPlan {
         alloc: Global,
         context: &SearchContext,
         place: usize,
-    ) -> Result<Option<ExploredPlan>, FlowFault> {
+    ) -> Result<Option<Box<ExploredPlan>>, FlowFault> {
         let watched = match self.plan.findings.get(place) {
             Some(finding) => Watch::Address(finding.wanted_at),
             None => Watch::Nothing,
@@ -159,7 +159,7 @@ impl ExploredPlan {
         edges: &[RowEdge],
         reaches: &[SplitReach],
         watched: Watch,
-    ) -> Result<Option<ExploredPlan>, FlowFault> {
+    ) -> Result<Option<Box<ExploredPlan>>, FlowFault> {
         let said = plan.annotations(alloc, context.base())?;
         let guide = plan.guide(alloc, context.base())?;
         let Some(task) = context.task(&said) else {
@@ -192,7 +192,7 @@ impl ExploredPlan {
         plan: Plan,
         judged: &JudgedRows,
         watched: Watch,
-    ) -> Result<Option<ExploredPlan>, FlowFault> {
+    ) -> Result<Option<Box<ExploredPlan>>, FlowFault> {
         let said = plan.annotations(alloc, context.base())?;
         let guide = plan.guide(alloc, context.base())?;
         let Some(task) = context.task(&said) else {
@@ -429,15 +429,15 @@ fn explored_of(
     plan: Plan,
     said: Annotations,
     guide: Guide,
-    list: Worklist,
-) -> Result<ExploredPlan, FlowFault> {
+    list: Box<Worklist>,
+) -> Result<Box<ExploredPlan>, FlowFault> {
     let refused = refusals_of(alloc, &list)?;
     let mut places = Vec::new(alloc);
     for (number, _) in list.rows().iter() {
         places.push((ContextPoint::of(*number).address, *number))?;
     }
     places.sort_unstable();
-    Ok(ExploredPlan {
+    let explored = ExploredPlan {
         plan,
         said,
         guide,
@@ -445,7 +445,8 @@ fn explored_of(
         refused,
         places,
         is_near: false,
-    })
+    };
+    Ok(Box::new(alloc, explored)?)
 }
 
 /// Why rows are refused, by procedure and address.

@@ -22,7 +22,7 @@ pub type Attempt = (u8, u16, u16, u64);
 pub struct Search<'s> {
     pub alloc: Global,
     pub context: &'s SearchContext<'s>,
-    pub explored: ExploredPlan,
+    pub explored: Box<ExploredPlan>,
     pub graph: FlowGraph,
     /// The steps between the rows.
     edges: Vec<RowEdge>,
@@ -43,7 +43,7 @@ pub struct Search<'s> {
 /// What a search goes back to: its explored plan and the graph of its rows.
 #[derive(Drop)]
 pub struct SetAside {
-    explored: ExploredPlan,
+    explored: Box<ExploredPlan>,
     graph: FlowGraph,
     edges: Vec<RowEdge>,
 }
@@ -53,7 +53,7 @@ impl<'s> Search<'s> {
     pub fn of(
         alloc: Global,
         context: &'s SearchContext<'s>,
-        explored: ExploredPlan,
+        explored: Box<ExploredPlan>,
         trials: u32,
     ) -> Result<Search<'s>, FlowFault> {
         let edges = explored.edges(alloc, context)?;
@@ -76,7 +76,7 @@ impl<'s> Search<'s> {
     }
 
     /// Goes on with another explored plan.
-    pub fn keep(&mut self, explored: ExploredPlan) -> Result<(), FlowFault> {
+    pub fn keep(&mut self, explored: Box<ExploredPlan>) -> Result<(), FlowFault> {
         let edges = explored.edges(self.alloc, self.context)?;
         self.graph = FlowGraph::of(self.alloc, &edges)?;
         self.edges = edges;
@@ -102,7 +102,7 @@ impl<'s> Search<'s> {
     }
 
     /// Goes on with another explored plan for a while. The result is what `restore` takes.
-    pub fn exchange(&mut self, explored: ExploredPlan) -> Result<SetAside, FlowFault> {
+    pub fn exchange(&mut self, explored: Box<ExploredPlan>) -> Result<SetAside, FlowFault> {
         let edges = explored.edges(self.alloc, self.context)?;
         let graph = FlowGraph::of(self.alloc, &edges)?;
         Ok(SetAside {
@@ -137,7 +137,7 @@ impl<'s> Search<'s> {
     }
 
     /// Explores a plan as a trial; None if no trial is left, or it is too large.
-    pub fn try_plan(&mut self, plan: Plan) -> Result<Option<ExploredPlan>, FlowFault> {
+    pub fn try_plan(&mut self, plan: Plan) -> Result<Option<Box<ExploredPlan>>, FlowFault> {
         if self.left == 0 {
             return Ok(None);
         }
@@ -153,7 +153,7 @@ impl<'s> Search<'s> {
         family: Family,
         wanted_at: u16,
         watched: Watch,
-    ) -> Result<Option<ExploredPlan>, FlowFault> {
+    ) -> Result<Option<Box<ExploredPlan>>, FlowFault> {
         let Some(reaches) = reaches_of(self.alloc, &family)? else {
             return Ok(None);
         };
@@ -167,7 +167,7 @@ impl<'s> Search<'s> {
         plan: Plan,
         reaches: &[SplitReach],
         watched: Watch,
-    ) -> Result<Option<ExploredPlan>, FlowFault> {
+    ) -> Result<Option<Box<ExploredPlan>>, FlowFault> {
         if self.left == 0 {
             return Ok(None);
         }
@@ -238,7 +238,7 @@ impl<'s> Search<'s> {
 
     /// The plan where the splits found since it was last explored as a whole have no ends, explored as a whole; None if
     /// none has one.
-    fn opened(&self) -> Result<Option<ExploredPlan>, FlowFault> {
+    fn opened(&self) -> Result<Option<Box<ExploredPlan>>, FlowFault> {
         let mut plan = self.explored.plan.in_order(self.alloc)?;
         let mut place = 0usize;
         let mut is_other = false;
@@ -282,7 +282,7 @@ impl<'s> Search<'s> {
         &mut self,
         family: Family,
         wanted_at: u16,
-    ) -> Result<Option<ExploredPlan>, FlowFault> {
+    ) -> Result<Option<Box<ExploredPlan>>, FlowFault> {
         let plan = self.explored.plan.with(self.alloc, family, wanted_at)?;
         self.try_plan(plan)
     }

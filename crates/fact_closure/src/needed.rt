@@ -53,7 +53,7 @@ pub fn needed_facts(alloc: Global, search: &FactSearch) -> Result<Guide, FlowFau
 pub struct NeededFacts {
     pub guide: Guide,
     /// The rows, if none of them is refused.
-    pub rows: Option<Worklist>,
+    pub rows: Option<Box<Worklist>>,
 }
 
 /// The same as `needed_facts`, with the rows.

@@ -13,7 +13,11 @@ use std::alloc::Global;
 ///
 /// `Limit` if there are more than 65,535 rows or 1,024 procedures, or the visits do not suffice; `NoMemory` where memory
 /// was refused.
-pub fn found_rows(alloc: Global, setting: Setting, visits: u32) -> Result<Worklist, FlowFault> {
+pub fn found_rows(
+    alloc: Global,
+    setting: Setting,
+    visits: u32,
+) -> Result<Box<Worklist>, FlowFault> {
     found_rows_with(
         alloc,
         setting,
@@ -35,7 +39,7 @@ pub fn found_rows_with(
     visits: u32,
     judged: &JudgedRows,
     watched: Watch,
-) -> Result<Worklist, FlowFault> {
+) -> Result<Box<Worklist>, FlowFault> {
     let mut list = Worklist::begin(alloc, setting, judged.shared(setting.task)?)?;
     list.watch(watched);
     for _ in 0..visits {

@@ -15,7 +15,7 @@ use std::collections::BTreeMap;
 /// # Errors
 ///
 /// `Limit` if there are more than 65,535 rows at an address; `NoMemory` where memory was refused.
-pub fn flow_of(alloc: Global, setting: Setting, list: Worklist) -> Result<Flow, FlowFault> {
+pub fn flow_of(alloc: Global, setting: Setting, list: Box<Worklist>) -> Result<Flow, FlowFault> {
     let mut numbers = BTreeMap::new(alloc);
     let mut rows = BTreeMap::new(alloc);
     let mut facts = BTreeMap::new(alloc);
@@ -50,7 +50,7 @@ pub fn flow_of(alloc: Global, setting: Setting, list: Worklist) -> Result<Flow, 
             calls.push((callee, *place))?;
         }
     }
-    let (entries, timed) = list.into_procedures();
+    let (entries, timed) = Box::into_inner(list).into_procedures();
     Flow::of(alloc, rows, facts, entries, &calls, timed)
 }
 

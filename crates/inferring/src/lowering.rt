@@ -41,8 +41,8 @@ pub(crate) fn first_class(number: u64) -> u64 {
 pub(crate) fn lowered_if_widened(
     alloc: Global,
     setting: Setting,
-    list: Worklist,
-) -> Result<Worklist, FlowFault> {
+    list: Box<Worklist>,
+) -> Result<Box<Worklist>, FlowFault> {
     if !list.rows().iter().any(|(_, row)| row.is_widened()) {
         return Ok(list);
     }
@@ -53,9 +53,9 @@ pub(crate) fn lowered_if_widened(
 pub(crate) fn lowered_at(
     alloc: Global,
     setting: Setting,
-    list: Worklist,
+    list: Box<Worklist>,
     places: Option<&BTreeSet<u64>>,
-) -> Result<Worklist, FlowFault> {
+) -> Result<Box<Worklist>, FlowFault> {
     let mut sendings = Vec::new(alloc);
     let scope = Scope {
         places,
@@ -71,11 +71,11 @@ pub(crate) fn lowered_at(
 fn lowered_again(
     alloc: Global,
     setting: Setting,
-    once: Worklist,
+    once: Box<Worklist>,
     before: &Worklist,
     places: Option<&BTreeSet<u64>>,
     sendings: &[Sending],
-) -> Result<Worklist, FlowFault> {
+) -> Result<Box<Worklist>, FlowFault> {
     let changed = changed_rows(alloc, &once, before)?;
     let mut again = BTreeSet::new(alloc);
     for (to, from) in sendings {
@@ -126,7 +126,7 @@ fn lowered(
     list: &Worklist,
     scope: Scope,
     sendings: &mut Vec<Sending>,
-) -> Result<Worklist, FlowFault> {
+) -> Result<Box<Worklist>, FlowFault> {
     let judged = list.judged_rows().shared(setting.task)?;
     let mut fresh = Worklist::empty(alloc, setting, judged)?;
     keep_outside(&mut fresh, list, scope)?;

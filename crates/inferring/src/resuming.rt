@@ -36,7 +36,7 @@ pub fn resumed(
     edges: &[RowEdge],
     reaches: &[SplitReach],
     watched: Watch,
-) -> Result<Worklist, FlowFault> {
+) -> Result<Box<Worklist>, FlowFault> {
     let lost = lost_rows(alloc, before, edges, reaches)?;
     let mut list = without_rows(alloc, setting, before, edges, &lost)?;
     list.watch(watched);
@@ -66,7 +66,7 @@ pub fn loosened(
     before: &Worklist,
     edges: &[RowEdge],
     at: u16,
-) -> Result<Worklist, FlowFault> {
+) -> Result<Box<Worklist>, FlowFault> {
     let mut lost = BTreeSet::new(alloc);
     for (number, _) in before.rows().iter() {
         if ContextPoint::of(*number).address == at {
@@ -91,7 +91,7 @@ fn without_rows(
     before: &Worklist,
     edges: &[RowEdge],
     lost: &BTreeSet<u64>,
-) -> Result<Worklist, FlowFault> {
+) -> Result<Box<Worklist>, FlowFault> {
     let judged = before.judged_rows().shared(setting.task)?;
     let mut list = Worklist::empty(alloc, setting, judged)?;
     list.keep_rows(setting, before, lost)?;
@@ -119,10 +119,10 @@ fn wake_dropping(list: &mut Worklist, before: &Worklist) -> Result<(), FlowFault
 fn lowered_anew(
     alloc: Global,
     setting: Setting,
-    list: Worklist,
+    list: Box<Worklist>,
     before: &Worklist,
     lost: &BTreeSet<u64>,
-) -> Result<Worklist, FlowFault> {
+) -> Result<Box<Worklist>, FlowFault> {
     let mut places = BTreeSet::new(alloc);
     let mut is_widened = false;
     for (number, row) in list.rows().iter() {

@@ -62,7 +62,10 @@ fn is_inline(search: &Search, address: u16) -> bool {
 }
 
 /// A plan in which the callers of a procedure that takes its return address are inline.
-pub fn try_inline(search: &mut Search, refused: u16) -> Result<Option<ExploredPlan>, FlowFault> {
+pub fn try_inline(
+    search: &mut Search,
+    refused: u16,
+) -> Result<Option<Box<ExploredPlan>>, FlowFault> {
     let refusals = search.explored.refusals_at(refused);
     if refusals.has(0) && !is_inline(search, refused) {
         if let Some(entry) = called_at(search, refused) {
@@ -112,7 +115,7 @@ fn some_inline_calls(search: &Search, entry: u16) -> bool {
 pub fn try_inline_split(
     search: &mut Search,
     refused: u16,
-) -> Result<Option<ExploredPlan>, FlowFault> {
+) -> Result<Option<Box<ExploredPlan>>, FlowFault> {
     if !search.explored.refusals_at(refused).has_any(&OF_CONTEXTS) {
         return Ok(None);
     }
@@ -218,7 +221,7 @@ fn split_by_return(
     entry: u16,
     sites: &[u16],
     proc: u32,
-) -> Result<Option<ExploredPlan>, FlowFault> {
+) -> Result<Option<Box<ExploredPlan>>, FlowFault> {
     let Some(Instr::Pop(pair)) = search.instr_at(entry) else {
         return Ok(None);
     };
@@ -250,7 +253,10 @@ fn split_by_return(
 
 /// A plan in which calls near before a refused row, or those of its procedure, are inline: each is then a context of
 /// its own.
-pub fn try_context(search: &mut Search, refused: u16) -> Result<Option<ExploredPlan>, FlowFault> {
+pub fn try_context(
+    search: &mut Search,
+    refused: u16,
+) -> Result<Option<Box<ExploredPlan>>, FlowFault> {
     if !search.explored.refusals_at(refused).has_any(&OF_CONTEXTS) {
         return Ok(None);
     }
@@ -285,9 +291,9 @@ pub fn try_context(search: &mut Search, refused: u16) -> Result<Option<ExploredP
 /// A further move that helps a refused row in another explored, and leaves nothing worse than here.
 fn within(
     search: &mut Search,
-    explored: ExploredPlan,
+    explored: Box<ExploredPlan>,
     refused: u16,
-) -> Result<Option<ExploredPlan>, FlowFault> {
+) -> Result<Option<Box<ExploredPlan>>, FlowFault> {
     let before = search.exchange(explored)?;
     let found = next_move(search, refused);
     search.restore(before);
@@ -298,7 +304,7 @@ fn within(
 }
 
 /// The first move that takes the refusals at an address away, beside inline calls and cells.
-fn next_move(search: &mut Search, refused: u16) -> Result<Option<ExploredPlan>, FlowFault> {
+fn next_move(search: &mut Search, refused: u16) -> Result<Option<Box<ExploredPlan>>, FlowFault> {
     let found = try_inline_split(search, refused)?;
     if found.is_some() {
         return Ok(found);

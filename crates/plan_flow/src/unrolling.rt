@@ -116,7 +116,10 @@ fn parts_sliding(
 }
 
 /// A plan with a loop unrolled, around a refused row, before it, or around a call of its procedure.
-pub fn try_unroll(search: &mut Search, refused: u16) -> Result<Option<ExploredPlan>, FlowFault> {
+pub fn try_unroll(
+    search: &mut Search,
+    refused: u16,
+) -> Result<Option<Box<ExploredPlan>>, FlowFault> {
     let procs = search.explored.procs_at(search.alloc, refused)?;
     for proc in procs.as_slice() {
         let before = search
@@ -153,7 +156,7 @@ pub fn try_unroll(search: &mut Search, refused: u16) -> Result<Option<ExploredPl
 pub fn try_first_turn(
     search: &mut Search,
     refused: u16,
-) -> Result<Option<ExploredPlan>, FlowFault> {
+) -> Result<Option<Box<ExploredPlan>>, FlowFault> {
     if !search.explored.refusals_at(refused).has_any(&OF_RANGES) {
         return Ok(None);
     }
@@ -187,7 +190,7 @@ fn unrolled(
     refused: u16,
     proc: u32,
     found: &NaturalLoop,
-) -> Result<Option<ExploredPlan>, FlowFault> {
+) -> Result<Option<Box<ExploredPlan>>, FlowFault> {
     let exits = first_exits(search, proc, found)?;
     for unrolling in unrollings(search, proc, found)?
         .iter()
@@ -224,7 +227,7 @@ fn unrolled_in_callers(
     search: &mut Search,
     refused: u16,
     proc: u32,
-) -> Result<Option<ExploredPlan>, FlowFault> {
+) -> Result<Option<Box<ExploredPlan>>, FlowFault> {
     let callers = search.explored.list.callers_of(search.alloc, proc)?;
     let mut procs = Vec::new(search.alloc);
     for caller in callers.as_slice() {
@@ -261,7 +264,7 @@ fn unrolled_twice(
     proc: u32,
     found: &NaturalLoop,
     entry: u16,
-) -> Result<Option<ExploredPlan>, FlowFault> {
+) -> Result<Option<Box<ExploredPlan>>, FlowFault> {
     let until = match first_exits(search, proc, found)?.first() {
         Some(exit) => *exit,
         None => found.head,

@@ -26,7 +26,7 @@ pub struct Inference<'r, 'g> {
     /// The region, the budget and the board, and what was given.
     pub base: Base<'g>,
     /// The notes that were found, with the rows that an analysis finds by them.
-    pub explored: ExploredPlan,
+    pub explored: Box<ExploredPlan>,
     /// What the writer answers, with the facts of rows.
     pub judged: Judged<'r>,
     /// How many trials were taken.
@@ -140,7 +140,7 @@ fn found_by<'r, 'g, P: Progress>(
                 stuck,
             }));
         }
-        let ExploredPlan { plan: found, .. } = explored;
+        let ExploredPlan { plan: found, .. } = Box::into_inner(explored);
         plan = found;
         base.region.low = low;
     }
@@ -150,7 +150,7 @@ fn found_by<'r, 'g, P: Progress>(
 /// What a search found with one stack region.
 #[derive(Drop)]
 struct Fitting<'r> {
-    explored: ExploredPlan,
+    explored: Box<ExploredPlan>,
     /// How many trials are left.
     left: u32,
     /// The low end of the stack region that fits the depth.

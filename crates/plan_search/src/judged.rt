@@ -19,6 +19,12 @@ use std::marker::Model;
 #[derive(Drop)]
 pub struct Judged<'r> {
     bytes: &'r [u8],
+    answered: Box<Answered<'r>>,
+}
+
+/// What the writer answers, and what it took for that.
+#[derive(Drop)]
+struct Answered<'r> {
     answer: Result<Accepted<'r>, WriterFault>,
     guide: Guide,
     /// The rows of the writer's certificate; None if the writer made none.
@@ -34,25 +40,25 @@ impl<'r> Model for Judged<'r> {
 
     ghost view = { λ j. j.bytes.now };
 
-    ghost invariant = { λ j. IfOk j.answer (λ accepted. accepted.rom ≡ j.bytes.now) };
+    ghost invariant = { λ j. IfOk j.answered.value.answer (λ accepted. accepted.rom ≡ j.bytes.now) };
 }
 
 impl<'r> Judged<'r> {
     /// What the checker accepted, or why there is no certificate.
     pub fn answer(&self) -> &Result<Accepted<'r>, WriterFault> {
-        &self.answer
+        &self.answered.answer
     }
 
     /// The same, by value.
     pub fn into_answer(self) -> Result<Accepted<'r>, WriterFault>
         ensures { IfOk result (λ accepted. accepted.rom ≡ self.entry) }
     {
-        self.answer
+        Box::into_inner(self.answered).answer
     }
 
     /// The facts of rows, and which states are distinguished.
     pub fn guide(&self) -> &Guide {
-        &self.guide
+        &self.answered.guide
     }
 
     /// Whether the writer makes an accepted certificate of the same rows with other bounds of loops.
@@ -61,10 +67,11 @@ impl<'r> Judged<'r> {
         alloc: Global,
         said: &Annotations,
     ) -> Result<bool, FlowFault> {
-        let Some(flow) = &self.flow else {
+        let answered = &self.answered;
+        let Some(flow) = &answered.flow else {
             return Ok(false);
         };
-        match certify_flow(alloc, self.bytes, said, flow, self.version) {
+        match certify_flow(alloc, self.bytes, said, flow, answered.version) {
             Err(WriterFault::NoMemory) => Err(FlowFault::NoMemory),
             Err(_) => Ok(false),
             Ok(_) => Ok(true),
@@ -74,7 +81,7 @@ impl<'r> Judged<'r> {
     /// Whether the answer is better than another: it accepts, or where the other names a cycle without bounds, it names
     /// another or none, or it refuses another place for its time.
     pub(crate) fn is_better_than(&self, before: &Judged) -> bool {
-        match (&self.answer, &before.answer) {
+        match (self.answer(), before.answer()) {
             (Ok(_), _) => true,
             (Err(WriterFault::Limit), _) => false,
             (Err(WriterFault::LoopUnbounded(at)), Err(WriterFault::LoopUnbounded(before))) => {
@@ -121,12 +128,15 @@ pub(crate) fn judge_with<'r>(
 {
     let version = least_version(context);
     let Some(task) = context.task(&explored.said) else {
-        return Ok(Judged {
-            bytes,
+        let answered = Answered {
             answer: Err(WriterFault::Limit),
             guide: Guide::none(alloc),
             flow: None,
             version,
+        };
+        return Ok(Judged {
+            bytes,
+            answered: Box::new(alloc, answered)?,
         });
     };
     let search = FactSearch {
@@ -156,12 +166,17 @@ pub(crate) fn judge_with<'r>(
     let flow = flow_of(alloc, setting, list)?;
     match certify_flow(alloc, bytes, &explored.said, &flow, version) {
         Err(WriterFault::NoMemory) => Err(FlowFault::NoMemory),
-        answer => Ok(Judged {
-            bytes,
-            answer,
-            guide,
-            flow: Some(flow),
-            version,
-        }),
+        answer => {
+            let answered = Answered {
+                answer,
+                guide,
+                flow: Some(flow),
+                version,
+            };
+            Ok(Judged {
+                bytes,
+                answered: Box::new(alloc, answered)?,
+            })
+        }
     }
 }

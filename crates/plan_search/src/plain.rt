@@ -84,7 +84,7 @@ pub fn without_fact(
 /// `check`.
 #[derive(Drop)]
 pub struct PlainRows {
-    list: Worklist,
+    list: Box<Worklist>,
     edges: Vec<RowEdge>,
 }
 
@@ -152,7 +152,7 @@ fn plain_setting<'s>(task: &'s Task<'s>, guide: &'s Guide) -> Setting<'s> {
 fn rows_and_edges(
     alloc: Global,
     setting: Setting,
-    found: Result<Worklist, FlowFault>,
+    found: Result<Box<Worklist>, FlowFault>,
 ) -> Result<Option<PlainRows>, FlowFault> {
     match found {
         Ok(list) => {

@@ -42,7 +42,7 @@ pub(crate) fn clear<P: Progress>(search: &mut Search, progress: &mut P) -> Resul
 fn helping<P: Progress>(
     search: &mut Search,
     progress: &mut P,
-) -> Result<Option<ExploredPlan>, FlowFault> {
+) -> Result<Option<Box<ExploredPlan>>, FlowFault> {
     search.repeats = false;
     let found = first_helping(search, progress)?;
     if found.is_some() || !search.has_trials() || search.explored.is_near {
@@ -56,7 +56,7 @@ fn helping<P: Progress>(
 fn first_helping<P: Progress>(
     search: &mut Search,
     progress: &mut P,
-) -> Result<Option<ExploredPlan>, FlowFault> {
+) -> Result<Option<Box<ExploredPlan>>, FlowFault> {
     let refused = in_order(search)?;
     for address in refused.as_slice() {
         if search.is_passed(*address) {
@@ -106,7 +106,10 @@ fn in_order(search: &Search) -> Result<Vec<u16>, FlowFault> {
 /// # Errors
 ///
 /// `NoMemory` where memory was refused.
-pub fn helping_at(search: &mut Search, refused: u16) -> Result<Option<ExploredPlan>, FlowFault> {
+pub fn helping_at(
+    search: &mut Search,
+    refused: u16,
+) -> Result<Option<Box<ExploredPlan>>, FlowFault> {
     search.repeats = false;
     let found = first_at(search, refused)?;
     if found.is_some() || !search.has_trials() {
@@ -120,11 +123,11 @@ pub fn helping_at(search: &mut Search, refused: u16) -> Result<Option<ExploredPl
 /// A plan, explored as a whole. Before, only a part of it may have been explored.
 fn whole_of(
     search: &Search,
-    found: Option<ExploredPlan>,
-) -> Result<Option<ExploredPlan>, FlowFault> {
+    found: Option<Box<ExploredPlan>>,
+) -> Result<Option<Box<ExploredPlan>>, FlowFault> {
     match found {
         Some(explored) if explored.is_near => {
-            let ExploredPlan { plan, .. } = explored;
+            let ExploredPlan { plan, .. } = Box::into_inner(explored);
             search
                 .explored
                 .with_plan(search.alloc, search.context, plan)
@@ -133,7 +136,7 @@ fn whole_of(
     }
 }
 
-fn first_at(search: &mut Search, refused: u16) -> Result<Option<ExploredPlan>, FlowFault> {
+fn first_at(search: &mut Search, refused: u16) -> Result<Option<Box<ExploredPlan>>, FlowFault> {
     let found = cheap(search, refused)?;
     if found.is_some() || !search.has_trials() {
         return Ok(found);
@@ -141,7 +144,7 @@ fn first_at(search: &mut Search, refused: u16) -> Result<Option<ExploredPlan>, F
     dear(search, refused)
 }
 
-fn cheap(search: &mut Search, refused: u16) -> Result<Option<ExploredPlan>, FlowFault> {
+fn cheap(search: &mut Search, refused: u16) -> Result<Option<Box<ExploredPlan>>, FlowFault> {
     let found = try_parts(search, refused)?;
     if found.is_some() {
         return Ok(found);
@@ -157,7 +160,7 @@ fn cheap(search: &mut Search, refused: u16) -> Result<Option<ExploredPlan>, Flow
     try_lookup(search, refused)
 }
 
-fn dear(search: &mut Search, refused: u16) -> Result<Option<ExploredPlan>, FlowFault> {
+fn dear(search: &mut Search, refused: u16) -> Result<Option<Box<ExploredPlan>>, FlowFault> {
     let found = try_first_turn(search, refused)?;
     if found.is_some() {
         return Ok(found);

@@ -96,7 +96,7 @@ impl Attempted {
 
 /// A plan with cells for the bytes of work RAM that are read at one address: each begins with what the last store
 /// before NMIs leaves, and grows by the stores that are seen until none is outside.
-pub fn try_cells(search: &mut Search) -> Result<Option<ExploredPlan>, FlowFault> {
+pub fn try_cells(search: &mut Search) -> Result<Option<Box<ExploredPlan>>, FlowFault> {
     let rest = search.explored.refused.len() as u64;
     let rows = search.explored.list.rows().len().min(0xFFFF) as u16;
     if !search.is_new((6, rows, 0, rest))? {
@@ -144,8 +144,8 @@ fn takes_some_away(search: &Search, explored: &ExploredPlan) -> bool {
 /// Another plan with a split for a look-up, which takes refusals away that the search has too.
 fn with_lookup(
     search: &mut Search,
-    explored: ExploredPlan,
-) -> Result<Option<ExploredPlan>, FlowFault> {
+    explored: Box<ExploredPlan>,
+) -> Result<Option<Box<ExploredPlan>>, FlowFault> {
     let refused = explored.refused_addresses(search.alloc)?;
     let before = search.exchange(explored)?;
     let found = first_lookup(search, &refused);
@@ -157,7 +157,10 @@ fn with_lookup(
 }
 
 /// The first plan with a split for a look-up that takes the refusals at one of these addresses away.
-fn first_lookup(search: &mut Search, refused: &[u16]) -> Result<Option<ExploredPlan>, FlowFault> {
+fn first_lookup(
+    search: &mut Search,
+    refused: &[u16],
+) -> Result<Option<Box<ExploredPlan>>, FlowFault> {
     for address in refused {
         let found = try_lookup(search, *address)?;
         if found.is_some() {

@@ -13,7 +13,10 @@ use row_worklist::Watch;
 
 /// A plan in which a split has the parts that states of a refused row lack, after those that it has. The rows of the other
 /// parts stay.
-pub fn try_parts(search: &mut Search, refused: u16) -> Result<Option<ExploredPlan>, FlowFault> {
+pub fn try_parts(
+    search: &mut Search,
+    refused: u16,
+) -> Result<Option<Box<ExploredPlan>>, FlowFault> {
     if !search.explored.refusals_at(refused).has(0) {
         return Ok(None);
     }

@@ -59,7 +59,7 @@ pub fn with_split(
     search: &mut Search,
     refused: u16,
     splitting: Splitting,
-) -> Result<Option<ExploredPlan>, FlowFault> {
+) -> Result<Option<Box<ExploredPlan>>, FlowFault> {
     let Splitting {
         at,
         register,
@@ -94,8 +94,8 @@ fn with_near_end(
     search: &mut Search,
     refused: u16,
     splitting: Splitting,
-    open: ExploredPlan,
-) -> Result<ExploredPlan, FlowFault> {
+    open: Box<ExploredPlan>,
+) -> Result<Box<ExploredPlan>, FlowFault> {
     let ends = ends_of(search, &open, refused, splitting)?;
     let mut least = open.list.rows().len();
     let mut best = None;
@@ -122,7 +122,7 @@ fn near_split(
     refused: u16,
     splitting: Splitting,
     until: u16,
-) -> Result<Option<ExploredPlan>, FlowFault> {
+) -> Result<Option<Box<ExploredPlan>>, FlowFault> {
     let Splitting {
         at,
         register,
@@ -138,7 +138,7 @@ fn with_far_end(
     search: &mut Search,
     refused: u16,
     splitting: Splitting,
-) -> Result<Option<ExploredPlan>, FlowFault> {
+) -> Result<Option<Box<ExploredPlan>>, FlowFault> {
     let Some(open) = split_until(search, refused, splitting, splitting.at)? else {
         return Ok(None);
     };
@@ -164,7 +164,7 @@ fn split_until(
     refused: u16,
     splitting: Splitting,
     until: u16,
-) -> Result<Option<ExploredPlan>, FlowFault> {
+) -> Result<Option<Box<ExploredPlan>>, FlowFault> {
     let Splitting {
         at,
         register,
@@ -322,7 +322,10 @@ fn parts_at(
 
 /// A plan with a split by a register of few values, before a refused row. Each value is first followed from the
 /// split to the row.
-pub fn try_lookup(search: &mut Search, refused: u16) -> Result<Option<ExploredPlan>, FlowFault> {
+pub fn try_lookup(
+    search: &mut Search,
+    refused: u16,
+) -> Result<Option<Box<ExploredPlan>>, FlowFault> {
     let candidates = lookups(search, refused)?;
     let mut tries = 0u32;
     for candidate in candidates.iter().take(CANDIDATES) {
@@ -489,7 +492,7 @@ pub fn singles(search: &Search, values: &ByteSet) -> Result<Vec<ByteRange>, Flow
 }
 
 /// A plan with a split where paths join before a refused row.
-pub fn try_join(search: &mut Search, refused: u16) -> Result<Option<ExploredPlan>, FlowFault> {
+pub fn try_join(search: &mut Search, refused: u16) -> Result<Option<Box<ExploredPlan>>, FlowFault> {
     let mut tries = 0u32;
     for proc in search.explored.procs_at(search.alloc, refused)? {
         let mut places = Vec::new(search.alloc);

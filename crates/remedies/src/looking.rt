@@ -318,7 +318,7 @@ impl Remedies {
         &mut self,
         search: &mut Search,
         address: u16,
-    ) -> Result<Option<ExploredPlan>, FlowFault> {
+    ) -> Result<Option<Box<ExploredPlan>>, FlowFault> {
         let left = search.left;
         search.left = left.min(TRIALS);
         let found = helping_on(search, address)?;

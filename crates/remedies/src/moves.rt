@@ -16,7 +16,7 @@ const MOVES: u32 = 4;
 pub(crate) fn helping_on(
     search: &mut Search,
     address: u16,
-) -> Result<Option<ExploredPlan>, FlowFault> {
+) -> Result<Option<Box<ExploredPlan>>, FlowFault> {
     for _ in 0..MOVES {
         let Some(other) = helping_at(search, address)? else {
             return Ok(None);

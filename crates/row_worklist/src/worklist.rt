@@ -80,18 +80,20 @@ impl Worklist {
         alloc: Global,
         setting: Setting,
         judged: JudgedRows,
-    ) -> Result<Worklist, FlowFault> {
-        Ok(Worklist {
+    ) -> Result<Box<Worklist>, FlowFault> {
+        let thresholds = Thresholds::of(alloc, setting.task.map(), setting.task.said().region())?;
+        let list = Worklist {
             rows: BTreeMap::new(alloc),
             waiting: BTreeSet::new(alloc),
             entries: BTreeSet::new(alloc),
             calls: BTreeSet::new(alloc),
             exits: BTreeMap::new(alloc),
             timed: BTreeSet::new(alloc),
-            thresholds: Thresholds::of(alloc, setting.task.map(), setting.task.said().region())?,
+            thresholds,
             judged,
             watched: Watch::Nothing,
-        })
+        };
+        Ok(Box::new(alloc, list)?)
     }
 
     /// The rows at the entries of main and of the NMI routine, if there is one. They wait.
@@ -103,7 +105,7 @@ impl Worklist {
         alloc: Global,
         setting: Setting,
         judged: JudgedRows,
-    ) -> Result<Worklist, FlowFault> {
+    ) -> Result<Box<Worklist>, FlowFault> {
         let mut list = Worklist::empty(alloc, setting, judged)?;
         list.begin_entries(alloc, setting)?;
         Ok(list)
