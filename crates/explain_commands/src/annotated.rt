@@ -138,7 +138,7 @@ fn refused_without<P: Progress>(
 fn no_rom(alloc: Global, bytes: &[u8]) -> Result<String, FlowFault> {
     let mut text = String::new(alloc);
     text.push_str("0000  [1 Rom]\n")?;
-    add_rom_lengths(&mut text, alloc, bytes.len(), None)?;
+    add_rom_lengths(&mut text, bytes.len(), None)?;
     text.push_str("  see: galcert explain 1\n")?;
     Ok(text)
 }
@@ -263,8 +263,8 @@ fn add_loop(
     at: u16,
 ) -> Result<(), FlowFault> {
     let alloc = case.alloc;
-    let place = with.location(at)?;
-    text.push_str(format!(in alloc; "{place}  unbounded\n")?.as_str())?;
+    let place = with.location(at);
+    write!(text, "{place}  unbounded\n")?;
     add_unbounded(text, with, case.explored, at)?;
     let remedy = for_loop(case, search, at)?;
     add_remedy(text, with, &remedy, Some(COUNT_DOWN))?;
@@ -289,7 +289,7 @@ fn add_refusals<P: Progress>(
     for (count, refusal) in refusals.iter().enumerate() {
         if count >= asked.question.most {
             let more = refusals.len().saturating_sub(count);
-            text.push_str(format!(in alloc; "and {more} more\n")?.as_str())?;
+            write!(text, "and {more} more\n")?;
             break;
         }
         progress.tell(search.left, refusals.len());
@@ -337,9 +337,9 @@ fn add_whole_block(
     add_head(text, with, refusal)?;
     let bounds = bounds_of(alloc, case.bytes, case.said, remedy)?;
     match refusal.reason {
-        Reason::Region => add_region(text, alloc, &bounds)?,
+        Reason::Region => add_region(text, &bounds)?,
         Reason::Entry => add_entry(text, refusal.address)?,
-        reason => add_whole(text, alloc, reason, &bounds)?,
+        reason => add_whole(text, reason, &bounds)?,
     }
     let habit = if refusal.reason == Reason::Budget {
         Some(COUNT_DOWN)
@@ -348,6 +348,6 @@ fn add_whole_block(
     };
     add_remedy(text, with, remedy, habit)?;
     let number = refusal.reason.number();
-    text.push_str(format!(in alloc; "  see: galcert explain {number}\n")?.as_str())?;
+    write!(text, "  see: galcert explain {number}\n")?;
     Ok(())
 }

@@ -97,7 +97,7 @@ fn why(
     let see = format!(in alloc; "  see: galcert explain {number}\n")?;
     let Some(rom) = Rom::of(bytes) else {
         text.push_str("0000  [1 Rom]\n")?;
-        add_rom_lengths(&mut text, alloc, bytes.len(), Some(certificate.rom_len()))?;
+        add_rom_lengths(&mut text, bytes.len(), Some(certificate.rom_len()))?;
         text.push_str(see.as_str())?;
         return Ok(text);
     };
@@ -142,10 +142,10 @@ fn add_whole_of(
         budget: certificate.budget(),
     };
     match refused.reason {
-        Reason::Rom => { add_rom_lengths(text, alloc, bytes.len(), Some(certificate.rom_len())) }
-        Reason::Region => add_region(text, alloc, &bounds),
+        Reason::Rom => { add_rom_lengths(text, bytes.len(), Some(certificate.rom_len())) }
+        Reason::Region => add_region(text, &bounds),
         Reason::Entry => add_entry(text, refused.address),
-        reason => add_whole(text, alloc, reason, &bounds),
+        reason => add_whole(text, reason, &bounds),
     }
 }
 

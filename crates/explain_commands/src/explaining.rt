@@ -208,7 +208,7 @@ fn bad_lines(
     };
     for name in unknown {
         let (of, why) = (name.text.escape_debug(), &name.fault);
-        text.push_str(format!(in alloc; "  \"{of}\": {why}\n")?.as_str())?;
+        write!(text, "  \"{of}\": {why}\n")?;
     }
     Ok(text)
 }

@@ -34,7 +34,7 @@ pub(crate) fn searched<'r, P: Progress>(
         Ok(Some(found)) => found,
         Ok(None) => {
             let mut text = String::from_str(alloc, "0000  [1 Rom]\n")?;
-            add_rom_lengths(&mut text, alloc, bytes.len(), None)?;
+            add_rom_lengths(&mut text, bytes.len(), None)?;
             text.push_str("  see: galcert explain 1\n")?;
             return Ok((text, None));
         }
@@ -99,8 +99,8 @@ fn told_rom<'x>(
             text.push_str(RECURSION)?;
         }
         WriterFault::LoopUnbounded(at) => {
-            let place = with.location(*at)?;
-            text.push_str(format!(in alloc; "{place}  unbounded\n")?.as_str())?;
+            let place = with.location(*at);
+            write!(text, "{place}  unbounded\n")?;
             add_unbounded(&mut text, &with, &explored, *at)?;
             add_habit(&mut text, &with, Some(COUNT_DOWN))?;
             text.push_str("  see: galcert explain 17\n")?;
@@ -126,7 +126,7 @@ fn add_refusals(
     for (count, refusal) in refusals.iter().enumerate() {
         if count >= question.most {
             let more = refusals.len().saturating_sub(count);
-            text.push_str(format!(in alloc; "and {more} more\n")?.as_str())?;
+            write!(text, "and {more} more\n")?;
             break;
         }
         if !is_about_whole(refusal) {
@@ -142,11 +142,11 @@ fn add_refusals(
             budget: found.base.budget,
         };
         match refusal.reason {
-            Reason::Region => add_region(text, alloc, &bounds)?,
-            reason => add_whole(text, alloc, reason, &bounds)?,
+            Reason::Region => add_region(text, &bounds)?,
+            reason => add_whole(text, reason, &bounds)?,
         }
         let number = refusal.reason.number();
-        text.push_str(format!(in alloc; "  see: galcert explain {number}\n")?.as_str())?;
+        write!(text, "  see: galcert explain {number}\n")?;
     }
     Ok(())
 }

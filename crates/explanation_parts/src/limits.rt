@@ -134,9 +134,7 @@ fn limit_text(
             )?;
             if let Some(split) = most_parts(said) {
                 let (at, parts) = split;
-                line.push_str(format!(in alloc;
-                    "; the split at {at:04X} has {parts} parts"
-                )?.as_str())?;
+                write!(line, "; the split at {at:04X} has {parts} parts")?;
             }
             Ok(line)
         }

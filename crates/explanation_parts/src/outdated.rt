@@ -106,7 +106,6 @@ fn add_outdated(
     row: u64,
     at: u16,
 ) -> Result<(), FlowFault> {
-    let alloc = with.alloc;
     let refusal = Refusal {
         row: Some(row),
         address: ContextPoint::of(row).address,
@@ -114,12 +113,12 @@ fn add_outdated(
     };
     add_head(text, with, &refusal)?;
     let _some = add_lacking(text, with, explored, row)?;
-    let place = with.place(at)?;
+    let place = with.place(at);
     add_line(
         text,
-        format!(in alloc;
+        format_args!(
             "try: leave out the split at {place}, which has parts for no value that comes there; the rest is said without it"
-        )?.as_str(),
+        ),
     )?;
     text.push_str("  see: galcert explain 12\n")?;
     Ok(())

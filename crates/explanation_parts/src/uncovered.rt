@@ -38,12 +38,10 @@ pub fn add_not_covered(
             NextKind::Call => match callee_at(certificate, next.address) {
                 Some(callee) => Some(callee.number),
                 None => {
-                    let to = with.place(next.address)?;
+                    let to = with.place(next.address);
                     return add_line(
                         text,
-                        format!(in alloc;
-                            "calls {to}, which is no procedure of the certificate"
-                        )?.as_str(),
+                        format_args!("calls {to}, which is no procedure of the certificate"),
                     );
                 }
             },
@@ -76,7 +74,6 @@ pub fn add_rank(
     situation: &Situation,
     row: u32,
 ) -> Result<(), FlowFault> {
-    let alloc = with.alloc;
     let own = match certificate.proc_of(row) {
         Some(id) => certificate.rank(id).unwrap_or(0),
         None => 0,
@@ -89,12 +86,12 @@ pub fn add_rank(
             continue;
         }
         if let Some(callee) = callee_at(certificate, next.address) {
-            let (to, rank) = (with.place(next.address)?, callee.proc.rank);
+            let (to, rank) = (with.place(next.address), callee.proc.rank);
             return add_line(
                 text,
-                format!(in alloc;
+                format_args!(
                     "calls {to} of rank {rank}, and its own rank is {own}: a callee's has to be lower"
-                )?.as_str(),
+                ),
             );
         }
     }
@@ -128,7 +125,7 @@ pub fn add_callee_depth(
             if let Some(callee) = callee_at(certificate, next.address) {
                 if next.kind == NextKind::Call {
                     let more = callee.proc.depth;
-                    line.push_str(format!(in alloc; ", and the callee needs {more}")?.as_str())?;
+                    write!(line, ", and the callee needs {more}")?;
                 }
             }
         }
@@ -169,8 +166,8 @@ pub fn add_unpaid(
                 }
             }
         }
-        let to = with.place(next.address)?;
-        line.push_str(format!(in alloc; "; to {to} it takes {cost}{wants}")?.as_str())?;
+        let to = with.place(next.address);
+        write!(line, "; to {to} it takes {cost}{wants}")?;
     }
     add_line(text, line.as_str())
 }
@@ -183,7 +180,7 @@ fn linear_text(with: &Wording, linear: &Linear) -> Result<String, FlowFault> {
         let name = variable_name(alloc, term.variable)?;
         let sign = if term.coefficient < 0 { "-" } else { "+" };
         let size = term.coefficient.unsigned_abs();
-        text.push_str(format!(in alloc; " {sign} {size}*{name}")?.as_str())?;
+        write!(text, " {sign} {size}*{name}")?;
     }
     Ok(text)
 }

@@ -36,11 +36,11 @@ fn reason_text(with: &Wording, reason: Reason) -> Result<String, FlowFault> {
 pub fn add_head(text: &mut String, with: &Wording, refusal: &Refusal) -> Result<(), FlowFault> {
     let alloc = with.alloc;
     let reason = reason_text(with, refusal.reason)?;
-    let place = with.location(refusal.address)?;
+    let place = with.location(refusal.address);
     let line = match (refusal.row, refusal.reason) {
         (None, _) => format!(in alloc; "{place}  {reason}\n")?,
         (Some(_), _) => {
-            let instr = with.instr(refusal.address)?;
+            let instr = with.instr(refusal.address);
             format!(in alloc; "{place}  {instr}  {reason}\n")?
         }
     };
@@ -287,6 +287,6 @@ pub fn add_block(
         add_remedy(text, with, remedy, habit)?;
     }
     let number = refusal.reason.number();
-    text.push_str(format!(in alloc; "  see: galcert explain {number}\n")?.as_str())?;
+    write!(text, "  see: galcert explain {number}\n")?;
     Ok(())
 }

@@ -86,25 +86,25 @@ pub(crate) fn add_near(
     let mut parts: Vec<String> = Vec::new(alloc);
     for split in said.splits() {
         if is_near(with, explored, proc, split.at)? {
-            let (at, register) = (with.place(split.at)?, register_name(split.register));
+            let (at, register) = (with.place(split.at), register_name(split.register));
             parts.push(format!(in alloc; "split at {at} by {register}")?)?;
         }
     }
     for note in said.facts() {
         if is_near(with, explored, proc, note.at)? {
-            let (at, fact) = (with.place(note.at)?, fact_text(alloc, &note.fact)?);
+            let (at, fact) = (with.place(note.at), fact_text(alloc, &note.fact)?);
             parts.push(format!(in alloc; "fact at {at}: {fact}")?)?;
         }
     }
     for note in said.loops() {
         if is_near(with, explored, proc, note.at)? {
-            let (at, counter) = (with.place(note.at)?, variable_name(alloc, note.counter)?);
+            let (at, counter) = (with.place(note.at), variable_name(alloc, note.counter)?);
             parts.push(format!(in alloc; "loop at {at} by {counter}")?)?;
         }
     }
     for at in said.inlines() {
         if is_near(with, explored, proc, *at)? {
-            let at = with.place(*at)?;
+            let at = with.place(*at);
             parts.push(format!(in alloc; "inline at {at}")?)?;
         }
     }

@@ -30,16 +30,16 @@ pub fn add_recursion(
             None => entries.first().copied().unwrap_or(*entry),
         };
         if place == 0 {
-            line.push_str(with.place(*entry)?.as_str())?;
+            write!(line, "{}", with.place(*entry))?;
         }
         let call = call_between(with, explored, *entry, next)?;
-        let next = with.place(next)?;
+        let next = with.place(next);
         match call {
             Some(at) => {
-                let instr = with.instr_at(at)?;
-                line.push_str(format!(in alloc; " -> {instr} -> {next}")?.as_str())?;
+                let instr = with.instr_at(at);
+                write!(line, " -> {instr} -> {next}")?;
             }
-            None => line.push_str(format!(in alloc; " -> {next}")?.as_str())?,
+            None => write!(line, " -> {next}")?,
         }
     }
     add_line(text, line.as_str())
@@ -105,12 +105,10 @@ pub fn add_unbounded(
     add_cycle(text, with, explored, proc, &found)?;
     for entry in explored.task.said().loops() {
         if found.contains(entry.at) {
-            let (place, counter) = (with.place(entry.at)?, variable_name(alloc, entry.counter)?);
+            let (place, counter) = (with.place(entry.at), variable_name(alloc, entry.counter)?);
             add_line(
                 text,
-                format!(in alloc;
-                    "the loop annotated at {place} by {counter} does not bound it"
-                )?.as_str(),
+                format_args!("the loop annotated at {place} by {counter} does not bound it"),
             )?;
         }
     }
@@ -133,8 +131,8 @@ fn add_cycle(
             break;
         }
         line.push_str(if count > 0 { "; " } else { "" })?;
-        let (place, instr) = (with.place(*at)?, with.instr(*at)?);
-        line.push_str(format!(in alloc; "{place} {instr}")?.as_str())?;
+        let (place, instr) = (with.place(*at), with.instr(*at));
+        write!(line, "{place} {instr}")?;
     }
     add_line(text, line.as_str())?;
     let exits = explored.exits(alloc, proc, found)?;
@@ -142,7 +140,7 @@ fn add_cycle(
         return add_line(text, "it never ends");
     }
     let places = with.places(exits.as_slice())?;
-    add_line(text, format!(in alloc; "it leads to {places}")?.as_str())
+    add_line(text, format_args!("it leads to {places}"))
 }
 
 /// Adds which loop a row that does not pay stands in, and what the loop's counter does.
@@ -169,18 +167,15 @@ pub fn add_time(
         if !found.contains(note.at) {
             continue;
         }
-        let (place, counter) = (with.place(note.at)?, variable_name(alloc, note.counter)?);
+        let (place, counter) = (with.place(note.at), variable_name(alloc, note.counter)?);
         let mut line = format!(in alloc; "the loop at {place} counts {counter}")?;
         line.push_str(counted_text(with, explored, &found, &note.counter)?.as_str())?;
         add_line(text, line.as_str())?;
     }
     for inner in explored.loops(alloc, proc)? {
         if found.is_around(&inner) {
-            let place = with.place(inner.head)?;
-            add_line(
-                text,
-                format!(in alloc; "the loop at {place} lies within it")?.as_str(),
-            )?;
+            let place = with.place(inner.head);
+            add_line(text, format_args!("the loop at {place} lies within it"))?;
         }
     }
     Ok(())
@@ -276,7 +271,6 @@ fn add_turn(
     proc: u32,
     found: &NaturalLoop,
 ) -> Result<(), FlowFault> {
-    let alloc = with.alloc;
     let steps = steps_of(with, explored, proc, found)?;
     let turn = turn_cost(with, found, steps.as_slice())?;
     if turn == 0 {
@@ -284,9 +278,9 @@ fn add_turn(
     }
     add_line(
         text,
-        format!(in alloc;
+        format_args!(
             "a turn takes {turn} T-states beside calls and loops within it, and its counter does not pay for them"
-        )?.as_str(),
+        ),
     )
 }
 
@@ -304,7 +298,7 @@ fn counted_text(
         if !found.contains(from.address) || !found.contains(to.address) {
             continue;
         }
-        let instr = with.instr_at(from.address)?;
+        let instr = with.instr_at(from.address);
         match edge.effect.change(*counter) {
             Change::Raised(_) => {
                 return Ok(format!(in alloc; ", and {name} goes up by {instr}")?);

@@ -18,7 +18,6 @@ pub fn add_remedy(
     remedy: &Remedy,
     habit: Option<(u8, &str)>,
 ) -> Result<(), FlowFault> {
-    let alloc = with.alloc;
     match remedy {
         Remedy::Notes(notes) => {
             add_line(text, "try: add to the annotations")?;
@@ -34,14 +33,12 @@ pub fn add_remedy(
         Remedy::Stack(region) => {
             add_line(text, "try: set in the annotations")?;
             let (low, top) = (region.low, region.top);
-            text.push_str(format!(in alloc;
-                "    low = 0x{low:04X}\n    top = 0x{top:04X}\n"
-            )?.as_str())?;
+            write!(text, "    low = 0x{low:04X}\n    top = 0x{top:04X}\n")?;
             Ok(())
         }
         Remedy::Budget(budget) => {
             add_line(text, "try: set in the annotations")?;
-            text.push_str(format!(in alloc; "    nmi = true\n    budget = {budget}\n")?.as_str())?;
+            write!(text, "    nmi = true\n    budget = {budget}\n")?;
             Ok(())
         }
         Remedy::WithoutFacts(gone) => add_left_out(text, with, gone),
@@ -74,7 +71,7 @@ fn add_left_out(text: &mut String, with: &Wording, gone: &[u16]) -> Result<(), F
     })?;
     for (count, at) in gone.iter().enumerate() {
         text.push_str(if count == 0 { "" } else { ", " })?;
-        text.push_str(with.place(*at)?.as_str())?;
+        write!(text, "{}", with.place(*at))?;
     }
     text.push_str("\n")?;
     Ok(())
@@ -86,13 +83,12 @@ fn add_inferring(
     with: &Wording,
     habit: Option<(u8, &str)>,
 ) -> Result<(), FlowFault> {
-    let alloc = with.alloc;
     match habit {
         Some((number, title)) => add_line(
             text,
-            format!(in alloc;
+            format_args!(
                 "try: the same command with --infer, which needs no annotation for it; or rewrite it: docs/HABITS.md, {number} \"{title}\""
-            )?.as_str(),
+            ),
         ),
         None => add_line(
             text,
@@ -111,13 +107,12 @@ pub fn add_habit(
     with: &Wording,
     habit: Option<(u8, &str)>,
 ) -> Result<(), FlowFault> {
-    let alloc = with.alloc;
     match habit {
         Some((number, title)) => add_line(
             text,
-            format!(in alloc;
+            format_args!(
                 "try: no annotation is known; rewrite it: docs/HABITS.md, {number} \"{title}\""
-            )?.as_str(),
+            ),
         ),
         None => add_line(text, "try: no annotation is known"),
     }

@@ -198,14 +198,13 @@ fn found_line(alloc: Global, found: &Inference, symbols: &Symbols) -> Result<Str
     let mut line = format!(in alloc;
         "inferred: {facts} facts in {rows} rows, {inlines} inline calls, {splits} splits, {loops} loops"
     )?;
-    line.push_str(format!(in alloc;
+    write!(
+        line,
         ", {cells} cells, {contexts} contexts, low {low}, top {top}, trials {trials}"
-    )?.as_str())?;
+    )?;
     if found.base.version == Version::Three {
         let (parts, rows) = (counts.parts, counts.parted_rows);
-        line.push_str(format!(in alloc;
-            ", version 3, {parts} flag parts in {rows} rows"
-        )?.as_str())?;
+        write!(line, ", version 3, {parts} flag parts in {rows} rows")?;
     }
     line.push_str("\n")?;
     Ok(line)

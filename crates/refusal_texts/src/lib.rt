@@ -16,5 +16,5 @@ pub use ways::{
     add_computed, add_lacking, add_uncovered, facts_of, jump_pair, proc_of_next, rows_at,
 };
 pub use whole::{Bounds, add_entry, add_region, add_rom_lengths, add_whole};
-pub use wording::{Wording, add_line, value_text};
+pub use wording::{NamedInstr, PlacedInstr, RangeText, Wording, add_line};
 pub use writes::{add_write, is_astray};

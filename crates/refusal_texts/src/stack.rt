@@ -1,6 +1,6 @@
 // What is wrong with the stack: reasons 9, 10, 14, 19 and 20, and what stands where no instruction can: 4 and 5.
 
-use crate::wording::{Wording, add_line, pair_name};
+use crate::wording::{RangeText, Wording, add_line, pair_name};
 use abs_step::Saved;
 use analysis::{FlowFault, MAIN, NMI};
 use explanations::{Explored, Situation, lost_pairs, origins_of};
@@ -23,21 +23,23 @@ pub fn add_decode(
     let alloc = with.alloc;
     let mut bytes = String::new(alloc);
     for byte in with.rom.bytes_from(address).iter().take(4) {
-        bytes.push_str(format!(in alloc; " {byte:02X}")?.as_str())?;
+        write!(bytes, " {byte:02X}")?;
     }
     let len = with.rom.len();
-    let line = match fault {
-        DecodeFault::Truncated if bytes.is_empty() => {
-            format!(in alloc; "the ROM ends before it: it has {len} bytes")?
-        }
-        DecodeFault::Truncated => {
-            format!(in alloc; "the ROM ends within the instruction{bytes}: it has {len} bytes")?
-        }
-        DecodeFault::Undocumented => {
-            format!(in alloc; "the bytes{bytes} begin no documented instruction: is this data?")?
-        }
-    };
-    add_line(text, line.as_str())
+    match fault {
+        DecodeFault::Truncated if bytes.is_empty() => add_line(
+            text,
+            format_args!("the ROM ends before it: it has {len} bytes"),
+        ),
+        DecodeFault::Truncated => add_line(
+            text,
+            format_args!("the ROM ends within the instruction{bytes}: it has {len} bytes"),
+        ),
+        DecodeFault::Undocumented => add_line(
+            text,
+            format_args!("the bytes{bytes} begin no documented instruction: is this data?"),
+        ),
+    }
 }
 
 /// Adds from where a row is reached.
@@ -60,8 +62,8 @@ pub fn add_reached(
         }
     }
     for address in from.as_slice() {
-        let before = with.instr_at(*address)?;
-        add_line(text, format!(in alloc; "reached from {before}")?.as_str())?;
+        let before = with.instr_at(*address);
+        add_line(text, format_args!("reached from {before}"))?;
     }
     Ok(())
 }
@@ -84,13 +86,10 @@ pub fn add_io(text: &mut String) -> Result<(), FlowFault> {
 ///
 /// `NoMemory` where memory was refused.
 pub fn add_unset(text: &mut String, with: &Wording, address: u16) -> Result<(), FlowFault> {
-    let alloc = with.alloc;
-    let instr = with.instr(address)?;
+    let instr = with.instr(address);
     add_line(
         text,
-        format!(in alloc;
-            "{instr} uses the stack, and a way from 0000 leads here without LD SP,nn"
-        )?.as_str(),
+        format_args!("{instr} uses the stack, and a way from 0000 leads here without LD SP,nn"),
     )
 }
 
@@ -107,7 +106,7 @@ pub fn add_misfit(
 ) -> Result<(), FlowFault> {
     let alloc = with.alloc;
     let address = situation.place.address;
-    let instr = with.instr(address)?;
+    let instr = with.instr(address);
     let slots = situation.state.shape.len();
     if slots >= 64 {
         return add_line(
@@ -116,12 +115,12 @@ pub fn add_misfit(
         );
     }
     if let Some(slot) = situation.state.shape.top() {
-        let top = with.words(slot.pair.word)?;
+        let top = RangeText::words(slot.pair.word);
         add_line(
             text,
-            format!(in alloc;
+            format_args!(
                 "returns to the word on top of the stack, which is {top}: not one address"
-            )?.as_str(),
+            ),
         )?;
         if let Some((explored, row)) = explored {
             add_pushed(text, with, explored, row, slots)?;
@@ -131,21 +130,18 @@ pub fn add_misfit(
     if situation.place.proc == MAIN {
         return add_line(
             text,
-            format!(in alloc; "{instr} with nothing on the stack: main has no caller")?.as_str(),
+            format_args!("{instr} with nothing on the stack: main has no caller"),
         );
     }
     add_line(
         text,
-        format!(in alloc; "{instr} takes the return address of this procedure")?.as_str(),
+        format_args!("{instr} takes the return address of this procedure"),
     )?;
     if let Some((explored, _)) = explored {
         let sites = explored.call_sites(alloc, situation.place.proc)?;
-        let entry = with.place(entry_of(situation.place.proc))?;
+        let entry = with.place(entry_of(situation.place.proc));
         let places = with.places(sites.as_slice())?;
-        add_line(
-            text,
-            format!(in alloc; "{entry} is called at {places}")?.as_str(),
-        )?;
+        add_line(text, format_args!("{entry} is called at {places}"))?;
     }
     Ok(())
 }
@@ -166,8 +162,8 @@ fn add_pushed(
     let top = Variable::Slot(number, Part::Word);
     let found = origins_of(alloc, explored, row, top)?;
     for origin in found.iter().take(2) {
-        let at = with.instr_at(origin.at)?;
-        add_line(text, format!(in alloc; "pushed by {at}")?.as_str())?;
+        let at = with.instr_at(origin.at);
+        add_line(text, format_args!("pushed by {at}"))?;
     }
     Ok(())
 }
@@ -189,20 +185,15 @@ pub fn add_saved(
         return add_line(text, "the NMI routine writes I, which it cannot give back");
     };
     let name = pair_name(pair);
-    let is = with.words(situation.state.pairs.pair(pair).word)?;
+    let is = RangeText::words(situation.state.pairs.pair(pair).word);
     add_line(
         text,
-        format!(in alloc;
-            "{name} is {is} here, and need not be what the NMI interrupted"
-        )?.as_str(),
+        format_args!("{name} is {is} here, and need not be what the NMI interrupted"),
     )?;
     if let Some((explored, _)) = explored {
         for at in lost_pairs(alloc, explored, pair)? {
-            let instr = with.instr_at(at)?;
-            add_line(
-                text,
-                format!(in alloc; "{name} is changed by {instr}")?.as_str(),
-            )?;
+            let instr = with.instr_at(at);
+            add_line(text, format_args!("{name} is changed by {instr}"))?;
         }
     }
     Ok(())
@@ -219,7 +210,6 @@ pub fn add_halt(
     situation: &Situation,
     explored: Option<(&Explored, u64)>,
 ) -> Result<(), FlowFault> {
-    let alloc = with.alloc;
     add_line(
         text,
         "HALT waits for an NMI, and none comes while the NMI routine runs",
@@ -236,8 +226,8 @@ pub fn add_halt(
             return Ok(());
         };
         let point = ContextPoint::of(caller);
-        let call = with.instr_at(point.address)?;
-        add_line(text, format!(in alloc; "called by {call}")?.as_str())?;
+        let call = with.instr_at(point.address);
+        add_line(text, format_args!("called by {call}"))?;
         proc = point.proc;
     }
     Ok(())
@@ -263,7 +253,6 @@ pub fn add_sp_write(
     with: &Wording,
     situation: &Situation,
 ) -> Result<(), FlowFault> {
-    let alloc = with.alloc;
     let address = situation.place.address;
     let top = situation.task.said().region().top;
     let Ok((instr, _)) = board_fetch::fetch(with.rom, address) else {
@@ -272,15 +261,13 @@ pub fn add_sp_write(
     match instr {
         Instr::LoadPair(Register16::Sp, word) if word != top => add_line(
             text,
-            format!(in alloc; "SP would be {word:04X}; the region's top is {top:04X}")?.as_str(),
+            format_args!("SP would be {word:04X}; the region's top is {top:04X}"),
         ),
         Instr::LoadPair(Register16::Sp, _) => {
-            let entry = with.place(entry_of(situation.place.proc))?;
+            let entry = with.place(entry_of(situation.place.proc));
             add_line(
                 text,
-                format!(in alloc;
-                    "only main may load SP, and this is in the procedure {entry}"
-                )?.as_str(),
+                format_args!("only main may load SP, and this is in the procedure {entry}"),
             )
         }
         Instr::LoadSp(Pointer::Hl | Pointer::Ix | Pointer::Iy)

@@ -1,7 +1,7 @@
 // Where a refused row leads, and what is not covered there: reason 12.
 
 use crate::rows::TargetRow;
-use crate::wording::{Wording, add_line, pair_name};
+use crate::wording::{RangeText, Wording, add_line, pair_name};
 use abs_state::AbsState;
 use abs_step::{Next, NextKind};
 use analysis::FlowFault;
@@ -12,6 +12,7 @@ use intervals::{Domain, Pair, RegPair};
 use loop_bounds::Linear;
 use named_annotations::register_name;
 use row_texts::fact_text;
+use source_lines::NamedAddress;
 use z80_decode::{Instr, Pointer};
 
 const PAIRS: [RegPair; 10] = [
@@ -48,13 +49,12 @@ pub fn add_computed(
     situation: &Situation,
     pair: RegPair,
 ) -> Result<(), FlowFault> {
-    let alloc = with.alloc;
-    let instr = with.instr(situation.place.address)?;
+    let instr = with.instr(situation.place.address);
     let name = pair_name(pair);
-    let is = with.words(situation.state.pairs.pair(pair).word)?;
+    let is = RangeText::words(situation.state.pairs.pair(pair).word);
     add_line(
         text,
-        format!(in alloc; "{instr} goes to {name}, which is {is}: not one address")?.as_str(),
+        format_args!("{instr} goes to {name}, which is {is}: not one address"),
     )
 }
 
@@ -76,12 +76,12 @@ pub fn add_lacking(
             Some(split) => register_name(split.register),
             None => "",
         };
-        let (place, values) = (with.place(at)?, with.bytes(range)?);
+        let (place, values) = (with.place(at), RangeText::bytes(range));
         add_line(
             text,
-            format!(in alloc;
+            format_args!(
                 "goes to {place}, where {register} may be {values}, and the split there has no part for some of these"
-            )?.as_str(),
+            ),
         )?;
         is_some = true;
     }
@@ -101,17 +101,13 @@ pub fn add_uncovered(
     next: &Next,
     rows: &[TargetRow],
 ) -> Result<bool, FlowFault> {
-    let alloc = with.alloc;
-    let to = with.place(next.address)?;
+    let to = with.place(next.address);
     let arriving = match next.kind {
         NextKind::Call => next.state.callee(),
         NextKind::Jump | NextKind::Exit => next.state.copied(),
     };
     let Some(row) = rows.first() else {
-        add_line(
-            text,
-            format!(in alloc; "goes to {to}, where there is no row")?.as_str(),
-        )?;
+        add_line(text, format_args!("goes to {to}, where there is no row"))?;
         return Ok(true);
     };
     if rows.iter().any(|row| {
@@ -126,37 +122,37 @@ pub fn add_uncovered(
     if here != there {
         add_line(
             text,
-            format!(in alloc;
+            format_args!(
                 "goes to {to} with {here} words on the stack; the rows there have {there}"
-            )?.as_str(),
+            ),
         )?;
         return Ok(true);
     }
     if !row.state.mode.covers(arriving.mode) {
         add_line(
             text,
-            format!(in alloc;
+            format_args!(
                 "goes to {to}, where NMIs come by another way and not by this one, or SP is set by one only"
-            )?.as_str(),
+            ),
         )?;
         return Ok(true);
     }
     for fact in row.facts.as_slice() {
         if !all_follow(facts, &situation.state, &next.effect, [*fact].as_slice()) {
-            add_fact(text, with, to.as_str(), fact, &situation.state, facts)?;
+            add_fact(text, with, to, fact, &situation.state, facts)?;
             return Ok(true);
         }
     }
     for pair in PAIRS {
         let (is, wanted) = (arriving.pairs.pair(pair), row.state.pairs.pair(pair));
         if !wanted.covers(&is) {
-            add_pair(text, with, to.as_str(), pair, is, wanted)?;
+            add_pair(text, to, pair, is, wanted)?;
             return Ok(true);
         }
     }
     add_line(
         text,
-        format!(in alloc; "goes to {to}, where no row covers the state")?.as_str(),
+        format_args!("goes to {to}, where no row covers the state"),
     )?;
     Ok(true)
 }
@@ -176,44 +172,53 @@ fn tightened(state: &AbsState, facts: &[Linear]) -> AbsState {
 /// Adds a pair that a target does not cover.
 fn add_pair(
     text: &mut String,
-    with: &Wording,
-    to: &str,
+    to: NamedAddress,
     pair: RegPair,
     is: Pair,
     wanted: Pair,
 ) -> Result<(), FlowFault> {
-    let alloc = with.alloc;
     let name = pair_name(pair);
     if wanted.origin.is_some() && wanted.origin != is.origin {
         return add_line(
             text,
-            format!(in alloc;
+            format_args!(
                 "goes to {to}, where {name} is what a pair was at the entry; here it need not be"
-            )?.as_str(),
+            ),
         );
     }
-    let line = if !wanted.word.covers(&is.word) {
-        let (is, wanted) = (with.words(is.word)?, with.words(wanted.word)?);
-        format!(in alloc; "goes to {to} with {name} {is}; the row there has {wanted}")?
-    } else if !wanted.high.covers(&is.high) {
-        let (is, wanted) = (with.bytes(is.high)?, with.bytes(wanted.high)?);
-        format!(in alloc;
-            "goes to {to} with {is} as the high byte of {name}; the row there has {wanted}"
-        )?
+    if !wanted.word.covers(&is.word) {
+        let (is, wanted) = (RangeText::words(is.word), RangeText::words(wanted.word));
+        return add_line(
+            text,
+            format_args!("goes to {to} with {name} {is}; the row there has {wanted}"),
+        );
+    }
+    let (half, is, wanted) = if !wanted.high.covers(&is.high) {
+        (
+            "high",
+            RangeText::bytes(is.high),
+            RangeText::bytes(wanted.high),
+        )
     } else {
-        let (is, wanted) = (with.bytes(is.low)?, with.bytes(wanted.low)?);
-        format!(in alloc;
-            "goes to {to} with {is} as the low byte of {name}; the row there has {wanted}"
-        )?
+        (
+            "low",
+            RangeText::bytes(is.low),
+            RangeText::bytes(wanted.low),
+        )
     };
-    add_line(text, line.as_str())
+    add_line(
+        text,
+        format_args!(
+            "goes to {to} with {is} as the {half} byte of {name}; the row there has {wanted}"
+        ),
+    )
 }
 
 /// Adds a fact of a target that does not follow.
 fn add_fact(
     text: &mut String,
     with: &Wording,
-    to: &str,
+    to: NamedAddress,
     fact: &Linear,
     before: &AbsState,
     facts: &[Linear],
@@ -232,15 +237,15 @@ fn add_fact(
     for term in fact.terms() {
         let range = loop_bounds::Ranges::range(before, term.variable);
         let name = named_annotations::variable_name(alloc, term.variable)?;
-        let is = crate::wording::value_text(with, &term.variable, range)?;
+        let is = RangeText::of(&term.variable, range);
         values.push_str(if values.is_empty() { "" } else { ", " })?;
-        values.push_str(format!(in alloc; "{name} {is}")?.as_str())?;
+        write!(values, "{name} {is}")?;
     }
     add_line(
         text,
-        format!(in alloc;
+        format_args!(
             "goes to {to}, whose fact {equation} does not follow: before the step {given}; {values}"
-        )?.as_str(),
+        ),
     )
 }
 

@@ -4,7 +4,6 @@ use crate::wording::add_line;
 use address_map::Region;
 use analysis::FlowFault;
 use cert_lines::WORK_LEN;
-use std::alloc::Global;
 
 /// The numbers that reasons of the whole are about.
 #[derive(Clone, Copy)]
@@ -26,18 +25,17 @@ pub struct Bounds {
 /// `NoMemory` where memory was refused.
 pub fn add_rom_lengths(
     text: &mut String,
-    alloc: Global,
     len: usize,
     wanted: Option<u16>,
 ) -> Result<(), FlowFault> {
-    let line = match wanted {
-        Some(wanted) if len > 0 && len <= 16_384 => {
-            format!(in alloc; "the ROM has {len} bytes, the certificate is for {wanted}")?
-        }
-        _ if len == 0 => format!(in alloc; "the ROM has 0 bytes")?,
-        _ => format!(in alloc; "the ROM has more than 16384 bytes, which is the most")?,
-    };
-    add_line(text, line.as_str())
+    match wanted {
+        Some(wanted) if len > 0 && len <= 16_384 => add_line(
+            text,
+            format_args!("the ROM has {len} bytes, the certificate is for {wanted}"),
+        ),
+        _ if len == 0 => add_line(text, "the ROM has 0 bytes"),
+        _ => add_line(text, "the ROM has more than 16384 bytes, which is the most"),
+    }
 }
 
 /// Adds which part of the rule for the region fails.
@@ -45,20 +43,31 @@ pub fn add_rom_lengths(
 /// # Errors
 ///
 /// `NoMemory` where memory was refused.
-pub fn add_region(text: &mut String, alloc: Global, bounds: &Bounds) -> Result<(), FlowFault> {
+pub fn add_region(text: &mut String, bounds: &Bounds) -> Result<(), FlowFault> {
     let (low, top, start) = (bounds.region.low, bounds.region.top, bounds.work_start);
     let end = start.saturating_add(WORK_LEN);
-    let line = if low < start {
-        format!(in alloc; "low is {low:04X}, below the work RAM, which begins at {start:04X}")?
+    if low < start {
+        add_line(
+            text,
+            format_args!("low is {low:04X}, below the work RAM, which begins at {start:04X}"),
+        )
     } else if low >= top {
-        format!(in alloc; "low is {low:04X}, not below top, which is {top:04X}")?
+        add_line(
+            text,
+            format_args!("low is {low:04X}, not below top, which is {top:04X}"),
+        )
     } else if top > end {
-        format!(in alloc; "top is {top:04X}, above the end of the work RAM, {end:04X}")?
+        add_line(
+            text,
+            format_args!("top is {top:04X}, above the end of the work RAM, {end:04X}"),
+        )
     } else {
         let last = top.saturating_sub(1);
-        format!(in alloc; "a kept cell lies in the region {low:04X}-{last:04X}")?
-    };
-    add_line(text, line.as_str())
+        add_line(
+            text,
+            format_args!("a kept cell lies in the region {low:04X}-{last:04X}"),
+        )
+    }
 }
 
 /// Adds that the rows at an entry ask for too much.
@@ -87,7 +96,6 @@ pub fn add_entry(text: &mut String, address: u16) -> Result<(), FlowFault> {
 /// `NoMemory` where memory was refused.
 pub fn add_whole(
     text: &mut String,
-    alloc: Global,
     reason: abs_step::Reason,
     bounds: &Bounds,
 ) -> Result<(), FlowFault> {
@@ -101,24 +109,25 @@ pub fn add_whole(
             let low = u32::from(bounds.region.top).saturating_sub(both);
             add_line(
                 text,
-                format!(in alloc;
+                format_args!(
                     "main {main} + NMI {routine} = {both} bytes of stack; the region has {room}: low = 0x{low:04X} would do"
-                )?.as_str(),
+                ),
             )
         }
         abs_step::Reason::Budget => {
             let budget = bounds.budget.unwrap_or(0);
-            let line = match bounds.time {
-                Some(time) => {
-                    format!(in alloc;
-                        "the NMI routine takes {time} T-states of a budget of {budget}"
-                    )?
-                }
-                None => format!(in alloc;
-                    "the NMI routine takes more than 50665 T-states, and its budget is {budget}: a second NMI would come while it runs"
-                )?,
-            };
-            add_line(text, line.as_str())
+            match bounds.time {
+                Some(time) => add_line(
+                    text,
+                    format_args!("the NMI routine takes {time} T-states of a budget of {budget}"),
+                ),
+                None => add_line(
+                    text,
+                    format_args!(
+                        "the NMI routine takes more than 50665 T-states, and its budget is {budget}: a second NMI would come while it runs"
+                    ),
+                ),
+            }
         }
         _ => Ok(()),
     }

@@ -3,11 +3,12 @@
 use address_map::Rom;
 use analysis::FlowFault;
 use board_fetch::fetch;
-use disassembly::{Reference, spelled};
+use disassembly::{InstrText, Reference, spelled};
 use intervals::{ByteRange, RegPair, WordRange};
 use loop_bounds::Variable;
-use source_lines::AddressNames;
+use source_lines::{AddressNames, NamedAddress};
 use std::alloc::Global;
+use std::fmt;
 
 /// What texts are made with: a ROM, and the names of its addresses.
 #[derive(Clone, Copy)]
@@ -19,38 +20,26 @@ pub struct Wording<'w> {
 
 impl<'w> Wording<'w> {
     /// An address with its label: `03CF moveone+13`.
-    ///
-    /// # Errors
-    ///
-    /// `NoMemory` where memory was refused.
-    pub fn place(&self, address: u16) -> Result<String, FlowFault> {
-        let alloc = self.alloc;
-        Ok(match self.names.symbols.label_at(address) {
-            Some(label) => format!(in alloc; "{address:04X} {label}")?,
-            None => format!(in alloc; "{address:04X}")?,
-        })
+    pub fn place(&self, address: u16) -> NamedAddress<'w> {
+        NamedAddress {
+            address,
+            label: self.names.symbols.label_at(address),
+            location: None,
+        }
     }
 
     /// An address with its line and its label: `raid.asm:565: 03CF moveone+13`.
-    ///
-    /// # Errors
-    ///
-    /// `NoMemory` where memory was refused.
-    pub fn location(&self, address: u16) -> Result<String, FlowFault> {
-        let alloc = self.alloc;
-        let named = self.names.named(address);
-        Ok(format!(in alloc; "{named}")?)
+    pub fn location(&self, address: u16) -> NamedAddress<'w> {
+        self.names.named(address)
     }
 
-    /// An instruction in the manual's spelling, with a name in the place of its number where there is one.
-    ///
-    /// # Errors
-    ///
-    /// `NoMemory` where memory was refused.
-    pub fn instr(&self, address: u16) -> Result<String, FlowFault> {
-        let alloc = self.alloc;
+    /// The instruction at an address.
+    pub fn instr(&self, address: u16) -> NamedInstr<'w> {
         let Ok((instr, len)) = fetch(self.rom, address) else {
-            return Ok(String::from_str(alloc, "no instruction")?);
+            return NamedInstr {
+                text: None,
+                name: None,
+            };
         };
         let text = spelled(&instr, address.wrapping_add(u16::from(len)));
         let name = match text.reference() {
@@ -58,22 +47,18 @@ impl<'w> Wording<'w> {
             Some(Reference::Memory(at)) => self.names.symbols.shown_at(at),
             Some(Reference::Constant(_) | Reference::Restart(_)) | None => None,
         };
-        let (before, after) = (text.before(), text.after());
-        Ok(match name {
-            Some(name) => format!(in alloc; "{before}{name}{after}")?,
-            None => format!(in alloc; "{text}")?,
-        })
+        NamedInstr {
+            text: Some(text),
+            name,
+        }
     }
 
-    /// An instruction with its address: `LD HL,4000h at 0003`.
-    ///
-    /// # Errors
-    ///
-    /// `NoMemory` where memory was refused.
-    pub fn instr_at(&self, address: u16) -> Result<String, FlowFault> {
-        let alloc = self.alloc;
-        let (instr, place) = (self.instr(address)?, self.place(address)?);
-        Ok(format!(in alloc; "{instr} at {place}")?)
+    /// The instruction at an address, with the address.
+    pub fn instr_at(&self, address: u16) -> PlacedInstr<'w> {
+        PlacedInstr {
+            instr: self.instr(address),
+            place: self.place(address),
+        }
     }
 
     /// Addresses, with their labels, at most eight.
@@ -91,39 +76,99 @@ impl<'w> Wording<'w> {
             if count > 0 {
                 text.push_str(", ")?;
             }
-            text.push_str(self.place(*address)?.as_str())?;
+            write!(text, "{}", self.place(*address))?;
         }
         Ok(text)
     }
+}
 
-    /// A range of words: `4000` or `4000..FFFF`.
-    ///
-    /// # Errors
-    ///
-    /// `NoMemory` where memory was refused.
-    pub fn words(&self, range: WordRange) -> Result<String, FlowFault> {
-        let alloc = self.alloc;
-        let (low, high) = (range.low(), range.high());
-        Ok(if low == high {
-            format!(in alloc; "{low:04X}")?
-        } else {
-            format!(in alloc; "{low:04X}..{high:04X}")?
-        })
+/// An instruction as a text: in the manual's spelling, with a name in the place of its number where there is one.
+#[derive(Drop)]
+pub struct NamedInstr<'w> {
+    /// None where the bytes are no instruction.
+    text: Option<InstrText>,
+    name: Option<&'w str>,
+}
+
+impl fmt::Display for NamedInstr<'_> {
+    fn fmt<W: fmt::Write>(&self, f: &mut fmt::Formatter<W>) -> fmt::Result {
+        match (&self.text, self.name) {
+            (Some(text), Some(name)) => {
+                let (before, after) = (text.before(), text.after());
+                write!(f, "{before}{name}{after}")
+            }
+            (Some(text), None) => write!(f, "{text}"),
+            (None, _) => write!(f, "no instruction"),
+        }
+    }
+}
+
+/// An instruction with its address. As a text it is `LD HL,4000h at 0003`.
+#[derive(Drop)]
+pub struct PlacedInstr<'w> {
+    instr: NamedInstr<'w>,
+    place: NamedAddress<'w>,
+}
+
+impl fmt::Display for PlacedInstr<'_> {
+    fn fmt<W: fmt::Write>(&self, f: &mut fmt::Formatter<W>) -> fmt::Result {
+        write!(f, "{} at {}", self.instr, self.place)
+    }
+}
+
+/// A range as a text: `4000` or `4000..FFFF`, with two digits where it has eight bits.
+#[derive(Clone, Copy)]
+pub struct RangeText {
+    low: u16,
+    high: u16,
+    is_byte: bool,
+}
+
+impl RangeText {
+    pub fn words(range: WordRange) -> RangeText {
+        RangeText {
+            low: range.low(),
+            high: range.high(),
+            is_byte: false,
+        }
     }
 
-    /// A range of bytes: `05` or `00..1F`.
-    ///
-    /// # Errors
-    ///
-    /// `NoMemory` where memory was refused.
-    pub fn bytes(&self, range: ByteRange) -> Result<String, FlowFault> {
-        let alloc = self.alloc;
-        let (low, high) = (range.low(), range.high());
-        Ok(if low == high {
-            format!(in alloc; "{low:02X}")?
-        } else {
-            format!(in alloc; "{low:02X}..{high:02X}")?
-        })
+    pub fn bytes(range: ByteRange) -> RangeText {
+        RangeText {
+            low: u16::from(range.low()),
+            high: u16::from(range.high()),
+            is_byte: true,
+        }
+    }
+
+    /// The range of a variable.
+    pub fn of(variable: &Variable, range: WordRange) -> RangeText {
+        let is_byte = matches!(
+            variable,
+            Variable::A
+                | Variable::B
+                | Variable::C
+                | Variable::D
+                | Variable::E
+                | Variable::H
+                | Variable::L
+        );
+        RangeText {
+            is_byte,
+            ..RangeText::words(range)
+        }
+    }
+}
+
+impl fmt::Display for RangeText {
+    fn fmt<W: fmt::Write>(&self, f: &mut fmt::Formatter<W>) -> fmt::Result {
+        let (low, high) = (self.low, self.high);
+        match (self.is_byte, low == high) {
+            (true, true) => write!(f, "{low:02X}"),
+            (true, false) => write!(f, "{low:02X}..{high:02X}"),
+            (false, true) => write!(f, "{low:04X}"),
+            (false, false) => write!(f, "{low:04X}..{high:04X}"),
+        }
     }
 }
 
@@ -132,46 +177,12 @@ pub(crate) fn pair_name(pair: RegPair) -> &'static str {
     str::from_utf8(pair.name()).unwrap_or("")
 }
 
-/// A range of a variable, with two digits where it has eight bits.
-///
-/// # Errors
-///
-/// `NoMemory` where memory was refused.
-pub fn value_text(
-    with: &Wording,
-    variable: &Variable,
-    range: WordRange,
-) -> Result<String, FlowFault> {
-    let alloc = with.alloc;
-    let is_byte = matches!(
-        variable,
-        Variable::A
-            | Variable::B
-            | Variable::C
-            | Variable::D
-            | Variable::E
-            | Variable::H
-            | Variable::L
-    );
-    let (low, high) = (range.low(), range.high());
-    if !is_byte {
-        return with.words(range);
-    }
-    Ok(if low == high {
-        format!(in alloc; "{low:02X}")?
-    } else {
-        format!(in alloc; "{low:02X}..{high:02X}")?
-    })
-}
-
 /// Adds a line, indented by two blanks.
 ///
 /// # Errors
 ///
 /// `NoMemory` where memory was refused.
-pub fn add_line(text: &mut String, line: &str) -> Result<(), FlowFault> {
-    text.push_str("  ")?;
-    text.push_str(line)?;
-    text.push_str("\n")?;
+pub fn add_line(text: &mut String, line: impl fmt::Display + Drop) -> Result<(), FlowFault> {
+    writeln!(text, "  {line}")?;
     Ok(())
 }

@@ -1,6 +1,6 @@
 // What a refused data write does: reasons 6, 7, 8, 15, 16, 21 and 22.
 
-use crate::wording::{Wording, add_line};
+use crate::wording::{RangeText, Wording, add_line};
 use abs_draft::DataWrite;
 use abs_step::Reason;
 use address_map::{RamKind, WriteUse, Zone};
@@ -77,25 +77,22 @@ fn add_place(
     reason: Reason,
     write: &DataWrite,
 ) -> Result<(), FlowFault> {
-    let alloc = with.alloc;
-    let at = with.words(write.at)?;
+    let at = RangeText::words(write.at);
     let allowed = allowed_here(with, situation)?;
-    add_line(
-        text,
-        format!(in alloc; "writes {at}; allowed here {allowed}")?.as_str(),
-    )?;
+    add_line(text, format_args!("writes {at}; allowed here {allowed}"))?;
     if reason == Reason::StackOverwrite {
         let region = situation.task.said().region();
         let (low, last) = (region.low, region.top.saturating_sub(1));
-        let line = if situation.place.proc == MAIN {
-            let bytes = situation.state.shape.bytes();
-            format!(in alloc;
+        if situation.place.proc != MAIN {
+            return add_line(text, format_args!("the stack has {low:04X}-{last:04X}"));
+        }
+        let bytes = situation.state.shape.bytes();
+        add_line(
+            text,
+            format_args!(
                 "the stack has {low:04X}-{last:04X}; main may write there with nothing on the stack: here {bytes} bytes are"
-            )?
-        } else {
-            format!(in alloc; "the stack has {low:04X}-{last:04X}")?
-        };
-        add_line(text, line.as_str())?;
+            ),
+        )?;
     }
     Ok(())
 }
@@ -112,16 +109,16 @@ fn allowed_here(with: &Wording, situation: &Situation) -> Result<String, FlowFau
         };
         let is_cut = !has_no_stack && first <= region.low && region.top <= last.saturating_add(1);
         if !is_cut {
-            text.push_str(format!(in alloc; "{first:04X}-{last:04X} ")?.as_str())?;
+            write!(text, "{first:04X}-{last:04X} ")?;
             continue;
         }
         if first < region.low {
             let before = region.low.saturating_sub(1);
-            text.push_str(format!(in alloc; "{first:04X}-{before:04X} ")?.as_str())?;
+            write!(text, "{first:04X}-{before:04X} ")?;
         }
         if region.top <= last {
             let top = region.top;
-            text.push_str(format!(in alloc; "{top:04X}-{last:04X} ")?.as_str())?;
+            write!(text, "{top:04X}-{last:04X} ")?;
         }
     }
     text.push_str("and the latches")?;
@@ -165,22 +162,26 @@ fn add_enabling(
     reason: Reason,
     write: &DataWrite,
 ) -> Result<(), FlowFault> {
-    let alloc = with.alloc;
-    let (at, bytes) = (with.words(write.at)?, with.bytes(write.byte)?);
+    let (at, bytes) = (RangeText::words(write.at), RangeText::bytes(write.byte));
     let enable = enable_in(situation, write);
     let odd = if write.byte.low() == write.byte.high() {
         "is odd"
     } else {
         "may be odd"
     };
-    let line = if write.at.low() == write.at.high() {
-        format!(in alloc; "writes {bytes} to {at}, the NMI enable, and the byte {odd}")?
+    if write.at.low() == write.at.high() {
+        add_line(
+            text,
+            format_args!("writes {bytes} to {at}, the NMI enable, and the byte {odd}"),
+        )?;
     } else {
-        format!(in alloc;
-            "writes {bytes} to {at}; the NMI enable {enable:04X} is in it, and the byte {odd}"
-        )?
-    };
-    add_line(text, line.as_str())?;
+        add_line(
+            text,
+            format_args!(
+                "writes {bytes} to {at}; the NMI enable {enable:04X} is in it, and the byte {odd}"
+            ),
+        )?;
+    }
     match reason {
         Reason::NmiBeforeStack => add_line(text, "no LD SP,nn stands before it: SP is unset here"),
         Reason::NmiMissing => add_line(
@@ -193,19 +194,18 @@ fn add_enabling(
 
 /// Adds the first cell that is not stored yet.
 fn add_unarmed(text: &mut String, with: &Wording, situation: &Situation) -> Result<(), FlowFault> {
-    let alloc = with.alloc;
     let cells = situation.task.cells();
     let armed = usize::from(situation.state.armed);
     let Some(cell) = cells.get(armed) else {
         return Ok(());
     };
     let (number, count) = (armed.saturating_add(1), cells.len());
-    let (place, range) = (with.place(cell.at)?, with.bytes(cell.range)?);
+    let (place, range) = (with.place(cell.at), RangeText::bytes(cell.range));
     add_line(
         text,
-        format!(in alloc;
+        format_args!(
             "cell {number} of {count}, {place}, is not stored yet: a store to this one address of a byte in {range}, after the cells before it"
-        )?.as_str(),
+        ),
     )
 }
 
@@ -216,18 +216,15 @@ fn add_cell_range(
     situation: &Situation,
     write: &DataWrite,
 ) -> Result<(), FlowFault> {
-    let alloc = with.alloc;
     let map = situation.task.map();
     let ground = situation.task.ground();
-    let (at, bytes) = (with.words(write.at)?, with.bytes(write.byte)?);
+    let (at, bytes) = (RangeText::words(write.at), RangeText::bytes(write.byte));
     for cell in ground.armed(situation.state.armed) {
         if map.some_at_cell(write.at, cell.at) && !holds(cell.range, write.byte) {
-            let (place, range) = (with.place(cell.at)?, with.bytes(cell.range)?);
+            let (place, range) = (with.place(cell.at), RangeText::bytes(cell.range));
             return add_line(
                 text,
-                format!(in alloc;
-                    "may store {bytes} to {at}; the cell {place} keeps {range}"
-                )?.as_str(),
+                format_args!("may store {bytes} to {at}; the cell {place} keeps {range}"),
             );
         }
     }

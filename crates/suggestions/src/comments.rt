@@ -51,7 +51,7 @@ impl<'c, 'e> Evidence<'c, 'e> {
                 if load != last {
                     let mark = if last.is_none() { ": since " } else { ", " };
                     let load = self.shown(at)?;
-                    text.push_str(format!(in alloc; "{mark}{load}")?.as_str())?;
+                    write!(text, "{mark}{load}")?;
                 }
                 last = load;
             }
@@ -88,7 +88,7 @@ impl<'c, 'e> Evidence<'c, 'e> {
         for at in self.stores_in(cell.at)? {
             let mark = if is_first { " " } else { ", " };
             let shown = self.shown(at)?;
-            text.push_str(format!(in alloc; "{mark}{shown}")?.as_str())?;
+            write!(text, "{mark}{shown}")?;
             is_first = false;
         }
         text.push_str("\n")?;

@@ -142,11 +142,11 @@ fn add_keys(
     let alloc = lines.alloc;
     if !has.contains(&"low") {
         let low = lines.stack_end(found.base.region.low)?;
-        text.push_str(format!(in alloc; "low = {low}\n")?.as_str())?;
+        write!(text, "low = {low}\n")?;
     }
     if !has.contains(&"top") {
         let top = lines.stack_end(found.base.region.top)?;
-        text.push_str(format!(in alloc; "top = {top}\n")?.as_str())?;
+        write!(text, "top = {top}\n")?;
     }
     if !has.contains(&"nmi") {
         text.push_str(if found.base.budget.is_some() {
@@ -156,11 +156,11 @@ fn add_keys(
         })?;
     }
     if let (Some(budget), false) = (found.base.budget, has.contains(&"budget")) {
-        text.push_str(format!(in alloc; "budget = {budget}\n")?.as_str())?;
+        write!(text, "budget = {budget}\n")?;
     }
     if found.base.board != BoardMap::Galaxian && !has.contains(&"map") {
         let name = str::from_utf8(found.base.board.name()).unwrap_or("");
-        text.push_str(format!(in alloc; "map = \"{name}\"\n")?.as_str())?;
+        write!(text, "map = \"{name}\"\n")?;
     }
     Ok(())
 }
@@ -170,10 +170,10 @@ fn add_refusals(text: &mut String, evidence: &Evidence) -> Result<(), FlowFault>
     let alloc = evidence.alloc;
     for address in evidence.found.stuck.as_slice() {
         let here = evidence.shown(*address)?;
-        text.push_str(format!(in alloc; "\n# refused: {here}")?.as_str())?;
+        write!(text, "\n# refused: {here}")?;
         if let Some(reason) = evidence.reason_at(*address) {
             let name = str::from_utf8(reason.name()).unwrap_or("");
-            text.push_str(format!(in alloc; " [{} {name}]", reason.number())?.as_str())?;
+            write!(text, " [{} {name}]", reason.number())?;
         }
         text.push_str("\n")?;
     }
