@@ -5,12 +5,11 @@ ghost use Rattle.texts.specs.Device.{HasFailed, CountsNoFailure};
 
 use crate::explained::add_explanation;
 use crate::listings::add_listing;
-use crate::members::{Members, text_value};
+use crate::members::{Items, Members};
 use crate::runs::add_run;
 use crate::verdicts::{add_refusal, add_verdict};
 use crate::walks::add_walk;
 use command_parts::ExitStatus;
-use serde_json::Value;
 use std::alloc::{AllocError, Global};
 use symbols::Symbols;
 use texts::{Sink, put};
@@ -92,22 +91,19 @@ pub fn write_document<W: Sink>(alloc: Global, told: Told, out: &mut W) -> u8
 /// The text of the document, with its line feed.
 fn document_of(alloc: Global, told: Told) -> Result<String, AllocError> {
     let mut members = Members::new(alloc);
-    members.number("version", Some(VERSION))?;
-    members.text("command", told.command.name())?;
-    members.number("status", Some(u64::from(told.status)))?;
-    let text = str::from_utf8(told.text).unwrap_or("");
-    add_answer(&mut members, told, text)?;
-    let warnings = lines_of(alloc, told.notes)?;
-    members.array("warnings", warnings)?;
-    let symbols = symbols_of(alloc, told.symbols)?;
-    members.array("symbols", symbols)?;
-    let mut document = members.value().to_string(alloc)?;
+    members.number("version", Some(VERSION));
+    members.text("command", told.command.name());
+    members.number("status", Some(u64::from(told.status)));
+    add_answer(&mut members, told, str::from_utf8(told.text).unwrap_or(""));
+    members.array("warnings", lines_of(alloc, told.notes));
+    members.array("symbols", symbols_of(alloc, told.symbols));
+    let mut document = members.into_value()?.to_string(alloc)?;
     document.push_str("\n")?;
     Ok(document)
 }
 
 /// Adds what a command answered.
-fn add_answer(members: &mut Members, told: Told, text: &str) -> Result<(), AllocError> {
+fn add_answer(members: &mut Members, told: Told, text: &str) {
     let is_done = told.status == ExitStatus::Done.code();
     match told.command {
         Command::Check | Command::Verify => add_verdict(members, text),
@@ -121,38 +117,37 @@ fn add_answer(members: &mut Members, told: Told, text: &str) -> Result<(), Alloc
 }
 
 /// Adds a file of annotations, or why there is none.
-fn add_suggestion(members: &mut Members, is_done: bool, text: &str) -> Result<(), AllocError> {
+fn add_suggestion(members: &mut Members, is_done: bool, text: &str) {
     if is_done {
-        members.text("verdict", "accepted")?;
+        members.text("verdict", "accepted");
     } else {
-        members.text("verdict", "refused")?;
-        add_refusal(members, text.lines().next().unwrap_or(""))?;
+        members.text("verdict", "refused");
+        add_refusal(members, text.lines().next().unwrap_or(""));
     }
     if text.lines().count() > 1 {
-        members.text("annotations", text)?;
+        members.text("annotations", text);
     }
-    Ok(())
 }
 
 /// The lines of a text. A byte that is no text ends it.
-fn lines_of(alloc: Global, bytes: &[u8]) -> Result<Vec<Value>, AllocError> {
-    let mut lines = Vec::new(alloc);
+fn lines_of(alloc: Global, bytes: &[u8]) -> Items {
+    let mut lines = Items::new(alloc);
     for line in str::from_utf8(bytes).unwrap_or("").lines() {
-        lines.push(text_value(alloc, line)?)?;
+        lines.text(line);
     }
-    Ok(lines)
+    lines
 }
 
 /// The names and the values of symbols.
-fn symbols_of(alloc: Global, symbols: Option<&Symbols>) -> Result<Vec<Value>, AllocError> {
-    let mut named = Vec::new(alloc);
+fn symbols_of(alloc: Global, symbols: Option<&Symbols>) -> Items {
+    let mut named = Items::new(alloc);
     if let Some(symbols) = symbols {
         for name in symbols.names() {
             let mut symbol = Members::new(alloc);
-            symbol.text("name", name.as_str())?;
-            symbol.number("value", symbols.value_of(name.as_str()).map(u64::from))?;
-            named.push(symbol.value())?;
+            symbol.text("name", name.as_str());
+            symbol.number("value", symbols.value_of(name.as_str()).map(u64::from));
+            named.object(symbol);
         }
     }
-    Ok(named)
+    named
 }

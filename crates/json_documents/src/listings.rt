@@ -1,9 +1,8 @@
 // The lines of a listing (docs/LISTING.md).
 
-use crate::members::{Members, text_value};
+use crate::members::{Items, Members};
 use crate::words::{Words, address, columns};
-use serde_json::Value;
-use std::alloc::{AllocError, Global};
+use std::alloc::Global;
 
 /// Where the columns of an instruction's line begin.
 const BYTES: usize = 6;
@@ -13,42 +12,42 @@ const INSTRUCTION: usize = 19;
 const COSTS: usize = 43;
 
 /// Adds the lines of a listing: of each instruction its columns, and the texts that stand between the instructions.
-pub(crate) fn add_listing(members: &mut Members, text: &str) -> Result<(), AllocError> {
+pub(crate) fn add_listing(members: &mut Members, text: &str) {
     let alloc = members.alloc();
-    members.text("verdict", "accepted")?;
-    let mut lines = Vec::new(alloc);
+    members.text("verdict", "accepted");
+    let mut lines = Items::new(alloc);
     // The first line names the columns.
     for line in text.lines().skip(1) {
         if line.is_empty() {
             continue;
         }
         match address(columns(line, 0, BYTES)) {
-            Some(at) => lines.push(instruction_of(alloc, at, line)?)?,
-            None => add_more(&mut lines, alloc, line)?,
+            Some(at) => lines.object(instruction_of(alloc, at, line)),
+            None => add_more(&mut lines, alloc, line),
         }
     }
-    members.array("lines", lines)
+    members.array("lines", lines);
 }
 
 /// The line of an instruction, or of bytes that are never reached.
-fn instruction_of(alloc: Global, at: u64, line: &str) -> Result<Value, AllocError> {
+fn instruction_of(alloc: Global, at: u64, line: &str) -> Members {
     let mut columns_of = Members::new(alloc);
-    columns_of.number("address", Some(at))?;
+    columns_of.number("address", Some(at));
     let rest = columns(line, BYTES, usize::MAX);
     if rest.starts_with(';') || rest.starts_with("DEFB") {
-        columns_of.text("text", rest)?;
-        return Ok(columns_of.value());
+        columns_of.text("text", rest);
+        return columns_of;
     }
-    columns_of.text("bytes", columns(line, BYTES, INSTRUCTION))?;
-    columns_of.text("instruction", columns(line, INSTRUCTION, COSTS))?;
+    columns_of.text("bytes", columns(line, BYTES, INSTRUCTION));
+    columns_of.text("instruction", columns(line, INSTRUCTION, COSTS));
     let mut words = Words::of(columns(line, COSTS, usize::MAX));
     let (taken, other) = costs_of(words.word());
-    columns_of.number("taken", taken)?;
-    columns_of.number("not_taken", other)?;
-    columns_of.number("left", words.decimal())?;
-    columns_of.text("stack", words.word())?;
-    columns_of.text("known", words.rest())?;
-    Ok(columns_of.value())
+    columns_of.number("taken", taken);
+    columns_of.number("not_taken", other);
+    columns_of.number("left", words.decimal());
+    columns_of.text("stack", words.word());
+    columns_of.text("known", words.rest());
+    columns_of
 }
 
 /// The T-states of an instruction, if it is taken or repeats and if not: `12/7`, or one number for both.
@@ -60,14 +59,13 @@ fn costs_of(text: &str) -> (Option<u64>, Option<u64>) {
 }
 
 /// Adds a line that begins with no address: a text of its own.
-fn add_more(lines: &mut Vec<Value>, alloc: Global, line: &str) -> Result<(), AllocError> {
+fn add_more(lines: &mut Items, alloc: Global, line: &str) {
     let mut more = Members::new(alloc);
     let name = if line.starts_with(' ') {
         "more"
     } else {
         "text"
     };
-    more.put(name, text_value(alloc, line.trim())?)?;
-    lines.push(more.value())?;
-    Ok(())
+    more.text(name, line.trim());
+    lines.object(more);
 }

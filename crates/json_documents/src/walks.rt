@@ -1,75 +1,73 @@
 // Where the T-states of a procedure go (docs/LONGEST.md).
 
-use crate::members::Members;
+use crate::members::{Items, Members};
 use crate::words::{Words, decimal};
-use serde_json::Value;
-use std::alloc::{AllocError, Global};
+use std::alloc::Global;
 
 /// Adds the lines of `longest`: the procedure, the items of its way, and the totals.
-pub(crate) fn add_walk(members: &mut Members, text: &str) -> Result<(), AllocError> {
+pub(crate) fn add_walk(members: &mut Members, text: &str) {
     let alloc = members.alloc();
-    members.text("verdict", "accepted")?;
+    members.text("verdict", "accepted");
     let mut lines = text.lines();
     let heading = lines.next().unwrap_or("");
-    let procedure = procedure_of(alloc, heading)?;
-    members.object("procedure", procedure)?;
-    let mut items = Vec::new(alloc);
-    let mut totals = Vec::new(alloc);
+    members.object("procedure", procedure_of(alloc, heading));
+    let mut items = Items::new(alloc);
+    let mut totals = Items::new(alloc);
     let mut in_totals = false;
     for line in lines {
         if line.trim_start().starts_with("times ") {
             in_totals = true;
         } else if in_totals {
-            totals.push(total_of(alloc, line)?)?;
+            totals.object(total_of(alloc, line));
         } else if !line.is_empty() && !line.starts_with("addr") {
-            items.push(item_of(alloc, line)?)?;
+            items.object(item_of(alloc, line));
         }
     }
-    members.array("items", items)?;
-    members.array("procedures", totals)
+    members.array("items", items);
+    members.array("procedures", totals);
 }
 
 /// The procedure of the first line: `sub 03AB moveactors: 3068 T-states`, `untimed 0000`, or `nmi none`.
-fn procedure_of(alloc: Global, line: &str) -> Result<Members, AllocError> {
+fn procedure_of(alloc: Global, line: &str) -> Members {
     let mut procedure = Members::new(alloc);
     let mut words = Words::of(line);
     let kind = words.word();
-    procedure.text("kind", kind)?;
-    procedure.number("entry", words.address())?;
+    procedure.text("kind", kind);
+    procedure.number("entry", words.address());
     if let Some((name, times)) = words.rest().rsplit_once(": ") {
-        procedure.text("name", name)?;
+        procedure.text("name", name);
         let mut words = Words::of(times);
-        procedure.number("time", words.decimal())?;
+        procedure.number("time", words.decimal());
         if words.word() == "of" {
-            procedure.number("budget", words.decimal())?;
+            procedure.number("budget", words.decimal());
         }
     }
-    Ok(procedure)
+    procedure
 }
 
 /// An item of the way: its T-states, if it has its own, and its text. The items of a fold follow it and have none.
-fn item_of(alloc: Global, line: &str) -> Result<Value, AllocError> {
+fn item_of(alloc: Global, line: &str) -> Members {
     let mut item = Members::new(alloc);
     let mut words = Words::of(line);
     match decimal(words.word()) {
         Some(time) if line.starts_with(' ') && !line.starts_with("         ") => {
-            item.number("time", Some(time))?;
-            item.text("text", words.rest())?;
+            item.number("time", Some(time));
+            item.text("text", words.rest());
         }
-        _ => item.text("text", line.trim())?,
+        _ => item.text("text", line.trim()),
     }
-    Ok(item.value())
+    item
 }
 
 /// The T-states of a procedure in the whole way.
-fn total_of(alloc: Global, line: &str) -> Result<Value, AllocError> {
+fn total_of(alloc: Global, line: &str) -> Members {
     let mut total = Members::new(alloc);
     let mut words = Words::of(line);
-    total.number("times", words.decimal())?;
-    total.number("own", words.decimal())?;
-    total.number("loops", words.decimal())?;
-    total.number("each", words.decimal())?;
-    total.number("entry", words.address())?;
-    total.text("name", words.rest())?;
-    Ok(total.value())
+    total.number("times", words.decimal());
+    total.number("own", words.decimal());
+    total.number("loops", words.decimal());
+    total.number("each", words.decimal());
+    total.number("entry", words.address());
+    total.text("name", words.rest());
+    total
 }
