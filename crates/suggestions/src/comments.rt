@@ -8,7 +8,7 @@ use analysis::FlowFault;
 use annotations::{FactNote, LoopNote, SplitNote};
 use named_annotations::{register_name, variable_name};
 
-impl<'c, 'e> Evidence<'c, 'e> {
+impl<'c, 'e, 'r> Evidence<'c, 'e, 'r> {
     /// The comment above an entry, with its line feed.
     pub(crate) fn comment(&self, entry: &FileEntry) -> Result<String, FlowFault> {
         let alloc = self.alloc;

@@ -21,15 +21,15 @@ const STORES: usize = 4;
 
 /// What the comments of a file are made of.
 #[derive(Drop)]
-pub(crate) struct Evidence<'c, 'e> {
+pub(crate) struct Evidence<'c, 'e, 'r> {
     pub(crate) alloc: Global,
     pub(crate) symbols: &'c Symbols,
     context: &'c SearchContext<'e>,
-    pub(crate) found: &'e Inference<'e, 'e>,
+    pub(crate) found: &'e Inference<'r, 'e>,
     graph: FlowGraph,
 }
 
-impl<'c, 'e> Evidence<'c, 'e> {
+impl<'c, 'e, 'r> Evidence<'c, 'e, 'r> {
     /// The evidence for what was found in a context.
     ///
     /// # Errors
@@ -39,8 +39,8 @@ impl<'c, 'e> Evidence<'c, 'e> {
         alloc: Global,
         symbols: &'c Symbols,
         context: &'c SearchContext<'e>,
-        found: &'e Inference<'e, 'e>,
-    ) -> Result<Evidence<'c, 'e>, FlowFault> {
+        found: &'e Inference<'r, 'e>,
+    ) -> Result<Evidence<'c, 'e, 'r>, FlowFault> {
         let edges = found.explored.edges(alloc, context)?;
         Ok(Evidence {
             alloc,

@@ -38,11 +38,11 @@ pub enum Suggested {
 /// # Errors
 ///
 /// `NoMemory` where memory was refused.
-pub fn suggestion<'s>(
+pub fn suggestion<'s, 'r>(
     alloc: Global,
     rom: &'s Rom<'s>,
     map: &'s Map,
-    found: &'s Inference<'s, 's>,
+    found: &'s Inference<'r, 's>,
     suggested: &Suggested,
     symbols: &Symbols,
     annot: &[u8],
