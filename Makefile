@@ -1,7 +1,7 @@
 PREFIX ?= /usr/local
 SIX = examples/six-bytes/six
 
-.PHONY: all test edits install uninstall clean
+.PHONY: all try test edits install uninstall clean
 
 all: galcert
 	@echo "== the six-byte example: its verdict with a certificate, the certificate's, and a run of three events"
@@ -14,6 +14,11 @@ galcert: crates.txt $(shell find crates -name '*.rt' -o -name '*.antt' | grep -v
 	@echo "== proving what galcert stands on, and building it; the first time may take more than an hour"
 	tools/prove.py galcert verify ../../$(SIX).rom ../../$(SIX).cert
 	cp crates/galcert/out/galcert galcert
+
+# The verdict of the six-byte example before any proof, after minutes. This proves nothing.
+try:
+	cd crates/galcert && ../../tools/rt try --data six.rom=../../$(SIX).rom --data six.toml=../../$(SIX).toml \
+		-- check six.rom six.toml
 
 # The gate. First the scripts that take seconds: the trusted definitions stand where their heads say, and each name stands
 # for one thing. Then `rt ci`: every proof from nothing, the edits that the prover must refuse, the tests and the stored
