@@ -165,6 +165,7 @@ impl Flow {
         &self.entries
     }
 
+    /// Whether a procedure, by its number, is timed.
     pub fn is_timed(&self, proc: u32) -> bool {
         self.timed.contains(&proc)
     }
@@ -179,8 +180,7 @@ impl Flow {
         None
     }
 
-    /// A state comes to an address of a procedure. At a split it comes to each part that it has something of, cut to
-    /// it.
+    /// A state comes to an address of a procedure. At a split it comes, cut, to each part that it has something of.
     fn arrive(
         &mut self,
         task: &Task,

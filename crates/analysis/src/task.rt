@@ -62,12 +62,14 @@ impl<'a> Task<'a> {
         self.version
     }
 
+    /// The ROM.
     pub fn rom(&self) -> &'a Rom<'a>
         ensures { result.now ≡ self.now.rom }
     {
         self.rom
     }
 
+    /// The map of the ROM's board.
     pub fn map(&self) -> &'a Map
         ensures value { result.now ≡ self.now.map }
         ensures len { result.now.rom_len ≡ length self.now.rom }
@@ -75,6 +77,7 @@ impl<'a> Task<'a> {
         self.map
     }
 
+    /// What the annotations say.
     pub fn said(&self) -> &'a Annotations {
         self.said
     }

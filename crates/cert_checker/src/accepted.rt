@@ -99,6 +99,7 @@ impl<'r> Accepted<'r> {
         })
     }
 
+    /// The certificate that was accepted.
     pub fn certificate(&self) -> &Certificate
         ensures value { result.now ≡ self.now.certificate }
         ensures accepted { Accepts self.now.rom result.now }
@@ -106,6 +107,7 @@ impl<'r> Accepted<'r> {
         &self.certificate
     }
 
+    /// The certificate that was accepted, without the rest.
     pub fn into_certificate(self) -> Certificate
         ensures { result ≡ self.entry.certificate }
     {

@@ -21,6 +21,7 @@ impl Certificate {
         Some(self.proc(id)?.kind)
     }
 
+    /// The address of a procedure's entry.
     pub fn entry(&self, id: ProcId) -> Option<u16>
         ensures { result ≡ option_map (λ proc. proc.entry) (slice_get self.now.procs id) }
     {
@@ -49,6 +50,7 @@ impl Certificate {
         Some(self.proc(id)?.time)
     }
 
+    /// The number of the procedure to which a row belongs.
     pub fn proc_of(&self, id: RowId) -> Option<ProcId>
         ensures { result ≡ option_map (λ row. row.proc) (slice_get self.now.rows id) }
     {

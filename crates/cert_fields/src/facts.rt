@@ -41,6 +41,7 @@ impl Model for Facts {
 }
 
 impl Facts {
+    /// No facts.
     pub fn none() -> Facts
         ensures { result ≡ [] }
     {

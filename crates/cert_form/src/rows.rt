@@ -105,6 +105,7 @@ impl Model for Rows {
 }
 
 impl Rows {
+    /// No rows. Those that are added take their memory from this allocator.
     pub fn new(alloc: Global) -> Rows
         ensures { result ≡ [] }
     {
@@ -115,6 +116,7 @@ impl Rows {
         }
     }
 
+    /// The number of rows.
     pub fn len(&self) -> usize
         ensures { result ≡ length self.now }
     {

@@ -11,6 +11,7 @@ pub struct ShapeNumbers {
 }
 
 impl ShapeNumbers {
+    /// The numbers before any shape occurred. Those that are added take their memory from this allocator.
     pub fn new(alloc: Global) -> ShapeNumbers {
         ShapeNumbers {
             numbers: HashMap::new(alloc),

@@ -23,6 +23,7 @@ impl Model for Shapes {
 }
 
 impl Shapes {
+    /// No shapes. Those that are added take their memory from this allocator.
     pub fn new(alloc: Global) -> Shapes
         ensures { result ≡ [] }
     {

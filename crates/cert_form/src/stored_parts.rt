@@ -25,6 +25,7 @@ impl Model for StoredParts {
 }
 
 impl StoredParts {
+    /// Number 0 alone, which stands for no parts. Others that are added take their memory from this allocator.
     pub fn new(alloc: Global) -> StoredParts
         ensures { result ≡ [] ∷ [] }
     {

@@ -47,6 +47,7 @@ pub struct RowPlace {
 }
 
 impl Row {
+    /// What decides whether the row may come next.
     pub fn place(&self) -> RowPlace
         ensures { result ≡ place_of self.now }
     {

@@ -13,6 +13,11 @@ use std::alloc::Global;
 use texts::{Sink, Source, put};
 
 /// Reads a certificate. If the text is none, the line that reports it is written.
+///
+/// # Errors
+///
+/// `Refused` where the text is no certificate, `Device` where a device failed, and `OutOfMemory` where memory was
+/// refused.
 pub fn read_certificate<B: Source, W: Sink>(
     alloc: Global,
     cert: &mut B,
@@ -51,6 +56,11 @@ pub fn read_certificate<B: Source, W: Sink>(
 }
 
 /// Reads a certificate and checks it for a ROM. If it is not accepted, the line that reports it is written.
+///
+/// # Errors
+///
+/// `Refused` where the text is no certificate, or it is not accepted, `Device` where a device failed, and `OutOfMemory`
+/// where memory was refused.
 pub fn judge<'r, B: Source, W: Sink>(
     alloc: Global,
     rom: &'r [u8],

@@ -17,6 +17,10 @@ const CHUNK_LEN: usize = 4096;
 const ROM_READ_LEN: usize = ROM_LIMIT as usize + 1;
 
 /// Reads the ROM's file up to its 16,385th byte.
+///
+/// # Errors
+///
+/// `Device` where the file cannot be read, and `OutOfMemory` where memory was refused.
 pub fn read_rom<R: Source>(alloc: Global, rom: &mut R) -> Result<Vec<u8>, Stop>
     ensures first { IfOk result (λ bytes. FirstBytes 16385 (R.state rom.old).bytes bytes.items) }
     ensures device { result ≡ Err Stop.Device → HasFailed (R.state rom.old) (R.state rom.new) }
@@ -40,6 +44,11 @@ pub fn read_rom<R: Source>(alloc: Global, rom: &mut R) -> Result<Vec<u8>, Stop>
     Ok(bytes)
 }
 
+/// Reads all bytes of a file.
+///
+/// # Errors
+///
+/// `Device` where the file cannot be read, and `OutOfMemory` where memory was refused.
 pub fn read_all<B: Source>(alloc: Global, file: &mut B) -> Result<Vec<u8>, Stop>
     ensures all { IfOk result (λ bytes. OfBytes (B.state file.old).bytes (λ all. all ≡ bytes.items)) }
     ensures device { result ≡ Err Stop.Device → HasFailed (B.state file.old) (B.state file.new) }

@@ -9,6 +9,10 @@ use command_verdicts::{refused_line, unbounded_line, write_recursion};
 use texts::{DeviceFault, Sink, put};
 
 /// Writes the line that says why no certificate was made.
+///
+/// # Errors
+///
+/// The sink failed; what it took before stays written.
 pub fn tell_unmade<W: Sink>(fault: &WriterFault, out: &mut W) -> Result<(), DeviceFault>
     ensures told { OnOk result (WritesUnmade Takes (W.state out.old) (W.state out.new)) }
     ensures part { OnErr result (WritesUnmade FailsAmid (W.state out.old) (W.state out.new)) }

@@ -100,6 +100,7 @@ pub struct ColoredLines<W: Sink> {
 }
 
 impl<W: Sink> ColoredLines<W> {
+    /// A sink that passes lines to another one, in color where that is wanted.
     pub fn new(inner: W, is_colored: bool) -> ColoredLines<W> {
         ColoredLines {
             line: LineInColor {

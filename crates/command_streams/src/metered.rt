@@ -17,6 +17,7 @@ pub struct MeteredSource<S: Source, M: Meter> {
 }
 
 impl<S: Source, M: Meter> MeteredSource<S, M> {
+    /// A source over another one, with the meter that it tells of each read.
     pub fn new(source: S, meter: M) -> MeteredSource<S, M> {
         MeteredSource {
             source,
@@ -57,6 +58,7 @@ pub struct MeteredSink<W: Sink, M: Meter> {
 }
 
 impl<W: Sink, M: Meter> MeteredSink<W, M> {
+    /// A sink over another one, with the meter that it tells of each write.
     pub fn new(sink: W, meter: M) -> MeteredSink<W, M> {
         MeteredSink {
             sink,

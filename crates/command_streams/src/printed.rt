@@ -57,6 +57,7 @@ impl<W: Sink> Printed<W> {
         &self.target.device
     }
 
+    /// The other sink, without what was captured.
     pub fn into_device(self) -> W {
         self.target.device
     }
@@ -75,6 +76,10 @@ impl<W: Sink> Printed<W> {
     }
 
     /// Passes on what was captured, and from now on all.
+    ///
+    /// # Errors
+    ///
+    /// The other sink failed; what was captured is lost.
     pub fn release(&mut self) -> Result<(), DeviceFault> {
         match self.target.captured.take() {
             Some(captured) => put(&mut self.target.device, captured.bytes()),

@@ -64,6 +64,7 @@ pub struct Watched<W: Sink> {
 }
 
 impl<W: Sink> Watched<W> {
+    /// A sink over another one, which took nothing so far.
     pub fn new(inner: W) -> Watched<W> {
         Watched {
             inner,

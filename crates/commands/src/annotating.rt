@@ -12,6 +12,10 @@ use std::alloc::Global;
 use texts::{Sink, Source, put};
 
 /// Reads annotations. If they are bad, the line that reports it is written.
+///
+/// # Errors
+///
+/// `Refused` where the annotations are bad, `Device` where a device failed, and `OutOfMemory` where memory was refused.
 pub fn read_annotations<B: Source, W: Sink>(
     alloc: Global,
     annot: &mut B,

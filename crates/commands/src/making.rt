@@ -16,6 +16,10 @@ use texts::Sink;
 
 /// Makes a certificate for a ROM by its annotations, and checks it. If none is made, the line that reports it is
 /// written.
+///
+/// # Errors
+///
+/// `Refused` where no certificate is made, `Device` where a device failed, and `OutOfMemory` where memory was refused.
 pub fn make<'r, W: Sink>(
     alloc: Global,
     rom: &'r [u8],

@@ -32,6 +32,10 @@ pub fn is_about_whole(refusal: &Refusal) -> bool {
 
 /// The numbers that reasons of the whole are about. A remedy that was tried gives those that an accepted certificate
 /// has.
+///
+/// # Errors
+///
+/// `NoMemory` where memory was refused.
 pub fn bounds_of(
     alloc: Global,
     bytes: &[u8],
@@ -81,6 +85,10 @@ fn depths_with(
 }
 
 /// Adds which limit of certificates is exceeded. `explored` is the analysis, where it came to its end.
+///
+/// # Errors
+///
+/// `NoMemory` where memory was refused.
 pub fn add_too_large(
     text: &mut String,
     alloc: Global,

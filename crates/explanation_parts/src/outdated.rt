@@ -25,6 +25,10 @@ pub struct Outdated {
 
 /// The outdated splits of annotations: a state that comes to such a split is in none of its parts, and one of its parts
 /// is for no state. None if there is no such split. The map is for a ROM of this length.
+///
+/// # Errors
+///
+/// `NoMemory` where memory was refused.
 pub fn outdated_in(
     rom: &Rom,
     map: &Map,
@@ -125,6 +129,10 @@ fn add_outdated(
 }
 
 /// What annotations give to a search.
+///
+/// # Errors
+///
+/// `NoMemory` where memory was refused.
 pub fn given_by(alloc: Global, said: &Annotations) -> Result<Given, FlowFault> {
     let mut splits: Vec<SplitNote> = Vec::new(alloc);
     for split in said.splits() {

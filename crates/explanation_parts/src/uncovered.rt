@@ -10,6 +10,10 @@ use named_annotations::variable_name;
 use refusal_texts::{TargetRow, Wording, add_computed, add_line, add_uncovered, jump_pair};
 
 /// Adds the first successor of a row that no row covers, with what is not met there.
+///
+/// # Errors
+///
+/// `NoMemory` where memory was refused.
 pub fn add_not_covered(
     text: &mut String,
     with: &Wording,
@@ -67,6 +71,10 @@ pub fn add_not_covered(
 }
 
 /// Adds the ranks of a caller and a callee.
+///
+/// # Errors
+///
+/// `NoMemory` where memory was refused.
 pub fn add_rank(
     text: &mut String,
     with: &Wording,
@@ -99,6 +107,10 @@ pub fn add_rank(
 }
 
 /// Adds the bytes of stack at a row, and what its procedure has room for.
+///
+/// # Errors
+///
+/// `NoMemory` where memory was refused.
 pub fn add_callee_depth(
     text: &mut String,
     with: &Wording,
@@ -134,6 +146,10 @@ pub fn add_callee_depth(
 }
 
 /// Adds the potential of a row, and those of the rows that may come next.
+///
+/// # Errors
+///
+/// `NoMemory` where memory was refused.
 pub fn add_unpaid(
     text: &mut String,
     with: &Wording,

@@ -31,6 +31,7 @@ fn bit(number: u8) -> u32 {
 }
 
 impl Refusals {
+    /// Whether the reason with this number is among them; 0 is where a state is in no part of a split, or in no row.
     pub fn has(self, number: u8) -> bool {
         self.0 & bit(number) != 0
     }
@@ -219,6 +220,10 @@ impl ExploredPlan {
     }
 
     /// The rows at an address, of a procedure or of all.
+    ///
+    /// # Errors
+    ///
+    /// `NoMemory` where memory was refused.
     pub fn rows_of(
         &self,
         alloc: Global,
@@ -241,6 +246,10 @@ impl ExploredPlan {
     }
 
     /// The procedures with rows at an address, rising.
+    ///
+    /// # Errors
+    ///
+    /// `NoMemory` where memory was refused.
     pub fn procs_at(&self, alloc: Global, address: u16) -> Result<Vec<u32>, FlowFault> {
         let mut procs = Vec::new(alloc);
         for (_, number) in self.rows_at(address) {
@@ -252,6 +261,10 @@ impl ExploredPlan {
     }
 
     /// The steps between the rows.
+    ///
+    /// # Errors
+    ///
+    /// `NoMemory` where memory was refused.
     pub fn edges(&self, alloc: Global, context: &SearchContext) -> Result<Vec<RowEdge>, FlowFault> {
         match context.task(&self.said) {
             Some(task) => self.list.edges(alloc, exploring(&task, &self.guide)),

@@ -40,10 +40,12 @@ impl<'s> SearchContext<'s> {
         }
     }
 
+    /// The ROM.
     pub fn rom(&self) -> &'s Rom<'s> {
         self.rom
     }
 
+    /// What is given to the search.
     pub fn base(&self) -> &'s Base<'s> {
         self.base
     }

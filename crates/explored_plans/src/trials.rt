@@ -50,6 +50,10 @@ pub struct SetAside {
 
 impl<'s> Search<'s> {
     /// A search that begins with an explored plan.
+    ///
+    /// # Errors
+    ///
+    /// `NoMemory` where memory was refused.
     pub fn of(
         alloc: Global,
         context: &'s SearchContext<'s>,
@@ -76,6 +80,10 @@ impl<'s> Search<'s> {
     }
 
     /// Goes on with another explored plan.
+    ///
+    /// # Errors
+    ///
+    /// `NoMemory` where memory was refused.
     pub fn keep(&mut self, explored: Box<ExploredPlan>) -> Result<(), FlowFault> {
         let edges = explored.edges(self.alloc, self.context)?;
         self.graph = FlowGraph::of(self.alloc, &edges)?;
@@ -102,6 +110,10 @@ impl<'s> Search<'s> {
     }
 
     /// Goes on with another explored plan for a while. The result is what `restore` takes.
+    ///
+    /// # Errors
+    ///
+    /// `NoMemory` where memory was refused.
     pub fn exchange(&mut self, explored: Box<ExploredPlan>) -> Result<SetAside, FlowFault> {
         let edges = explored.edges(self.alloc, self.context)?;
         let graph = FlowGraph::of(self.alloc, &edges)?;
@@ -121,6 +133,10 @@ impl<'s> Search<'s> {
 
     /// Whether a move is new; from now on it is not. Where the search repeats moves, one that was tried on a plan with
     /// another number of findings is new too.
+    ///
+    /// # Errors
+    ///
+    /// `NoMemory` where memory was refused.
     pub fn is_new(&mut self, attempt: Attempt) -> Result<bool, FlowFault> {
         let findings = self.explored.plan.findings.len();
         match self.tried.get(&attempt).copied() {
@@ -132,11 +148,16 @@ impl<'s> Search<'s> {
         }
     }
 
+    /// Whether a trial is left.
     pub fn has_trials(&self) -> bool {
         self.left > 0
     }
 
     /// Explores a plan as a trial; None if no trial is left, or it is too large.
+    ///
+    /// # Errors
+    ///
+    /// `NoMemory` where memory was refused.
     pub fn try_plan(&mut self, plan: Plan) -> Result<Option<Box<ExploredPlan>>, FlowFault> {
         if self.left == 0 {
             return Ok(None);
@@ -162,6 +183,10 @@ impl<'s> Search<'s> {
     }
 
     /// The same for a plan that differs in the splits and inline calls at these reaches.
+    ///
+    /// # Errors
+    ///
+    /// `NoMemory` where memory was refused.
     pub fn try_reaches(
         &mut self,
         plan: Plan,
@@ -259,6 +284,10 @@ impl<'s> Search<'s> {
 
     /// Takes a plan that differs in the bounds of loops alone, as a trial. The result is the plan before; None if no
     /// trial is left.
+    ///
+    /// # Errors
+    ///
+    /// `NoMemory` where memory was refused.
     pub fn try_bounds(&mut self, plan: Plan) -> Result<Option<Plan>, FlowFault> {
         if self.left == 0 {
             return Ok(None);
@@ -271,6 +300,10 @@ impl<'s> Search<'s> {
     }
 
     /// Goes back to a plan that differs in the bounds of loops alone.
+    ///
+    /// # Errors
+    ///
+    /// `NoMemory` where memory was refused.
     pub fn set_bounds(&mut self, plan: Plan) -> Result<(), FlowFault> {
         self.explored
             .exchange_bounds(self.alloc, self.context, plan)?;
@@ -278,6 +311,10 @@ impl<'s> Search<'s> {
     }
 
     /// Explores the plan with one more family as a trial.
+    ///
+    /// # Errors
+    ///
+    /// `NoMemory` where memory was refused.
     pub fn try_family(
         &mut self,
         family: Family,
@@ -304,6 +341,10 @@ impl<'s> Search<'s> {
     }
 
     /// The loops of a procedure, those with the fewest addresses first.
+    ///
+    /// # Errors
+    ///
+    /// `NoMemory` where memory was refused.
     pub fn loops(&self, proc: u32) -> Result<Vec<NaturalLoop>, FlowFault> {
         loops_of(self.alloc, &self.graph, proc, entry_of(proc))
     }

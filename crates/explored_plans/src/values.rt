@@ -27,22 +27,26 @@ pub struct ByteSet {
 }
 
 impl ByteSet {
+    /// The set without a byte.
     pub fn empty() -> ByteSet {
         ByteSet { bits: [0; 4] }
     }
 
+    /// Adds a byte.
     pub fn add(&mut self, byte: u8) {
         if let Some(word) = self.bits.get_mut(usize::from(byte / 64)) {
             *word |= 1u64.checked_shl(u32::from(byte % 64)).unwrap_or(0);
         }
     }
 
+    /// Adds each byte of a range.
     pub fn add_range(&mut self, range: ByteRange) {
         for byte in range.low()..=range.high() {
             self.add(byte);
         }
     }
 
+    /// Whether a byte is in the set.
     pub fn contains(&self, byte: u8) -> bool {
         match self.bits.get(usize::from(byte / 64)) {
             Some(word) => word & 1u64.checked_shl(u32::from(byte % 64)).unwrap_or(0) != 0,
@@ -50,6 +54,7 @@ impl ByteSet {
         }
     }
 
+    /// The number of bytes in the set, 0 to 256.
     pub fn len(&self) -> usize {
         let mut count = 0usize;
         for byte in 0..=255u8 {

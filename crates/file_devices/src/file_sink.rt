@@ -36,6 +36,7 @@ pub struct FileSink<'a, R: Files> {
 }
 
 impl<'a, R: Files> FileSink<'a, R> {
+    /// A sink for the file at this path. Nothing is opened before its first write.
     pub fn new(files: &'a R, alloc: Global, path: &'a str) -> FileSink<'a, R> {
         FileSink {
             files,

@@ -39,6 +39,7 @@ pub struct FileSource<'a, R: Files> {
 }
 
 impl<'a, R: Files> FileSource<'a, R> {
+    /// A source for the file at this path. Nothing is opened before its first read.
     pub fn new(files: &'a R, path: &'a str) -> FileSource<'a, R> {
         FileSource {
             files,

@@ -38,10 +38,12 @@ impl<'a, R: Files> Output<'a, R> {
         Output::to(Target::File(FileSink::new(files, alloc, path)))
     }
 
+    /// Standard output.
     pub fn stdout(stdout: Stdout) -> Output<'a, R> {
         Output::to(Target::Stdout(stdout))
     }
 
+    /// Standard error.
     pub fn stderr(stderr: Stderr) -> Output<'a, R> {
         Output::to(Target::Stderr(stderr))
     }
@@ -127,6 +129,7 @@ pub struct SharedOutput<'s, 'a, R: Files> {
 }
 
 impl<'s, 'a, R: Files> SharedOutput<'s, 'a, R> {
+    /// A sink over this output.
     pub fn new(output: &'s RefCell<Output<'a, R>>) -> SharedOutput<'s, 'a, R> {
         SharedOutput {
             output,
@@ -169,6 +172,7 @@ pub struct AfterOutput<'s, 'a, R: Files> {
 }
 
 impl<'s, 'a, R: Files> AfterOutput<'s, 'a, R> {
+    /// An output whose first write finishes `before`.
     pub fn new(
         before: &'s RefCell<Output<'a, R>>,
         output: Output<'a, R>,

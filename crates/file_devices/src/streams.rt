@@ -14,6 +14,7 @@ pub struct WriterSink<W: Write> {
 }
 
 impl<W: Write> WriterSink<W> {
+    /// A sink over this writer.
     pub fn new(writer: W) -> WriterSink<W> {
         WriterSink {
             writer,

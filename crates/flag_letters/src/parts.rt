@@ -56,6 +56,7 @@ impl FlagParts {
         self.parts.as_slice()
     }
 
+    /// Whether there is no part.
     pub fn is_empty(&self) -> bool
         ensures { IsTrue result ↔ (self.now ≡ []) }
     {

@@ -48,6 +48,10 @@ impl<'a> WalkText<'a> {
     }
 
     /// Writes a part, counted from 0. The parts have to come in their order.
+    ///
+    /// # Errors
+    ///
+    /// `NoMemory` where memory was refused, `Device` where the sink failed; what was written stays.
     pub fn write_part<W: Sink>(&mut self, number: u32, out: &mut W) -> Result<(), ListFault> {
         self.sum = self.write_lines(number, out)?;
         Ok(())

@@ -48,10 +48,12 @@ pub fn output_to<'a>(rt: &'a HostRuntime, path: &'a str) -> Out<'a> {
     Output::file(rt, rt.alloc(), path)
 }
 
+/// Standard output.
 pub fn stdout<'a>(rt: &'a HostRuntime) -> Out<'a> {
     Output::stdout(rt.stdout())
 }
 
+/// Standard error.
 pub fn stderr<'a>(rt: &'a HostRuntime) -> Out<'a> {
     Output::stderr(rt.stderr())
 }

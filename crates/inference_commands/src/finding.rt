@@ -20,6 +20,10 @@ use symbols::Symbols;
 use texts::{Sink, put};
 
 /// Reads given annotations. If they are bad, the line that reports it is written to `out`.
+///
+/// # Errors
+///
+/// `Refused` where the annotations are bad, `Device` where a device failed, and `OutOfMemory` where memory was refused.
 pub fn read_given<W: Sink>(alloc: Global, text: &[u8], out: &mut W) -> Result<Given, Stop>
     ensures kept { OnOk result (out.new ≡ out.old) }
     ensures device { result ≡ Err Stop.Device → HasFailed (W.state out.old) (W.state out.new) }
@@ -40,8 +44,14 @@ pub fn read_given<W: Sink>(alloc: Global, text: &[u8], out: &mut W) -> Result<Gi
     }
 }
 
-/// Finds annotations for a ROM beside those given, for a certificate of version `most` at most: 3, or less for 2. If the search has no answer, the line that reports it is written to
-/// `out`. A line on `notes` says what was found, with labels beside addresses.
+/// Finds annotations for a ROM beside those given, for a certificate of version `most` at most: 3, or less for 2. If the
+/// search has no answer, the line that reports it is written to `out`. A line on `notes` says what was found, with
+/// labels beside addresses.
+///
+/// # Errors
+///
+/// `Refused` where the search has no answer, `Device` where a device failed, and `OutOfMemory` where memory was
+/// refused.
 pub fn find<'r, 'g, W: Sink, N: Sink, P: Progress>(
     alloc: Global,
     rom: &'r [u8],
@@ -79,6 +89,11 @@ pub fn find<'r, 'g, W: Sink, N: Sink, P: Progress>(
 /// Finds annotations for a ROM beside those of a text, and makes a certificate by them. If none is accepted, the line
 /// that reports it is written to `out`. A line on `notes` says what was found, with labels of `symbols` beside addresses.
 /// The certificate is of version `most` at most: 3, or less for 2.
+///
+/// # Errors
+///
+/// `Refused` where the annotations are bad, or no certificate is accepted, `Device` where a device failed, and
+/// `OutOfMemory` where memory was refused.
 pub fn infer<'r, W: Sink, N: Sink, P: Progress>(
     alloc: Global,
     rom: &'r [u8],

@@ -99,6 +99,10 @@ pub enum JoinOutcome {
 
 impl InferredRow {
     /// The row of the first state that comes, of an instruction that writes through `pointer`.
+    ///
+    /// # Errors
+    ///
+    /// `NoMemory` where memory was refused.
     pub fn first(
         alloc: Global,
         state: &AbsState,
@@ -273,6 +277,10 @@ impl InferredRow {
     }
 
     /// Joins a state that comes to the row.
+    ///
+    /// # Errors
+    ///
+    /// `NoMemory` where memory was refused.
     pub fn take(
         &mut self,
         state: &AbsState,
@@ -343,6 +351,10 @@ impl InferredRow {
     }
 
     /// Joins a state without any widening.
+    ///
+    /// # Errors
+    ///
+    /// `NoMemory` where memory was refused.
     pub fn add(
         &mut self,
         state: &AbsState,

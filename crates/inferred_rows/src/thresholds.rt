@@ -17,6 +17,10 @@ pub struct Thresholds {
 
 impl Thresholds {
     /// The edges of the zones of a map and of a stack region.
+    ///
+    /// # Errors
+    ///
+    /// `NoMemory` where memory was refused.
     pub fn of(alloc: Global, map: &Map, region: Region) -> Result<Thresholds, FlowFault> {
         let mut thresholds = Thresholds {
             words: BTreeSet::new(alloc),
@@ -32,6 +36,10 @@ impl Thresholds {
     }
 
     /// Adds the constants of an instruction.
+    ///
+    /// # Errors
+    ///
+    /// `NoMemory` where memory was refused.
     pub fn add(&mut self, instr: &Instr) -> Result<(), FlowFault> {
         let (word, byte) = constants_of(instr);
         if let Some(word) = word {

@@ -56,6 +56,10 @@ impl<'a> Listing<'a> {
     }
 
     /// Writes the names of the columns.
+    ///
+    /// # Errors
+    ///
+    /// `NoMemory` where memory was refused, `Device` where the sink failed; what was written stays.
     pub fn write_headings<W: Sink>(&self, out: &mut W) -> Result<(), ListFault> {
         let alloc = self.view.alloc;
         let mut heading = Vec::new(alloc);
@@ -65,6 +69,10 @@ impl<'a> Listing<'a> {
 
     /// Writes the lines of an address, if an instruction with a row or a gap begins there. The addresses have to come
     /// one after another.
+    ///
+    /// # Errors
+    ///
+    /// `NoMemory` where memory was refused, `Device` where the sink failed; what was written stays.
     pub fn write_at<W: Sink>(&mut self, address: u16, out: &mut W) -> Result<(), ListFault> {
         match self.write_lines(address, out)? {
             Begun::Instr(procs) => self.listed = procs,

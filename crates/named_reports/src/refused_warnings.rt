@@ -19,6 +19,10 @@ const VISITS: u32 = 200_000;
 
 /// Warns of annotations amid an instruction that is reached, of splits of a register that has one range alone where it
 /// is reached, and of cells that nothing reads. Nothing is told if the analysis takes too many rows.
+///
+/// # Errors
+///
+/// `NoMemory` where memory was refused.
 pub fn warn_of_refused<N: Sink>(
     alloc: Global,
     names: &AddressNames,

@@ -62,6 +62,10 @@ fn is_inline(search: &Search, address: u16) -> bool {
 }
 
 /// A plan in which the callers of a procedure that takes its return address are inline.
+///
+/// # Errors
+///
+/// `NoMemory` where memory was refused.
 pub fn try_inline(
     search: &mut Search,
     refused: u16,
@@ -112,6 +116,10 @@ fn some_inline_calls(search: &Search, entry: u16) -> bool {
 
 /// A plan with a split by which the inline calls of an entry are distinguished: by a register that differs between
 /// them, or by the low byte of the return address that it pops.
+///
+/// # Errors
+///
+/// `NoMemory` where memory was refused.
 pub fn try_inline_split(
     search: &mut Search,
     refused: u16,

@@ -33,6 +33,10 @@ fn timed_procs(search: &Search) -> Result<Vec<u32>, FlowFault> {
 }
 
 /// A plan with a counter or a split for each loop of a timed procedure that has none, if there is one to give.
+///
+/// # Errors
+///
+/// `NoMemory` where memory was refused.
 pub fn with_counters(search: &Search) -> Result<Vec<Plan>, FlowFault> {
     let mut plan = search.explored.plan.copied(search.alloc)?;
     let mut grew = false;
@@ -143,6 +147,10 @@ fn unrolled_by(
 
 /// Plans in which a loop around an address is bounded in another way: a first turn with the counter 0 apart, or a
 /// split in the place of the counter.
+///
+/// # Errors
+///
+/// `NoMemory` where memory was refused.
 pub fn with_other_bounds(search: &mut Search, address: u16) -> Result<Vec<Plan>, FlowFault> {
     let mut plans = Vec::new(search.alloc);
     for proc in search.explored.procs_at(search.alloc, address)? {

@@ -96,6 +96,10 @@ impl Attempted {
 
 /// A plan with cells for the bytes of work RAM that are read at one address: each begins with what the last store
 /// before NMIs leaves, and grows by the stores that are seen until none is outside.
+///
+/// # Errors
+///
+/// `NoMemory` where memory was refused.
 pub fn try_cells(search: &mut Search) -> Result<Option<Box<ExploredPlan>>, FlowFault> {
     let rest = search.explored.refused.len() as u64;
     let rows = search.explored.list.rows().len().min(0xFFFF) as u16;

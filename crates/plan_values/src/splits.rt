@@ -55,6 +55,10 @@ pub struct Splitting<'p> {
 /// A plan with this split that takes the refusals at an address away. Without an end the parts stay apart the longest:
 /// where that does not help, no end is tried. Otherwise it ends where the parts come together first, if that helps too.
 /// Only what the split distinguishes is explored again; where the search repeats its moves, all is.
+///
+/// # Errors
+///
+/// `NoMemory` where memory was refused.
 pub fn with_split(
     search: &mut Search,
     refused: u16,
@@ -481,6 +485,10 @@ fn passing_at(
 }
 
 /// A part for each value.
+///
+/// # Errors
+///
+/// `NoMemory` where memory was refused.
 pub fn singles(search: &Search, values: &ByteSet) -> Result<Vec<ByteRange>, FlowFault> {
     let mut parts = Vec::new(search.alloc);
     for value in 0..=255u8 {

@@ -39,6 +39,10 @@ pub struct Plan {
 }
 
 /// A copy of a split.
+///
+/// # Errors
+///
+/// `NoMemory` where memory was refused.
 pub fn copy_of_split(alloc: Global, split: &SplitNote) -> Result<SplitNote, FlowFault> {
     split_of(
         alloc,
@@ -50,6 +54,10 @@ pub fn copy_of_split(alloc: Global, split: &SplitNote) -> Result<SplitNote, Flow
 }
 
 /// The split of a register at an address into parts.
+///
+/// # Errors
+///
+/// `NoMemory` where memory was refused.
 pub fn split_of(
     alloc: Global,
     at: u16,

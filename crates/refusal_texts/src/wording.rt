@@ -125,6 +125,7 @@ pub struct RangeText {
 }
 
 impl RangeText {
+    /// A range of words, with four digits.
     pub fn words(range: WordRange) -> RangeText {
         RangeText {
             low: range.low(),
@@ -133,6 +134,7 @@ impl RangeText {
         }
     }
 
+    /// A range of bytes, with two digits.
     pub fn bytes(range: ByteRange) -> RangeText {
         RangeText {
             low: u16::from(range.low()),

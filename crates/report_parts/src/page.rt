@@ -42,6 +42,7 @@ pub fn with<'a>(name: &'static str, value: &'a str) -> Attribute<'a> {
 }
 
 impl Page {
+    /// An empty page. Its bytes take their memory from this allocator.
     pub fn new(alloc: Global) -> Page {
         Page {
             alloc,

@@ -67,6 +67,10 @@ impl<'w> LocalRun<'w> {
     }
 
     /// A state comes to an address.
+    ///
+    /// # Errors
+    ///
+    /// `NoMemory` where memory was refused.
     pub fn arrive(
         &mut self,
         alloc: Global,

@@ -56,6 +56,7 @@ pub fn loops_of(
 }
 
 impl NaturalLoop {
+    /// Whether an address lies in the loop.
     pub fn contains(&self, address: u16) -> bool {
         self.body.contains(&address)
     }

@@ -161,6 +161,7 @@ impl Worklist {
         }
     }
 
+    /// Whether a procedure, by its number, is timed.
     pub fn is_timed(&self, proc: u32) -> bool {
         self.timed.contains(&proc)
     }

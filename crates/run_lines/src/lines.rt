@@ -10,6 +10,10 @@ use crate::teller::Note;
 use texts::{DeviceFault, MadeLine, Sink, put};
 
 /// Writes the line of an event, if it has one. `number` is the event's, from 0, and `at` its address.
+///
+/// # Errors
+///
+/// The sink failed; what it took before stays written.
 pub fn put_note<W: Sink>(out: &mut W, number: u64, at: u16, note: Note) -> Result<(), DeviceFault>
     ensures { Puts (W.state out.old) (line_of_note number at note) result (W.state out.new) }
 {

@@ -92,6 +92,7 @@ pub struct RamParts<K: Sink> {
 }
 
 impl<K: Sink> RamParts<K> {
+    /// A sink that gives work RAM to the first of these sinks, video RAM to the second and object RAM to the third.
     pub fn new(work: K, video: K, object: K) -> RamParts<K> {
         RamParts {
             parts: MemorySinks {

@@ -84,6 +84,7 @@ impl Shape {
         self.slots.len()
     }
 
+    /// Whether there is no slot.
     pub fn is_empty(&self) -> bool
         ensures { IsTrue result ↔ (self.now ≡ []) }
     {

@@ -217,6 +217,10 @@ impl<'a> Payer<'a> {
     }
 
     /// These terms with the least constant that pays for all requests; 0 if there are none.
+    ///
+    /// # Errors
+    ///
+    /// `Unpaid` where no constant pays for all requests.
     pub fn least_with(&self, terms: &Linear, known: &[Option<Linear>]) -> Result<Linear, Unpaid> {
         let mut least = self.constant_for_leaving(terms)?;
         for request in self.requests.of_rows.as_slice() {
@@ -247,6 +251,10 @@ impl<'a> Payer<'a> {
     }
 
     /// The best potential of a loop's row: the multiple of its counter, alone or with the terms of one request.
+    ///
+    /// # Errors
+    ///
+    /// `Unpaid` where no such potential pays for all requests.
     pub fn best_carrying(&self, turn: &Linear, known: &[Option<Linear>]) -> Result<Linear, Unpaid> {
         let mut best = self.least_with(turn, known);
         for request in self.requests.of_rows.as_slice() {
@@ -305,6 +313,10 @@ impl<'a> Payer<'a> {
     }
 
     /// The best potential that the row may have: a constant, or a constant with the terms of one request.
+    ///
+    /// # Errors
+    ///
+    /// `Unpaid` where no such potential pays for all requests.
     pub fn best(&self, known: &[Option<Linear>], choice: Choice) -> Result<Linear, Unpaid> {
         let plain = self.least_with(&Linear::zero(), known);
         let mut best = match choice {

@@ -21,6 +21,7 @@ pub struct Turns<'a> {
 }
 
 impl<'a> Turns<'a> {
+    /// For what all rows request, the rows with their groups, and which rows have a counter. No cost is computed yet.
     pub fn new(
         alloc: Global,
         all: &'a [Requests],
