@@ -11,7 +11,7 @@ all: galcert
 
 # prove.py proves what the program stands on, side by side. Then it builds the program and runs it once.
 galcert: crates.txt $(shell find crates -name '*.rt' -o -name '*.antt' | grep -v /out/)
-	@echo "== proving what galcert stands on, and building it; the first time may take more than an hour"
+	@echo "== proving what galcert stands on, and building it; the first time may take hours"
 	tools/prove.py galcert verify ../../$(SIX).rom ../../$(SIX).cert
 	cp crates/galcert/out/galcert galcert
 
