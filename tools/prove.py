@@ -53,9 +53,9 @@ TRUST = 60
 MOST_JOBS = 4
 # On two processors, a crate that stands on so many lines gets one job: a second job loads all of them again.
 MANY_LINES = 10_000
-# So does a library on so many lines with any number of processors: on four, `named_commands` took 764 s with two jobs and 569
-# with one, beside other checks (2026-11-30).
-MOST_LINES = 40_000
+# With any number of processors, a library that stands on so many lines gets one job. On four, `named_commands` took 764 s with
+# two jobs and 569 with one, beside other checks (2026-11-30). The program comes last and alone, and keeps its jobs.
+TOP_LINES = 40_000
 # Each further job takes this share of the memory of the first. Of the free memory this share is used.
 MORE_MEMORY, MEMORY = 0.6, 0.85
 
@@ -105,7 +105,7 @@ class Schedule:
             room = self.memory - sum(self.memory_of(*it) for it in self.running.items())
             if idle > 0 and (not self.running or self.need[crate] <= room):
                 others = len(ready) - at - 1
-                jobs = 1 if self.below[crate] >= MOST_LINES else self.jobs(crate, idle, others, room)
+                jobs = 1 if self.below[crate] >= TOP_LINES else self.jobs(crate, idle, others, room)
                 self.waiting.remove(crate)
                 self.running[crate] = jobs
                 begun.append((crate, jobs))

@@ -180,7 +180,7 @@ impl Flow {
         None
     }
 
-    /// A state comes to an address of a procedure. At a split it comes, cut, to each part that it has something of.
+    /// A state comes to an address of a procedure. At a split, each part gets what the state has of it.
     fn arrive(
         &mut self,
         task: &Task,

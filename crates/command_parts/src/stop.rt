@@ -13,7 +13,7 @@ use texts::DeviceFault;
 pub enum Stop {
     /// The certificate, the annotations or a line of the input was refused, and the line that reports it was written.
     Refused,
-    /// A file or a standard stream failed.
+    /// A device failed.
     Device,
     /// Memory was refused.
     OutOfMemory,

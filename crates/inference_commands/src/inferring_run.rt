@@ -16,8 +16,8 @@ use texts::{DeviceFault, Sink, Source};
 /// `galcert check ROM [ANNOT] --infer [--cert FILE]`: finds annotations beside those in ANNOT, makes a certificate,
 /// writes its text to `keep` and then the table to `out`; or writes the refusal to `out` (docs/PROGRAM.md). The search
 /// takes at most `trials` trials, and the certificate is of version `most` at most: 3, or less for 2. One line on
-/// `notes` says what was found. `keep` is used only for an accepted certificate, and the table is written only after
-/// `keep` took the whole text. What `notes` does changes nothing. `progress` is told of each trial.
+/// `notes` says what was found; the result does not depend on `notes`. Only an accepted certificate is written to
+/// `keep`, and the table follows once `keep` has the whole text. The search tells `progress` of each trial.
 ///
 /// The result is the exit status: 0 accepted, 1 refused or bad annotations, 3 a device failed, 4 memory was refused.
 /// What was written before a device failed stays.
