@@ -1,8 +1,12 @@
-"""Loads the toolchain's `rt` as a module that remembers what it asks for again and again, and sets less memory aside.
+"""Loads the toolchain's `rt` as a module that remembers what it asks for again and again, and first builds small libraries.
 
 Plain `rt` sums up the files of a crate, and lists what the crate stands on, once for each path that leads down to it: near
 the top these are tens of thousands. Here each crate is summed once a call, and listed once. The sums and lists are the same,
-so both kinds of `rt` go on from each other's work."""
+so both kinds of `rt` go on from each other's work.
+
+Plain `rt` builds a library with its proofs. Here the first build of a library holds its statements alone, as in `rt ci`. Checks
+over statements take less time, memory and disk, but such a build keeps no work. So after an edit the library, and those above
+it, are built as plain `rt` does it: then the next edit finds what they kept."""
 
 import importlib.machinery
 import importlib.util
@@ -12,13 +16,24 @@ import sys
 import threading
 
 # What the functions are called that are used here, and what they take.
-TAKEN = {"main": ["words"], "need": ["crate"], "rtlib.Crate.below": ["self"]}
+TAKEN = {
+    "main": ["words"],
+    "need": ["crate"],
+    "rtlib.Crate.below": ["self"],
+    "rtlib.Crate.build_rlib": ["self", "flags", "anew"],
+    "rtlib.Crate.call": ["self", "words"],
+    "rtlib.Crate.has_kept": ["self"],
+    "rtlib.Crate.words": ["self", "flags", "tests", "keeps", "as_source"],
+    "rtlib.help_of": ["verb"],
+}
 # Some kits remember the sums by themselves, by a function of this name. The others sum by this one.
 REMEMBERS, SUMS = "stamp_once", {"rtlib.Crate.stamp": ["self"]}
 # The share of the memory that `rt` sets aside for a check, which this module sets aside. By that memory `rt ci` decides how
 # many checks run side by side. 58 checks took 0.51 of what `rt` sets aside on average, and 0.72 at most (2026-11-29). With
 # this share four of the largest run side by side in 24 GB.
 SHARE = 0.5
+# The word that asks for a library of statements. Beside such a library lies an empty file of this name.
+STATEMENTS, MARK = "--statements", "statements"
 
 
 class Unexpected(Exception):
@@ -54,6 +69,7 @@ def load(taken=None):
         remember_sums(rt.rtlib.Crate)
     remember_lists(rt.rtlib.Crate)
     set_less_aside(rt)
+    build_statements_first(rt.rtlib)
     return rt
 
 
@@ -84,6 +100,35 @@ def remember_sums(crate_type):
                 here.sums = None
 
     crate_type.stamp = stamp
+
+
+def build_statements_first(rtlib):
+    """The first build of a library is of statements, if all libraries below it are. Over libraries with their proofs it would take
+    far more time and memory. `rt ci` keeps no such library for other calls, since statements fit only the builds that they
+    were made over; but the same text gives the same library, and a stamp sums all the text below."""
+    if STATEMENTS not in rtlib.help_of("build"):
+        raise Unexpected(f"{rtlib.RATTLE} builds no library of statements")
+    made = rtlib.Crate.build_rlib
+
+    def has(crate, name):
+        return os.path.exists(f"{os.path.dirname(crate.rlib)}/{name}")
+
+    def build_rlib(crate, flags, anew):
+        is_first = not has(crate, "stamp") and not crate.has_kept()
+        if anew or not is_first or not all(has(it, MARK) for it in crate.below()):
+            return made(crate, flags, anew)
+        stamp, folder = crate.stamp(), os.path.dirname(crate.rlib)
+        os.makedirs(folder, exist_ok=True)
+        words = crate.words(flags, keeps=False)
+        status = crate.call(rtlib.RATTLE, "build", *words, STATEMENTS, "-o", crate.rlib)
+        # (after an edit meanwhile nobody could tell of which text this library is)
+        if status == 0 and stamp == crate.stamp():
+            for name, text in (MARK, ""), ("stamp", stamp):
+                with open(f"{folder}/{name}", "w", encoding="utf-8") as it:
+                    it.write(text)
+        return status
+
+    rtlib.Crate.build_rlib = build_rlib
 
 
 def set_less_aside(rt):

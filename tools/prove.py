@@ -26,9 +26,7 @@ TAKEN = {
     "free": [],
     "processors": [],
     "rtlib.Crate.__init__": ["self", "folder", "root", "known", "above", "name"],
-    "rtlib.Crate.build_rlib": ["self", "flags", "anew"],
     "rtlib.Crate.count": ["self", "pattern"],
-    "rtlib.Crate.has_kept": ["self"],
     "rtlib.Crate.is_built": ["self"],
     "rtlib.Crate.makes_rlib": ["self"],
     "rtlib.guarded": [],
@@ -45,7 +43,7 @@ OWN, BELOW = 100, 2.8
 LEAST = 8
 # N jobs divide the own part by N to the power of GAIN: two jobs took 0.73 of the time for `texts`. Each job loads the rest.
 GAIN = 0.5
-# The share of the own part that a crate takes after an edit, when it goes on from the work in out/.
+# The share of the own part that a crate takes when it goes on from the work in out/.
 KEPT = 0.15
 # The estimate counts as if this run had measured it for so many seconds.
 TRUST = 60
