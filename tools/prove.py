@@ -35,25 +35,22 @@ TAKEN = {
 }
 
 # The estimate, in seconds with one job. A crate takes OWN for 1,000 lines of its src/, and BELOW for 1,000 lines of src/ that
-# it stands on, since it loads them. A program loads them twice, since it is linked too. Both numbers are a fit over 54
-# crates, of the gate's processor minutes on a machine at 2.7 GHz (docs/PERFORMANCE.md), times 1.4: for `texts`, `rt lib` took
-# 71 s on a Xeon with four processors at 2.5 GHz, and the gate 48. What this run measures corrects the estimate.
-OWN, BELOW = 100, 2.8
+# it stands on, since it loads them. A program loads them twice, since it is linked too. Both numbers are a fit over 100 crates
+# that were built from nothing on a Xeon with four processors at 2.5 GHz (2026-12-01). What this run measures corrects them.
+OWN, BELOW = 155, 3
 # No crate takes less.
 LEAST = 8
-# N jobs divide the own part by N to the power of GAIN: two jobs took 0.73 of the time for `texts`. Each job loads the rest.
-GAIN = 0.5
+# N jobs divide the own part by N to the power of GAIN: two jobs took 0.73 of the time for `texts`, and three half of it for
+# `command_reports` (2026-12-01).
+GAIN = 0.6
 # The share of the own part that a crate takes when it goes on from the work in out/.
 KEPT = 0.15
 # The estimate counts as if this run had measured it for so many seconds.
 TRUST = 60
 
 MOST_JOBS = 4
-# On two processors, a crate that stands on so many lines gets one job: a second job loads all of them again.
+# On two processors, a crate that stands on so many lines gets one job: where work is kept, a second job loads them all again.
 MANY_LINES = 10_000
-# With any number of processors, a library that stands on so many lines gets one job. On four, `named_commands` took 764 s with
-# two jobs and 569 with one, beside other checks (2026-11-30). The program comes last and alone, and keeps its jobs.
-TOP_LINES = 40_000
 # Each further job takes this share of the memory of the first. Of the free memory this share is used.
 MORE_MEMORY, MEMORY = 0.6, 0.85
 
@@ -103,7 +100,7 @@ class Schedule:
             room = self.memory - sum(self.memory_of(*it) for it in self.running.items())
             if idle > 0 and (not self.running or self.need[crate] <= room):
                 others = len(ready) - at - 1
-                jobs = 1 if self.below[crate] >= TOP_LINES else self.jobs(crate, idle, others, room)
+                jobs = self.jobs(crate, idle, others, room)
                 self.waiting.remove(crate)
                 self.running[crate] = jobs
                 begun.append((crate, jobs))
