@@ -7,7 +7,7 @@ use abs_draft::DataWrite;
 use abs_state::{AbsState, Mode};
 use abs_step::{Next, Reason, Saved};
 use cert_lines::Version;
-use check_rules::{
+use check_writes::{
     all_keep, all_miss_region, all_miss_rom, all_miss_unmapped, find_armed, lost_at, none_enables,
     sets_sp, sets_top,
 };

@@ -1,7 +1,5 @@
-pub mod CellLemmas
 pub mod InOrder
 pub mod Judged
-pub mod Lists
 pub mod Order
 pub mod Steps
 pub mod Versions

@@ -27,7 +27,7 @@ use Rattle.check_steps.specs.Restarts.{restarted, restarts_by}
 use Rattle.check_steps.specs.Returned.{effect_back, effect_of_call}
 use Rattle.check_steps.specs.Told.{refinement_by}
 use Rattle.refined_step.specs.Told.{StepToldView, untold}
-use Rattle.check_ways.specs.Ways.{CallsCallee, EntersCallee, GoesOn, IsExit, IsSubject, IsWay, SubjectView, WayView, arrival_at_entry, behind_of, call_cost, jump_way, nexts_from, nexts_in, restarts, return_way, step_by, step_for, step_of, told_of}
+use Rattle.check_ways.specs.Ways.{CallsCallee, EntersCallee, GoesOn, IsExit, IsSubject, IsWay, SubjectView, WayView, arrival_at_entry, behind_of, call_cost, jump_way, nexts_from, nexts_in, return_way, step_by, step_for, step_of, told_of}
 use Rattle.loop_bounds.specs.Effect.{unchanged}
 use Rattle.loop_bounds.specs.declared.effect.Effect.{Effect}
 use Rattle.z80_decode.specs.declared.fault.DecodeFault.{DecodeFault}

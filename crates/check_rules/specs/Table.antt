@@ -1,7 +1,6 @@
 -- The table of reasons: what passes each of them (docs/CHECKER.md, "The table of reasons").
-use Rattle.std.specs.Prelude.{ℕ, ◌+◌, ◌*◌, ◌<◌, ◌≤◌, ◌≡◌, ◌≢◌, ◌⊎◌, true, List, [], ◌∷◌, length, None, IsSome, Result, Ok, Err, Contains}
+use Rattle.std.specs.Prelude.{ℕ, ◌+◌, ◌*◌, ◌<◌, ◌≤◌, ◌≡◌, ◌≢◌, ◌⊎◌, true, [], length, None, IsSome, Result, Ok, Err, Contains}
 use Rattle.std.specs.List.{All}
-use Rattle.abs_draft.specs.Ground.{may_enable, armed_after, GroundView}
 use Rattle.abs_draft.specs.declared.data_write.DataWrite.{DataWrite}
 use Rattle.abs_laws.specs.Writes.{AllKeep, MissesRegion, NeverEnables}
 use Rattle.abs_state.specs.declared.mode.Mode.TheVariants.{Unset}
@@ -13,9 +12,6 @@ use Rattle.abs_step.specs.declared.next.NextKind.TheVariants.{Exit}
 use Rattle.abs_step.specs.declared.reason.Reason.{Reason}
 use Rattle.abs_step.specs.declared.reason.Reason.TheVariants as reasons
 use Rattle.abs_step.specs.declared.reason.Saved.TheVariants as saved
-use Rattle.address_map.specs.AddressMap.{MapView}
-use Rattle.address_map.specs.Ranges.{SomeWrite}
-use Rattle.address_map.specs.declared.map.WriteClass.{WriteClass}
 use Rattle.address_map.specs.declared.map.WriteClass.TheVariants as writes
 use Rattle.check_cover.specs.Program.{ground_for, is_main}
 use Rattle.cert_form.specs.Contents.{map_of_board}
@@ -25,6 +21,7 @@ use Rattle.cert_lines.specs.declared.proc.ProcKind.{ProcKind}
 use Rattle.cert_lines.specs.declared.proc.ProcKind.TheVariants.{Main, Nmi, Sub}
 use Rattle.check_ways.specs.Pays.{Pays}
 use Rattle.check_ways.specs.Ways.{CallsCallee, GoesOn, SubjectView, nexts_from, restarts, step_of, writes_from}
+use Rattle.check_writes.specs.Writes.{FindsArmed, MissesClass}
 use Rattle.nmi_saves.specs.Lost.{IsFirstLost}
 use Rattle.board_laws.specs.Uses.{sets_sp}
 use Rattle.z80_decode.specs.declared.instr.Instr.{Instr}
@@ -36,10 +33,6 @@ use Rattle.z80_decode.specs.declared.operands.Special.TheVariants as specials
 -- each data write of a row has the property
 abbrev pub AllWrites : SubjectView → (DataWrite → Type 0) → Type 0
 AllWrites s Passes = All Passes (writes_from s)
-
--- no address of a data write is of the class
-abbrev pub MissesClass : MapView → WriteClass → DataWrite → Type 0
-MissesClass map class w = SomeWrite map w.at class → ⊥
 
 -- the row is main's, and its shape is empty
 pub record HasNoStack (s : SubjectView) : Type 0 where
@@ -93,11 +86,6 @@ SetsTopAlone s = (instr : Instr) → s.decoded ≡ Ok instr → sets_sp instr �
 -- no exit of the NMI routine loses the pair first
 abbrev pub GivesBackPairs : SubjectView → (AbsState → Type 0) → Type 0
 GivesBackPairs s IsLost = s.proc.kind ≡ Nmi → (next : Next) → Contains (nexts_from s) next → next.kind ≡ Exit → IsLost next.state → ⊥
-
--- all cells are armed before each write that may enable the NMI
-unfoldable pub FindsArmed : GroundView → ℕ → List DataWrite → Type 0
-FindsArmed g armed [] = Unit {0}
-FindsArmed g armed (w ∷ ws) = (may_enable g.map w ≡ true → length g.cells ≤ armed) × FindsArmed g (armed_after g w armed) ws
 
 -- ---- the table
 

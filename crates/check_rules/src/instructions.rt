@@ -1,15 +1,13 @@
 // The reasons of a row that look at its instruction: 19 and 20, and LD I,A of reason 14.
 
 ghost use Rattle.std.specs.Prelude.{◌≡◌, ◌↔◌, IsTrue};
-ghost use Rattle.abs_step.specs.Contained.{SetsTop};
-ghost use Rattle.board_laws.specs.Uses.{sets_sp};
 ghost use Rattle.check_rules.specs.Table.{IsTimed, Passes, PassesBelow, TellsLowest};
 
 use abs_step::{Reason, Saved};
-use address_map::Region;
 use cert_lines::Proc;
 use check_ways::Subject;
-use z80_decode::{Direct, Instr, Register16, Special};
+use check_writes::{sets_sp, sets_top};
+use z80_decode::{Instr, Special};
 
 /// Reasons 19 and 20: HALT in a timed procedure, and instructions that set SP.
 pub(crate) fn check_instruction(subject: &Subject) -> Result<(), Reason>
@@ -58,28 +56,4 @@ fn sets_top_alone(subject: &Subject) -> bool
         }
         Err(_) => true,
     }
-}
-
-/// Whether an instruction is LD SP,nn of main with the region's top.
-pub fn sets_top(main: bool, region: Region, instr: &Instr) -> bool
-    ensures { IsTrue result ↔ SetsTop main region instr.now }
-{
-    match instr {
-        Instr::LoadPair(Register16::Sp, word) => main && *word == region.top,
-        _ => false,
-    }
-}
-
-/// Whether an instruction is LD SP, INC SP or DEC SP.
-pub fn sets_sp(instr: &Instr) -> bool
-    ensures { result ≡ sets_sp instr.now }
-{
-    matches!(
-        instr,
-        Instr::LoadPair(Register16::Sp, _)
-            | Instr::LoadPairDirect(Direct::Pair(Register16::Sp), _)
-            | Instr::LoadSp(_)
-            | Instr::IncrementPair(Register16::Sp)
-            | Instr::DecrementPair(Register16::Sp)
-    )
 }

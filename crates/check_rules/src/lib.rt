@@ -12,11 +12,6 @@ mod whole;
 mod writes;
 
 pub use examining::{examine, same_verdict};
-pub use instructions::{sets_sp, sets_top};
 pub use refused::Refused;
 pub use rows::check_row;
-pub use saved::lost_at;
 pub use whole::{main_depth, nmi_depth, nmi_of, region_fits};
-pub use writes::{
-    all_keep, all_miss_region, all_miss_rom, all_miss_unmapped, find_armed, none_enables,
-};

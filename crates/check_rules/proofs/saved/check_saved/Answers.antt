@@ -4,7 +4,7 @@ use Rattle.abs_step.specs.declared.next.Next.{Next}
 use Rattle.abs_step.specs.declared.reason.Reason.TheVariants as reasons
 use Rattle.abs_step.specs.declared.reason.Saved.{Saved}
 use Rattle.abs_step.specs.declared.reason.Saved.TheVariants as saved
-use Rattle.check_rules.specs.Saved.{GivesAllBack}
+use Rattle.check_writes.specs.Saved.{GivesAllBack}
 use Rattle.check_rules.specs.Table.{Passes}
 use Rattle.check_rules.proofs.Order.{saved_passes}
 use Rattle.check_rules.proofs.WaysOn.{ways_on}

@@ -3,7 +3,7 @@ use Rattle.address_map.specs.AddressMap.{MapView}
 use Rattle.cert_form.specs.Contents.{map_of_board}
 use Rattle.check_ways.specs.Ways.{SubjectView}
 use Rattle.address_map.specs.declared.map.WriteClass.TheVariants as classes
-use Rattle.check_rules.specs.Table.{MissesClass}
+use Rattle.check_writes.specs.Writes.{MissesClass}
 use Rattle.check_rules.proofs.Judged.{of_row}
 use Rattle.check_rules.proofs.writes.misses_unmapped.Goals as goal
 

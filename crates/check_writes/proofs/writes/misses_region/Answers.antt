@@ -1,6 +1,6 @@
 use Rattle.address_map.specs.Ranges.{SomeInRegion}
-use Rattle.check_rules.proofs.Lists.{not_true}
-use Rattle.check_rules.proofs.writes.misses_region.Goals as goal
+use Rattle.check_writes.proofs.Lists.{not_true}
+use Rattle.check_writes.proofs.writes.misses_region.Goals as goal
 
 pub returns : goal.returns
 returns c =

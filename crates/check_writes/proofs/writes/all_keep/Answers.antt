@@ -4,8 +4,8 @@ use Rattle.abs_draft.specs.declared.data_write.DataWrite.{DataWrite}
 use Rattle.abs_laws.specs.Writes.{AllKeep, KeepsCells}
 use Rattle.abs_state.specs.declared.cell.KeptCell.{KeptCell}
 use Rattle.address_map.specs.AddressMap.{MapView}
-use Rattle.check_rules.proofs.CellLemmas.{keep_next, keep_none}
-use Rattle.check_rules.proofs.writes.all_keep.Goals as goal
+use Rattle.check_writes.proofs.CellLemmas.{keep_next, keep_none}
+use Rattle.check_writes.proofs.writes.all_keep.Goals as goal
 
 never : false ≡ true → ⊥
 never e = cc

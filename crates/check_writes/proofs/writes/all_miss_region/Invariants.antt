@@ -1,7 +1,7 @@
 use Rattle.std.proofs.Common.{ℕ, ◌<◌, get_or}
 use Rattle.abs_draft.specs.declared.data_write.DataWrite.{DataWrite}
 use Rattle.abs_laws.specs.Writes.{MissesRegion}
-use Rattle.check_rules.proofs.writes.all_miss_region.Given as goal
+use Rattle.check_writes.proofs.writes.all_miss_region.Given as goal
 
 -- the data writes so far miss
 abbrev pub invariant-loop-write : goal.invariant-loop-write

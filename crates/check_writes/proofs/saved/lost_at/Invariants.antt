@@ -1,7 +1,7 @@
 use Rattle.std.proofs.Common.{ℕ, ◌<◌, get_or}
 use Rattle.abs_step.specs.declared.next.Next.{Next}
-use Rattle.check_rules.specs.Saved.{GivesAllBack}
-use Rattle.check_rules.proofs.saved.lost_at.Given as goal
+use Rattle.check_writes.specs.Saved.{GivesAllBack}
+use Rattle.check_writes.proofs.saved.lost_at.Given as goal
 
 -- the successors so far give each pair back
 abbrev pub invariant-loop-next : goal.invariant-loop-next

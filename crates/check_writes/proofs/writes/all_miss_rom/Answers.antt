@@ -1,8 +1,8 @@
 use Rattle.std.proofs.Common.{◌≡◌, true, false, refl, sym, subst, arith}
 use Rattle.address_map.specs.declared.map.WriteClass.TheVariants as classes
 use Rattle.check_cover.proofs.Lists.{one_more}
-use Rattle.check_rules.specs.Table.{MissesClass}
-use Rattle.check_rules.proofs.writes.all_miss_rom.Goals as goal
+use Rattle.check_writes.specs.Writes.{MissesClass}
+use Rattle.check_writes.proofs.writes.all_miss_rom.Goals as goal
 
 never : false ≡ true → ⊥
 never e = cc

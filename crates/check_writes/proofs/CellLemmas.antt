@@ -4,8 +4,8 @@ use Rattle.std.proofs.lemmas.List.{drop_all}
 use Rattle.abs_draft.specs.Ground.{GroundView, armed_after, may_enable}
 use Rattle.abs_draft.specs.declared.data_write.DataWrite.{DataWrite}
 use Rattle.abs_laws.specs.Writes.{AllKeep, KeepsCells}
-use Rattle.check_rules.specs.Table.{FindsArmed}
-use Rattle.check_rules.proofs.Lists.{next_left}
+use Rattle.check_writes.specs.Writes.{FindsArmed}
+use Rattle.check_writes.proofs.Lists.{next_left}
 
 pub keep_next : (g : GroundView) (armed n : ℕ) (ws : List DataWrite) (w : DataWrite) → n < length ws → w ≡ get_or ws n w →
     AllKeep g armed (drop n ws) ↔ (KeepsCells g.map (take armed g.cells) w × AllKeep g (armed_after g w armed) (drop (n + 1) ws))

@@ -1,9 +1,9 @@
 use Rattle.std.proofs.Common.{◌≡◌, ◌+◌, ◌≤◌, ℕ, true, false, drop, length, sym, subst, refl, arith, ◌∙◌}
 use Rattle.abs_draft.specs.Ground.{may_enable}
-use Rattle.check_rules.specs.Table.{FindsArmed}
-use Rattle.check_rules.proofs.CellLemmas.{find_next, find_none}
-use Rattle.check_rules.proofs.writes.find_armed.Goals as goal
-use Rattle.check_rules.proofs.writes.find_armed.Goals.{else-from-count-via-then-from-count+else-may_enable, else-from-count-via-else-from-count}
+use Rattle.check_writes.specs.Writes.{FindsArmed}
+use Rattle.check_writes.proofs.CellLemmas.{find_next, find_none}
+use Rattle.check_writes.proofs.writes.find_armed.Goals as goal
+use Rattle.check_writes.proofs.writes.find_armed.Goals.{else-from-count-via-then-from-count+else-may_enable, else-from-count-via-else-from-count}
 
 never : false ≡ true → ⊥
 never e = cc

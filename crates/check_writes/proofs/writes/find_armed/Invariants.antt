@@ -1,6 +1,6 @@
 use Rattle.std.proofs.Common.{◌↔◌, drop}
-use Rattle.check_rules.specs.Table.{FindsArmed}
-use Rattle.check_rules.proofs.writes.find_armed.Given as goal
+use Rattle.check_writes.specs.Writes.{FindsArmed}
+use Rattle.check_writes.proofs.writes.find_armed.Given as goal
 
 -- the data writes that are left find all cells armed exactly where all of them do
 abbrev pub invariant-loop-write : goal.invariant-loop-write

@@ -1,7 +1,7 @@
 use Rattle.std.proofs.Common.{◌≡◌, true, false, refl, sym, subst, arith}
 use Rattle.abs_laws.specs.Writes.{MissesRegion}
 use Rattle.check_cover.proofs.Lists.{one_more}
-use Rattle.check_rules.proofs.writes.all_miss_region.Goals as goal
+use Rattle.check_writes.proofs.writes.all_miss_region.Goals as goal
 
 never : false ≡ true → ⊥
 never e = cc
