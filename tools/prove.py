@@ -49,7 +49,7 @@ KEPT = 0.15
 TRUST = 60
 
 MOST_JOBS = 4
-# On two processors, a crate that stands on so many lines gets one job: where work is kept, a second job loads them all again.
+# On two processors, a crate that stands on so many lines gets one job: where work is kept, a second job loads all of them again.
 MANY_LINES = 10_000
 # Each further job takes this share of the memory of the first. Of the free memory this share is used.
 MORE_MEMORY, MEMORY = 0.6, 0.85
