@@ -6,7 +6,8 @@ so both kinds of `rt` go on from each other's work.
 
 Plain `rt` builds a library with its proofs. Here the first build of a library holds its statements alone, as in `rt ci`. Checks
 over statements take less time, memory and disk, but such a build keeps no work. So after an edit the library, and those above
-it, are built as plain `rt` does it: then the next edit finds what they kept."""
+it, are built as plain `rt` does it: then the next edit finds what they kept. Statements fit only the very builds that they were
+made over. This module looks for that. Plain `rt` does not, but `rattle` then says which library to build again."""
 
 import importlib.machinery
 import importlib.util
@@ -23,8 +24,10 @@ TAKEN = {
     "rtlib.Crate.build_rlib": ["self", "flags", "anew"],
     "rtlib.Crate.call": ["self", "words"],
     "rtlib.Crate.has_kept": ["self"],
+    "rtlib.Crate.is_built": ["self"],
     "rtlib.Crate.words": ["self", "flags", "tests", "keeps", "as_source"],
     "rtlib.help_of": ["verb"],
+    "rtlib.text_of": ["file"],
 }
 # Some kits remember the sums by themselves, by a function of this name. The others sum by this one.
 REMEMBERS, SUMS = "stamp_once", {"rtlib.Crate.stamp": ["self"]}
@@ -32,8 +35,11 @@ REMEMBERS, SUMS = "stamp_once", {"rtlib.Crate.stamp": ["self"]}
 # many checks run side by side. 58 checks took 0.51 of what `rt` sets aside on average, and 0.72 at most (2026-11-29). With
 # this share four of the largest run side by side in 24 GB.
 SHARE = 0.5
-# The word that asks for a library of statements. Beside such a library lies an empty file of this name.
+# The word that asks for a library of statements. Beside such a library lies a file of this name, which says over which builds of
+# the libraries below it was made.
 STATEMENTS, MARK = "--statements", "statements"
+# The last line of a library's format sums all that it holds. So long is that line.
+SUM_LENGTH = 69
 
 
 class Unexpected(Exception):
@@ -104,31 +110,45 @@ def remember_sums(crate_type):
 
 def build_statements_first(rtlib):
     """The first build of a library is of statements, if all libraries below it are. Over libraries with their proofs it would take
-    far more time and memory. `rt ci` keeps no such library for other calls, since statements fit only the builds that they
-    were made over; but the same text gives the same library, and a stamp sums all the text below."""
+    far more time and memory. If one of those is built anew with its proofs, the library does not count as built any more."""
     if STATEMENTS not in rtlib.help_of("build"):
         raise Unexpected(f"{rtlib.RATTLE} builds no library of statements")
-    made = rtlib.Crate.build_rlib
+    made_is_built, made_build = rtlib.Crate.is_built, rtlib.Crate.build_rlib
 
-    def has(crate, name):
-        return os.path.exists(f"{os.path.dirname(crate.rlib)}/{name}")
+    def beside(crate, name):
+        return f"{os.path.dirname(crate.rlib)}/{name}"
+
+    def sum_line(crate):
+        try:
+            with open(f"{crate.rlib}/format", "rb") as it:
+                it.seek(-SUM_LENGTH, os.SEEK_END)
+                return it.read().decode()
+        except OSError:
+            return "none\n"
+
+    def builds_below(crate):
+        return "".join(f"{it.name} {sum_line(it)}" for it in crate.below())
+
+    def is_built(crate):
+        mark = rtlib.text_of(beside(crate, MARK))
+        return made_is_built(crate) and mark in (None, builds_below(crate))
 
     def build_rlib(crate, flags, anew):
-        is_first = not has(crate, "stamp") and not crate.has_kept()
-        if anew or not is_first or not all(has(it, MARK) for it in crate.below()):
-            return made(crate, flags, anew)
-        stamp, folder = crate.stamp(), os.path.dirname(crate.rlib)
-        os.makedirs(folder, exist_ok=True)
+        is_first = not os.path.exists(beside(crate, "stamp")) and not crate.has_kept()
+        if anew or not is_first or not all(os.path.exists(beside(it, MARK)) for it in crate.below()):
+            return made_build(crate, flags, anew)
+        stamp = crate.stamp()
+        os.makedirs(os.path.dirname(crate.rlib), exist_ok=True)
         words = crate.words(flags, keeps=False)
         status = crate.call(rtlib.RATTLE, "build", *words, STATEMENTS, "-o", crate.rlib)
         # (after an edit meanwhile nobody could tell of which text this library is)
         if status == 0 and stamp == crate.stamp():
-            for name, text in (MARK, ""), ("stamp", stamp):
-                with open(f"{folder}/{name}", "w", encoding="utf-8") as it:
+            for name, text in (MARK, builds_below(crate)), ("stamp", stamp):
+                with open(beside(crate, name), "w", encoding="utf-8") as it:
                     it.write(text)
         return status
 
-    rtlib.Crate.build_rlib = build_rlib
+    rtlib.Crate.is_built, rtlib.Crate.build_rlib = is_built, build_rlib
 
 
 def set_less_aside(rt):

@@ -27,7 +27,6 @@ TAKEN = {
     "processors": [],
     "rtlib.Crate.__init__": ["self", "folder", "root", "known", "above", "name"],
     "rtlib.Crate.count": ["self", "pattern"],
-    "rtlib.Crate.is_built": ["self"],
     "rtlib.Crate.makes_rlib": ["self"],
     "rtlib.guarded": [],
     "rtlib.lock": ["crates"],
