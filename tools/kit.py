@@ -17,10 +17,9 @@ import sys
 import threading
 
 # What the functions are called that are used here, and what they take.
-TAKEN = {
-    "main": ["words"],
-    "need": ["crate"],
-    "rtlib.Crate.below": ["self"],
+TAKEN = {"main": ["words"], "need": ["crate"], "rtlib.Crate.below": ["self"]}
+# The same for the libraries of statements. A kit that lacks one of these builds them all with their proofs.
+FOR_STATEMENTS = {
     "rtlib.Crate.build_rlib": ["self", "flags", "anew"],
     "rtlib.Crate.call": ["self", "words"],
     "rtlib.Crate.has_kept": ["self"],
@@ -75,7 +74,8 @@ def load(taken=None):
         remember_sums(rt.rtlib.Crate)
     remember_lists(rt.rtlib.Crate)
     set_less_aside(rt)
-    build_statements_first(rt.rtlib)
+    if can_build_statements(rt):
+        build_statements_first(rt.rtlib)
     return rt
 
 
@@ -108,11 +108,18 @@ def remember_sums(crate_type):
     crate_type.stamp = stamp
 
 
+def can_build_statements(rt):
+    try:
+        for name, parameters in FOR_STATEMENTS.items():
+            check(rt, name, parameters)
+    except Unexpected:
+        return False
+    return STATEMENTS in rt.rtlib.help_of("build")
+
+
 def build_statements_first(rtlib):
     """The first build of a library is of statements, if all libraries below it are. Over libraries with their proofs it would take
     far more time and memory. If one of those is built anew with its proofs, the library does not count as built any more."""
-    if STATEMENTS not in rtlib.help_of("build"):
-        raise Unexpected(f"{rtlib.RATTLE} builds no library of statements")
     made_is_built, made_build = rtlib.Crate.is_built, rtlib.Crate.build_rlib
 
     def beside(crate, name):
