@@ -1,5 +1,5 @@
 #!/bin/sh
-# Times `check` over a full ROM: 16,384 bytes with some 600 procedures, of which the NMI routine calls a part, with loops.
+# Times `check` over a full ROM: 16,384 bytes with some 600 procedures. The NMI routine calls a part of them, with loops.
 #
 # usage: bench/procedures.sh [PROGRAM [FOLDER]]        PROGRAM is ./galcert where none is named; the ROM and its annotations stay in FOLDER
 #

@@ -1,7 +1,7 @@
 #!/bin/sh
 # Compares single steps at random states with what Debian's libz80ex (apt-get install libz80ex-dev) makes of them:
 # bench/steps.sh [COUNT] [SEED], a million where no count is given. The first call proves what crates/benchmarks stands on, which
-# takes minutes; 5,000,000 steps behind it took 71 seconds. The steps go through a file of 126 bytes a step, since a pipe is read
+# takes minutes; after it 5,000,000 steps took 71 seconds. The steps go through a file of 126 bytes a step, since a pipe is read
 # byte by byte.
 set -eu
 here=$(cd "$(dirname "$0")" && pwd)

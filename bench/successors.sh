@@ -9,6 +9,7 @@ events=50000000
 work=$(mktemp -d)
 trap 'rm -rf "$work"' EXIT
 cc -O2 -o "$work/libz80ex" "$here/libz80ex.c" -lz80ex
+python3 "$here/roms.py" "$work"
 (cd "$here/../crates/benchmarks" && ../../tools/rt run > /dev/null < /dev/null)
 ours=$here/../crates/benchmarks/out/benchmarks
 theirs=$work/libz80ex
@@ -19,7 +20,7 @@ seconds() { { time "$@" < /dev/null > /dev/null; } 2>&1; }
 
 for _ in 1 2 3 4 5; do
     seconds "$ours" 0 0 0 "$calls" >> "$work/ours"
-    seconds "$theirs" "$events" >> "$work/theirs"
+    seconds "$theirs" "$work/mixed.rom" "$events" >> "$work/theirs"
 done
 least() { sort -n "$1" | head -1; }
 "$ours" 0 0 0 "$calls" < /dev/null | head -1

@@ -1,7 +1,7 @@
 #!/usr/bin/env bash
 # Runs the built program with names for addresses (docs/PROGRAM.md, "Names for addresses"): tools/naming.sh GALCERT.
-# Four games, of 700 to 1,300 instructions, are accepted by labels and by the notes in their source alone: as they are and,
-# where there is a z80asm, three of them after 40 bytes were put in at the front of the NMI routine. One of them is compiled
+# Four games, of 700 to 1,300 instructions, are accepted by the notes in their source alone, and two of them by labels too: as
+# they are and, where there is a z80asm, three of them after 40 bytes were put in at the front of the NMI routine. One of them is compiled
 # from C. Then come refusals and files that are none. Prints each case that is not so, and how many were.
 set -uo pipefail
 galcert=$(realpath "$1")

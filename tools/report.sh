@@ -3,7 +3,8 @@
 #
 # The page has to pass `tidy -e` without errors or warnings, and its numbers have to agree with those of `verify`, `longest`
 # and `list`, and with the two files (tools/report.py). With a FOLDER, headless Chromium takes the first screen at 1280 by 900 and at 390 by 844,
-# made smaller by pngquant, as FOLDER/report.png and FOLDER/report-phone.png; with `dark` in the dark scheme. Those in docs/ are of raid2, light.
+# made smaller by pngquant, as FOLDER/report.png and FOLDER/report-phone.png; with `dark` in the dark scheme. Those in docs/ are
+# light, of tests/raid under its old name, raid2.
 set -eu
 program=$(realpath "$1"); rom=$2; cert=$3; symbols=${4:-}; folder=${5:-}
 scheme=1

@@ -15,7 +15,7 @@ use z80_decode::Register8;
 use z80_moves::{Move, Test};
 
 impl AbsDraft {
-    /// Restricts what is known to where a test held, or did not. Answers whether that is feasible; else nothing changes.
+    /// Restricts what is known to where a test held, or did not. Answers whether that can be; if not, nothing changes.
     pub fn restrict(&mut self, test: Test, held: bool) -> bool
         ensures exact { MatchBool result (tested test held self.old
             ≡ Some self.new) (tested test held self.old ≡ None) }

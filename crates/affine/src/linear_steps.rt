@@ -34,8 +34,8 @@ impl Combination {
 }
 
 impl Space {
-    /// What a step with this effect leaves after which one variable is a linear of the variables before the step. The stack
-    /// shape has `slots` slots after it, as in `after`.
+    /// What a step with this effect leaves after which one variable is a linear of the variables before the step. The
+    /// stack shape has `slots` slots after it, as in `after`.
     pub fn after_linear(
         &self,
         effect: &Effect,

@@ -32,8 +32,8 @@ pub struct JudgedRow {
     pub restarts: bool,
 }
 
-/// Judges a state with flag parts at a place, by the rules of the task's version; before version 3 the parts say nothing.
-/// `timed` says whether the place's procedure is timed.
+/// Judges a state with flag parts at a place, by the rules of the task's version; before version 3 the parts say
+/// nothing. `timed` says whether the place's procedure is timed.
 pub fn judged_row(
     alloc: Global,
     task: &Task,

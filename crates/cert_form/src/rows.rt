@@ -129,8 +129,8 @@ impl Rows {
         Some(last.shape)
     }
 
-    /// Appends a row. The numbers are those of the shapes of the rows before it; others cost memory alone. Where memory is
-    /// refused, the rows stay as they were.
+    /// Appends a row. The numbers are those of the shapes of the rows before it; others cost memory alone. Where memory
+    /// is refused, the rows stay as they were.
     pub fn push(&mut self, numbers: &mut ShapeNumbers, row: Row) -> Result<(), AllocError>
         ensures pushed { OnOk result (self.new ≡ self.old ++ row ∷ []) }
         ensures err { OnErr result (self.new ≡ self.old) }

@@ -179,8 +179,8 @@ impl<'a> RowRef<'a> {
         }
     }
 
-    /// Whether the row's state overlaps another one: the shapes have one length, and in each pair and each slot the ranges
-    /// share a value (docs/CHECKER.md, "Paying"). States are large, so none is copied.
+    /// Whether the row's state overlaps another one: the shapes have one length, and in each pair and each slot the
+    /// ranges share a value (docs/CHECKER.md, "Paying"). States are large, so none is copied.
     pub fn overlaps(&self, state: &AbsState) -> bool
         ensures { IsTrue result ↔ OverlapsState self.now.state state.now }
     {

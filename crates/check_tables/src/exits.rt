@@ -52,7 +52,7 @@ fn state_left(instr: &Instr, row: &RowRef) -> Option<AbsState>
     }
 }
 
-/// A state restricted to where the condition is met, by the row's flag parts and its flag fact; None if nothing is left.
+/// A state restricted to where a condition is met, by the row's flag parts and its flag fact; None if nothing is left.
 fn state_where(condition: Condition, parts: &FlagParts, state: AbsState) -> Option<AbsState>
     ensures { result ≡ state_where condition parts.now state }
 {

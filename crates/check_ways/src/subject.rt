@@ -289,7 +289,7 @@ fn refined(step: RefinedStep) -> SubjectStep
     }
 }
 
-/// What is decoded at an address of the ROM, its length in bytes (0 where nothing is decoded), and the address after it.
+/// What is decoded at an address of the ROM, its length in bytes (0 where nothing is), and the address after it.
 fn stands_at(rom: &Rom, address: u16) -> (Result<Instr, DecodeFault>, u8, u16)
     ensures stands { StandsAt rom.now address result.0 }
     ensures len { IfOk result.0 (λ instr. result.1 ≡ length (spelling instr)) }

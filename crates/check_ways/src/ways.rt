@@ -124,7 +124,7 @@ impl<'a> Way<'a> {
         certificate.rows_at(self.proc, self.address)
     }
 
-    /// Whether a row where the way arrives is asked: it is the only row there, or its state overlaps the one that arrives.
+    /// Whether a row where the way arrives is asked: it is the only one there, or its state overlaps what arrives.
     pub(crate) fn asks(&self, lone: bool, row: &RowRef) -> bool
         ensures { IsTrue result ↔ (IsTrue lone ⊎ OverlapsState row.now.state self.now.state) }
     {

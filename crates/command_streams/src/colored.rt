@@ -91,7 +91,8 @@ impl<W: Sink> LineInColor<W> {
     }
 }
 
-/// A sink that passes lines to another one, in color if that is wanted. With color a line is passed on once it is whole.
+/// A sink that passes lines to another one, in color if that is wanted. With color a line is passed on once it is
+/// whole.
 #[derive(Drop)]
 pub struct ColoredLines<W: Sink> {
     line: LineInColor<W>,

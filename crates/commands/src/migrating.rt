@@ -11,8 +11,8 @@ use command_parts::{ExitStatus, read_certificate};
 use std::alloc::Global;
 use texts::{DeviceFault, Sink, Source};
 
-/// `galcert migrate CERT [--to N]`: writes the text of a certificate in a version, or as it is if its own is later; or the
-/// line for a text that is no certificate (docs/PROGRAM.md). The certificate is read to its end before anything is
+/// `galcert migrate CERT [--to N]`: writes the text of a certificate in a version, or as it is if its own is later; or
+/// the line for a text that is no certificate (docs/PROGRAM.md). The certificate is read to its end before anything is
 /// written.
 ///
 /// The result is the exit status: 0 written, 1 no certificate, 3 a device failed, 4 memory was refused. What was

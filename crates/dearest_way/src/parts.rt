@@ -184,8 +184,8 @@ fn part_at(
     }
 }
 
-/// The part of the stage at a place of a route. The next part begins with the row `next`, and the parts from there on come
-/// to `rest`. None if there is no such stage, or if it does not lead there.
+/// The part of the stage at a place of a route. The next part begins with the row `next`, and the parts from there on
+/// come to `rest`. None if there is no such stage, or if it does not lead there.
 fn part_of(
     alloc: Global,
     rom: &Rom,

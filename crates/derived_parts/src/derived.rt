@@ -48,8 +48,8 @@ fn offer_copies(found: &mut Found, source: &StepSource, after: &AbsState) {
     }
 }
 
-/// A linear over the variables after a step as one over those before it. None if a variable is unknown, or a number gets
-/// too great.
+/// A linear over the variables after a step as one over those before it. None if a variable is unknown, or a number
+/// gets too great.
 fn before_step(source: &StepSource, linear: &Linear) -> Option<Combination> {
     let mut sum = Combination::of_constant(linear.constant());
     for term in linear.terms() {
@@ -89,8 +89,8 @@ fn with_change(sum: &Combination, term: &Term, change: Change) -> Option<Combina
     }
 }
 
-/// A linear over the variables after a step as one over those before it, in the state `before`. A variable that stays, or
-/// is copied, and has one value there counts as that value. None if a variable is unknown after the step, or where a
+/// A linear over the variables after a step as one over those before it, in the state `before`. A variable that stays,
+/// or is copied, and has one value there counts as that value. None if a variable is unknown after the step, or where a
 /// number gets too great.
 pub fn linear_before(linear: &Linear, effect: &Effect, before: &AbsState) -> Option<Linear> {
     let mut sum = Combination::of_constant(linear.constant());

@@ -85,8 +85,8 @@ impl Found {
 }
 
 /// The part with this letter and this candidate for its linear. The linear of a part `z` has a first coefficient above
-/// 0: it says the same with the sign turned. None if the linear has more than three terms or too great numbers, or if it
-/// has no variable and tells nothing that is used.
+/// 0: it says the same with the sign turned. None if the linear has more than three terms or too great numbers, or if
+/// it has no variable and tells nothing that is used.
 fn part_of(letter: Letter, candidate: &Combination) -> Option<FlagPart> {
     let linear = candidate.linear()?;
     match linear.terms().first() {

@@ -41,8 +41,8 @@ pub struct Asked<'q> {
 const CERTIFICATE: &[u8] = b"galcert ";
 
 /// `galcert explain ROM [ANNOT | CERT]`: writes to `out` why `check` or `verify` refuses a ROM (docs/EXPLAIN.md), or
-/// that it is accepted. `second` has annotations, or a certificate where it begins with `galcert `. In annotations names
-/// may stand for addresses.
+/// that it is accepted. `second` has annotations, or a certificate where it begins with `galcert `. In annotations
+/// names may stand for addresses.
 ///
 /// The result is the exit status: 0 accepted, 1 refused, bad annotations or a bad note, 3 a device failed, 4 memory was
 /// refused. What was written before a device failed stays.
@@ -165,7 +165,8 @@ fn answered<'r, P: Progress>(
     }
 }
 
-/// Annotations whose addresses are numbers, with the notes of the source. Without names and notes they stay as they are.
+/// Annotations whose addresses are numbers, with the notes of the source. Without names and notes they stay as they
+/// are.
 fn numbered_text(
     alloc: Global,
     bytes: &[u8],

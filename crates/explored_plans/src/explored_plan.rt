@@ -144,10 +144,10 @@ impl ExploredPlan {
         Ok(replace(&mut self.plan, plan))
     }
 
-    /// Explores another plan from the rows of this one, between which these are the steps. The plans differ in the splits
-    /// and inline calls at these reaches. Only what these distinguish is explored again, so more may be refused than if
-    /// all were explored. None if the analysis takes too many rows or visits, or the watched address is refused before
-    /// the fixpoint is reached.
+    /// Explores another plan from the rows of this one, between which these are the steps. The plans differ in the
+    /// splits and inline calls at these reaches. Only what these distinguish is explored again, so more may be refused
+    /// than if all were explored. None if the analysis takes too many rows or visits, or the watched address is refused
+    /// before the fixpoint is reached.
     ///
     /// # Errors
     ///

@@ -97,8 +97,8 @@ impl<'s> Search<'s> {
         Ok(())
     }
 
-    /// Whether no cheap move helped a refused address since the plan was last explored as a whole. It is not tried again
-    /// before.
+    /// Whether no cheap move helped a refused address since the plan was last explored as a whole. It is not tried
+    /// again before.
     pub fn is_passed(&self, address: u16) -> bool {
         self.explored.is_near && self.passed.contains(&address)
     }
@@ -232,8 +232,8 @@ impl<'s> Search<'s> {
         })
     }
 
-    /// Explores the whole plan, if only a part of it was explored. It was tried before, and is no trial. If that refuses
-    /// what was not refused before, the splits found since then lose their ends, where that helps.
+    /// Explores the whole plan, if only a part of it was explored. It was tried before, and is no trial. If that
+    /// refuses what was not refused before, the splits found since then lose their ends, where that helps.
     pub fn explore_whole(&mut self) -> Result<(), FlowFault> {
         if !self.explored.is_near {
             return Ok(());

@@ -1,5 +1,5 @@
-// The facts and flag parts that a certificate needs (docs/INFERENCE.md, "Facts"): those wanted by refused rows, with all
-// that they follow from.
+// The facts and flag parts that a certificate needs (docs/INFERENCE.md, "Facts"): those wanted by refused rows, with
+// all that they follow from.
 #![tactic(auto)]
 
 mod carrying;

@@ -36,9 +36,9 @@ pub struct FactSearch<'s> {
 
 /// The facts of rows with which an analysis that keeps no relations refuses no row that the one with relations accepts.
 /// They are the facts wanted by refused rows and all from which these follow; where those do not suffice, in version 3
-/// the flag parts before refused rows that narrow a state at a condition; then also each relation that says something of
-/// what a refused row writes through, and then each that narrows a row where states join. At last come those that narrow
-/// the counter of a loop. Some may be missing: the checker judges.
+/// the flag parts before refused rows that narrow a state at a condition; then also each relation that says something
+/// of what a refused row writes through, and then each that narrows a row where states join. At last come those that
+/// narrow the counter of a loop. Some may be missing: the checker judges.
 ///
 /// # Errors
 ///
@@ -140,8 +140,8 @@ impl FactFamily {
 }
 
 impl<'s> FactSearch<'s> {
-    /// The number of the row with relations for a row without. It is that of the same class, or else of the first class:
-    /// a wide store may seem to enable NMIs, and then the analysis without relations distinguishes more classes.
+    /// The number of the row with relations for a row without. It is that of the same class, or else of the first
+    /// class: a wide store may seem to enable NMIs, and then the analysis without relations distinguishes more classes.
     pub(crate) fn related_number(&self, number: u64) -> u64 {
         if self.related.row(number).is_some() {
             return number;

@@ -28,8 +28,8 @@ fn reads_carry(instr: &Instr) -> bool {
     }
 }
 
-/// The part that a plain row lacks, of those that hold at the related row: the first that narrows it at its condition, or
-/// that makes the carry known that it reads.
+/// The part that a plain row lacks, of those that hold at the related row: the first that narrows it at its condition,
+/// or that makes the carry known that it reads.
 fn lacking_part(
     setting: Setting,
     number: u64,
@@ -80,8 +80,8 @@ impl<'s> FactSearch<'s> {
         }
     }
 
-    /// The flag parts that rows before refused ones lack, at the least distance at which there are any, with all from which
-    /// these follow.
+    /// The flag parts that rows before refused ones lack, at the least distance at which there are any, with all from
+    /// which these follow.
     ///
     /// # Errors
     ///
@@ -131,8 +131,8 @@ impl<'s> FactSearch<'s> {
         }
     }
 
-    /// Adds the part that a row lacks, with all from which it follows. If a variable is asked for, only a part that says
-    /// something of it is added.
+    /// Adds the part that a row lacks, with all from which it follows. If a variable is asked for, only a part that
+    /// says something of it is added.
     fn add_lacking(
         &self,
         alloc: Global,
@@ -167,8 +167,8 @@ impl<'s> FactSearch<'s> {
         Ok(())
     }
 
-    /// Adds the flag parts that narrow the counters of loops at conditions in timed procedures, with all from which these
-    /// follow.
+    /// Adds the flag parts that narrow the counters of loops at conditions in timed procedures, with all from which
+    /// these follow.
     ///
     /// # Errors
     ///

@@ -23,8 +23,8 @@ struct TemporaryFile {
 
 /// A file that is opened at its first write. A regular file, and one that is not there yet, is written beside itself as
 /// a draft, and `finish` gives the draft its name. If nothing is written, or `discard` is called in the place of
-/// `finish`, an existing file stays as it is. A pipe or a device is written at once. So is a file in a folder that takes
-/// no new file, and one for whose draft memory is refused.
+/// `finish`, an existing file stays as it is. A pipe or a device is written at once. So is a file in a folder that
+/// takes no new file, and one for whose draft memory is refused.
 #[derive(Drop)]
 pub struct FileSink<'a, R: Files> {
     files: &'a R,

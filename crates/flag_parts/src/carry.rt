@@ -27,8 +27,8 @@ fn told_sign(span: ValueSpan) -> Option<bool>
     None
 }
 
-/// The C flag, if the part tells it: its linear is below 0 at all values of the ranges, or at none. Each variable ranges
-/// by itself.
+/// The C flag, if the part tells it: its linear is below 0 at all values of the ranges, or at none. Each variable
+/// ranges by itself.
 fn told_carry(part: &FlagPart, state: &AbsState) -> Option<bool>
     ensures { result ≡ told_carry (range_of state.now) part.now }
 {

@@ -1,5 +1,5 @@
-// A writer of HTML: tags, attributes, and text whose characters cannot be read as markup (HTML Living Standard, "Writing
-// HTML documents").
+// A writer of HTML: tags, attributes, and text whose characters cannot be read as markup (HTML Living Standard,
+// "Writing HTML documents").
 #![tactic(auto)]
 
 mod characters;

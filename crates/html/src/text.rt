@@ -9,8 +9,8 @@ use crate::characters::html_char;
 use bstr::ByteSlice;
 use texts::{DeviceFault, Sink, put};
 
-/// Writes bytes as text, also inside an attribute's quotes: `& < > " '` by their names, and a control character of ASCII
-/// (00 to 1F, 7F) as `?`. Bytes that are no UTF-8 count as U+FFFD.
+/// Writes bytes as text, also inside an attribute's quotes: `& < > " '` by their names, and a control character of
+/// ASCII (00 to 1F, 7F) as `?`. Bytes that are no UTF-8 count as U+FFFD.
 ///
 /// # Errors
 ///

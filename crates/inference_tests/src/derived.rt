@@ -23,9 +23,9 @@ fn of_copy(alloc: Global, code: &[u8], copy: Variable, wanted: &[FlagPart]) -> b
     derives(alloc, code, &with_a(0, 255), &[a_less(copy)], &[], wanted)
 }
 
-/// A is a copy before an operation. SUB 40h: C is set exactly if L was below 40h, and exactly if the difference is above
-/// BFh. OR C where A is a copy of B: Z is set exactly if BC is 0, and exactly if A is. CP 8 and OR A leave A alone, so Z
-/// tells of C.
+/// A is a copy before an operation. SUB 40h: C is set exactly if L was below 40h, and exactly if the difference is
+/// above BFh. OR C where A is a copy of B: Z is set exactly if BC is 0, and exactly if A is. CP 8 and OR A leave A
+/// alone, so Z tells of C.
 #[test]
 fn an_operation_tells_of_a_copy(rt: HostRuntime) {
     let of_sub = [
@@ -57,8 +57,8 @@ fn tells(
     derives_only(alloc, code, &with_a(0, 255), facts, row, wanted)
 }
 
-/// LD L,A leaves the flags alone, and C then tells of both. JR leaves all alone. CPL leaves C alone and makes A 255 - A:
-/// A was below 64 exactly if 191 - A is below 0 now.
+/// LD L,A leaves the flags alone, and C then tells of both. JR leaves all alone. CPL leaves C alone and makes A 255 -
+/// A: A was below 64 exactly if 191 - A is below 0 now.
 #[test]
 fn parts_go_on(rt: HostRuntime) {
     assert!(rt; tells(rt.alloc(), &[0x6F, 0], &[], &[of_a()], &[of_a(), of_l()]));

@@ -37,8 +37,8 @@ fn along(far: u16) -> Space {
     here
 }
 
-/// A coefficient of an equality is at most 1,000. One of a direction is at most 32,767: a greater direction is not kept,
-/// and its variables are forgotten. Then the join with a state in which nothing is known of them changes nothing.
+/// A coefficient of an equality is at most 1,000. One of a direction is at most 32,767: a greater direction is not
+/// kept, and its variables are forgotten. Then the join with a state in which nothing is known of them changes nothing.
 #[test]
 fn great_coefficients_are_not_kept(rt: HostRuntime) {
     let wanted = linear(0, &[(1000, Variable::B), (-1, Variable::Ix)]);

@@ -238,8 +238,8 @@ impl InferredRow {
         !(by.relates && both.join(space))
     }
 
-    /// The row's parts once a state came that tells of the flags: what it tells, if the row it comes from told all so far;
-    /// else the parts that both have. An analysis without relations has the parts that its guide gives.
+    /// The row's parts once a state came that tells of the flags: what it tells, if the row it comes from told all so
+    /// far; else the parts that both have. An analysis without relations has the parts that its guide gives.
     fn parts_after(&self, told: &ArrivingParts, by: &Tightening) -> FlagParts {
         if !by.relates {
             self.parts.copied()
@@ -405,8 +405,8 @@ impl InferredRow {
     }
 }
 
-/// The join of two states, if one row can have both. The writer's analysis joins no state in which an NMI may come before
-/// the cells are armed; here two such states are joined, so that they take one row.
+/// The join of two states, if one row can have both. The writer's analysis joins no state in which an NMI may come
+/// before the cells are armed; here two such states are joined, so that they take one row.
 fn join_of(one: &AbsState, other: &AbsState, cells: usize) -> Option<AbsState> {
     if one.mode == other.mode && one.armed == other.armed {
         one.join(other)

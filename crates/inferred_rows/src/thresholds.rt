@@ -66,8 +66,8 @@ impl Thresholds {
         }
     }
 
-    /// The greatest threshold from 1 on that is not above a word; 1 if there is none, and 0 for the word 0. So a counter
-    /// that is never 0 keeps that, and where it is lowered it does not seem to wrap.
+    /// The greatest threshold from 1 on that is not above a word; 1 if there is none, and 0 for the word 0. So a
+    /// counter that is never 0 keeps that, and where it is lowered it does not seem to wrap.
     pub fn word_below(&self, word: u16) -> u16 {
         if word == 0 {
             return 0;

@@ -6,13 +6,13 @@ use judged_rows::JudgedRows;
 use row_worklist::{Setting, Watch, Worklist};
 use std::alloc::Global;
 
-/// Computes the fixpoint from the entries of main and of the NMI routine, if there is one, in at most `visits` visits of
-/// rows. Then two rounds without widening lower what a widening raised.
+/// Computes the fixpoint from the entries of main and of the NMI routine, if there is one, in at most `visits` visits
+/// of rows. Then two rounds without widening lower what a widening raised.
 ///
 /// # Errors
 ///
-/// `Limit` if there are more than 65,535 rows or 1,024 procedures, or the visits do not suffice; `NoMemory` where memory
-/// was refused.
+/// `Limit` if there are more than 65,535 rows or 1,024 procedures, or the visits do not suffice; `NoMemory` where
+/// memory was refused.
 pub fn found_rows(
     alloc: Global,
     setting: Setting,
@@ -27,8 +27,8 @@ pub fn found_rows(
     )
 }
 
-/// The same, with the judged rows of other analyses of the ROM on one map. Rows that this one judges are added. A watched
-/// row that is refused before the fixpoint is reached ends the analysis.
+/// The same, with the judged rows of other analyses of the ROM on one map. Rows that this one judges are added. A
+/// watched row that is refused before the fixpoint is reached ends the analysis.
 ///
 /// # Errors
 ///

@@ -1,5 +1,5 @@
-// Analyses that infer (docs/INFERENCE.md), from the entries or from the rows of another one, and what comes of them. They
-// go on after refusals; what they find is judged by the checker.
+// Analyses that infer (docs/INFERENCE.md), from the entries or from the rows of another one, and what comes of them.
+// They go on after refusals; what they find is judged by the checker.
 #![tactic(auto)]
 
 mod depths;

@@ -12,8 +12,8 @@ use std::rc::Rc;
 /// A place to which a row sends a state, and the row.
 type Sending = (u64, u64);
 
-/// Which rows a round computes again: those at some places, from the rows that send something there. None stands for all
-/// rows.
+/// Which rows a round computes again: those at some places, from the rows that send something there. None stands for
+/// all rows.
 #[derive(Clone, Copy)]
 struct Scope<'r> {
     places: Option<&'r BTreeSet<u64>>,

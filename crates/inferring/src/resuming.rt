@@ -1,5 +1,5 @@
-// An analysis that goes on from the rows of another one: something that a plan distinguishes is added or dropped, and only
-// what it distinguishes is computed again.
+// An analysis that goes on from the rows of another one: something that a plan distinguishes is added or dropped, and
+// only what it distinguishes is computed again.
 
 use crate::lowering::{first_class, lowered_at};
 use analysis::{FlowFault, MAIN, NMI};
@@ -14,8 +14,8 @@ use std::collections::BTreeSet;
 pub struct SplitReach {
     pub at: u16,
     pub until: u16,
-    /// Whether a split has further parts, after those that it had. Then all rows stay, and those that dropped a state lead
-    /// on.
+    /// Whether a split has further parts, after those that it had. Then all rows stay, and those that dropped a state
+    /// lead on.
     pub is_longer: bool,
 }
 
@@ -138,8 +138,8 @@ fn lowered_anew(
     }
 }
 
-/// The rows at the addresses of reaches, those to which they lead within their procedures up to their ends, and the rows
-/// of procedures that are called from the addresses of reaches alone.
+/// The rows at the addresses of reaches, those to which they lead within their procedures up to their ends, and the
+/// rows of procedures that are called from the addresses of reaches alone.
 fn lost_rows(
     alloc: Global,
     before: &Worklist,
@@ -190,7 +190,8 @@ fn lose_reach(
     Ok(())
 }
 
-/// Main, the NMI routine, and the procedures that they call, by way of others too, but not from the addresses of reaches.
+/// Main, the NMI routine, and the procedures that they call, by way of others too, but not from the addresses of
+/// reaches.
 fn called_elsewhere(
     alloc: Global,
     before: &Worklist,

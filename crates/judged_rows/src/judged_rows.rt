@@ -52,8 +52,8 @@ impl JudgedRows {
         })
     }
 
-    /// Judges a state with flag parts at a place, if it was not judged before. `timed` says whether the place's procedure is
-    /// timed.
+    /// Judges a state with flag parts at a place, if it was not judged before. `timed` says whether the place's
+    /// procedure is timed.
     ///
     /// # Errors
     ///
@@ -230,8 +230,8 @@ fn number_of(register: Register8) -> u64 {
     }
 }
 
-/// The digest of what a task says of the whole ROM: its cells, its stack region, whether there is an NMI routine, and the
-/// version of its rules.
+/// The digest of what a task says of the whole ROM: its cells, its stack region, whether there is an NMI routine, and
+/// the version of its rules.
 fn digest_of_task(task: &Task) -> Digest {
     let mut digest = Digest::empty();
     for cell in task.cells() {

@@ -49,8 +49,8 @@ fn carried_if(
 }
 
 /// The values that A may have after ADC or SBC with a known carry, if the results over the whole numbers lie in one
-/// window of 256. `byte` is the range of the byte in work at the end of the instruction, `carry` the carry before it, if
-/// it is known.
+/// window of 256. `byte` is the range of the byte in work at the end of the instruction, `carry` the carry before it,
+/// if it is known.
 #[tactic(auto, using(crate::proofs::CarriedRanges::table_ranges_true), unfolding(crate::specs::Carried::carried_range))]
 pub fn carried_range(
     instr: &Instr,

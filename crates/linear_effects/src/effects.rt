@@ -12,8 +12,8 @@ use loop_bounds::Variable;
 use z80_decode::Instr;
 
 /// The variable that an instruction makes a linear of the variables before it, if there is one beside those that it
-/// leaves, copies, raises or lowers by 1. `byte` is the range of the byte in work at the end of the instruction, `carry`
-/// the carry before it, if it is known.
+/// leaves, copies, raises or lowers by 1. `byte` is the range of the byte in work at the end of the instruction,
+/// `carry` the carry before it, if it is known.
 #[tactic(auto, using(crate::proofs::Each::table_effects_true, crate::proofs::Slight::table_slight), unfolding(crate::specs::Effects::effect_of))]
 pub fn linear_effect(
     instr: &Instr,

@@ -192,8 +192,8 @@ impl Sum {
         are_proportional(self, 1, other, 1, ranges)
     }
 
-    /// Whether the canon is 0 or a multiple of the other's: multiples of both, by factors that are not 0, are equal. The
-    /// one-valued variables of `ranges` are put in.
+    /// Whether the canon is 0 or a multiple of the other's: multiples of both, by factors that are not 0, are equal.
+    /// The one-valued variables of `ranges` are put in.
     pub fn is_multiple_of<R: Ranges>(&self, other: &Sum, ranges: &R) -> bool
         ensures exact { IsTrue result ↔ IsMultipleIn (R.range_of ranges.now) self.now other.now }
         ensures true_of_values { IsTrue result → (x : Valuation) → AgreesWithBytes x

@@ -55,8 +55,8 @@ impl SumTerm {
     }
 }
 
-/// A whole number and terms, whose variables may stand more than once and in any order. It has room for 32 parts, each a
-/// term or a whole number. No number wraps.
+/// A whole number and terms, whose variables may stand more than once and in any order. It has room for 32 parts, each
+/// a term or a whole number. No number wraps.
 #[derive(Drop)]
 pub struct Sum {
     constant: i128,

@@ -45,8 +45,8 @@ impl View<'_> {
         })
     }
 
-    /// The text of an instruction with its label: in the place of the number, or after a semicolon. It is left out where
-    /// there is no room for it.
+    /// The text of an instruction with its label: in the place of the number, or after a semicolon. It is left out
+    /// where there is no room for it.
     pub fn labelled(&self, instr: &Instr, after: u16) -> Result<String, AllocError> {
         let alloc = self.alloc;
         let text = spelled(instr, after);

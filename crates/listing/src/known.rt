@@ -23,9 +23,9 @@ fn is_conditional(instr: &Instr) -> bool {
 }
 
 impl View<'_> {
-    /// What the rows at an address know together: the number of rows, ranges, whether SP is set and NMIs are off, facts,
-    /// and what the flags say. At a head these are all registers, elsewhere those that the instruction uses, and the
-    /// flags where it is conditional.
+    /// What the rows at an address know together: the number of rows, ranges, whether SP is set and NMIs are off,
+    /// facts, and what the flags say. At a head these are all registers, elsewhere those that the instruction uses, and
+    /// the flags where it is conditional.
     pub fn known(
         &self,
         rows: &[RowAt],

@@ -31,8 +31,8 @@ impl View<'_> {
         }
     }
 
-    /// The line before the entry of a procedure: its kind, entry, name, depth and time; of a called one also where it is
-    /// called from and what it keeps.
+    /// The line before the entry of a procedure: its kind, entry, name, depth and time; of a called one also where it
+    /// is called from and what it keeps.
     pub(crate) fn proc_line(&self, id: ProcId, proc: &Proc) -> Result<String, AllocError> {
         let alloc = self.alloc;
         let (kind, entry, depth) = (kind_word(proc.kind), proc.entry, proc.depth);

@@ -69,9 +69,9 @@ impl Form {
 }
 
 /// Whether `from` - `cost` - `to` - `factor` * `beside` is at least 0, with `to` rewritten by the effect and `beside`
-/// over the variables before the step. It is the test for a linear `to` + `factor` * v where the step leaves `beside` in
-/// v. The variables range as for `decreases`. The factor is at most 1,000,000 in size, and the coefficients of `beside`
-/// at most 256. No number wraps.
+/// over the variables before the step. It is the test for a linear `to` + `factor` * v where the step leaves `beside`
+/// in v. The variables range as for `decreases`. The factor is at most 1,000,000 in size, and the coefficients of
+/// `beside` at most 256. No number wraps.
 pub fn decreases_beside<S: Ranges, T: Ranges>(
     from: &Linear,
     to: &Linear,

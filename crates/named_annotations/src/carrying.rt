@@ -13,7 +13,8 @@ use t_states::MAX_BUDGET;
 const VISITS: u32 = 2_000_000;
 
 /// The facts that notes carry over loops, at the other addresses of the loops, each with the line of its note.
-/// `annotations` is what else is said. There are none where the annotations are bad, or the analysis takes too many rows.
+/// `annotations` is what else is said. There are none where the annotations are bad, or the analysis takes too many
+/// rows.
 ///
 /// # Errors
 ///

@@ -1,4 +1,5 @@
-// Moves about control flow: unrolled loops, first turns, bounds of loops, inline calls (docs/INFERENCE.md, "The search").
+// Moves about control flow: unrolled loops, first turns, bounds of loops, inline calls (docs/INFERENCE.md, "The
+// search").
 #![tactic(auto)]
 
 mod counters;

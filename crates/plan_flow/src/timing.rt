@@ -14,8 +14,8 @@ use z80_decode::Register8;
 /// A loop of at most so many turns is unrolled.
 const FEW_TURNS: usize = 16;
 
-/// A loop of two turns is unrolled even if it has a counter: where it goes back its counter is a constant, so no multiple
-/// of it pays for a turn.
+/// A loop of two turns is unrolled even if it has a counter: where it goes back its counter is a constant, so no
+/// multiple of it pays for a turn.
 const TWO_TURNS: usize = 2;
 
 /// The timed procedures, rising.

@@ -39,8 +39,9 @@ pub struct Inference<'r, 'g> {
 /// given stays. The same ROM and the same given annotations always give the same answer. None if the ROM has no bytes
 /// or more than 16,384.
 ///
-/// Rows are judged by the rules of version 2 first. Where no certificate is accepted by them, and `most` is version 3, the
-/// search goes on from what it found by the rules of version 3. If these do not suffice either, the answer is the first.
+/// Rows are judged by the rules of version 2 first. Where no certificate is accepted by them, and `most` is version 3,
+/// the search goes on from what it found by the rules of version 3. If these do not suffice either, the answer is the
+/// first.
 ///
 /// # Errors
 ///

@@ -111,8 +111,8 @@ impl PlainRows {
         rows_and_edges(alloc, setting, list)
     }
 
-    /// The rows by these annotations, which lack a fact of an address that those of the rows here have. None if a row is
-    /// refused; then `check` does not accept the ROM with them.
+    /// The rows by these annotations, which lack a fact of an address that those of the rows here have. None if a row
+    /// is refused; then `check` does not accept the ROM with them.
     ///
     /// # Errors
     ///

@@ -69,7 +69,8 @@ impl Attempted {
         Ok(())
     }
 
-    /// Whether a cell says nothing: its range is full, and it is not the low byte of a word whose high byte has a range.
+    /// Whether a cell says nothing: its range is full, and it is not the low byte of a word whose high byte has a
+    /// range.
     fn is_idle(&self, at: u16, range: ByteRange) -> bool {
         let serves = match self.ranges.get(&at.wrapping_add(1)) {
             Some(high) => !high.is_full(),

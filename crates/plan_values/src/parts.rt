@@ -11,8 +11,8 @@ use intervals::ByteRange;
 use row_graph::{NaturalLoop, turns_of};
 use row_worklist::Watch;
 
-/// A plan in which a split has the parts that states of a refused row lack, after those that it has. The rows of the other
-/// parts stay.
+/// A plan in which a split has the parts that states of a refused row lack, after those that it has. The rows of the
+/// other parts stay.
 pub fn try_parts(
     search: &mut Search,
     refused: u16,

@@ -92,8 +92,8 @@ pub fn with_split(
     }
 }
 
-/// The plan with the end of a split with the fewest rows with which it helps, or that without an end. `open` is the plan
-/// with the split without an end. Of each plan only what the split distinguishes is explored again.
+/// The plan with the end of a split with the fewest rows with which it helps, or that without an end. `open` is the
+/// plan with the split without an end. Of each plan only what the split distinguishes is explored again.
 fn with_near_end(
     search: &mut Search,
     refused: u16,

@@ -116,8 +116,8 @@ fn conditional_way(
     }
 }
 
-/// The successors of an instruction with a condition: where it is met, and where it is not, each from the state that the
-/// parts leave there.
+/// The successors of an instruction with a condition: where it is met, and where it is not, each from the state that
+/// the parts leave there.
 pub(crate) fn conditional_nexts(
     alloc: Global,
     ground: &Ground,

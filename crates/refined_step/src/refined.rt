@@ -70,8 +70,8 @@ fn with_cut(alloc: Global, next: Option<Next>, range: WordRange) -> Nexts
     nexts
 }
 
-/// The successors of a row whose instruction has no condition: its own, or with a linear effect or a known carry its one
-/// successor, sharpened.
+/// The successors of a row whose instruction has no condition: its own, or with a linear effect or a known carry its
+/// one successor, sharpened.
 fn sharpened_nexts(
     alloc: Global,
     ground: &Ground,
@@ -186,13 +186,13 @@ fn refined_answer(
 /// of an inline call. There are at most 256 kept cells. It takes no memory.
 ///
 /// At JP cc, JR cc, CALL cc and RET cc there is a successor for each outcome of the condition, from the state that the
-/// parts leave there, and none where they leave nothing. A step with a linear effect has its successor cut to the values
-/// of the linear, and ADC and SBC with a known carry have A cut to the results with that carry. All other successors are
-/// those of `row_step`, and so are data writes and reasons (docs/CHECKER.md, "The refined step").
+/// parts leave there, and none where they leave nothing. A step with a linear effect has its successor cut to the
+/// values of the linear, and ADC and SBC with a known carry have A cut to the results with that carry. All other
+/// successors are those of `row_step`, and so are data writes and reasons (docs/CHECKER.md, "The refined step").
 ///
-/// On every board of which the row and its parts hold, if no reason that the certificate decides applies to the row, the
-/// instruction does what one of these successors says, and the conditions and the linear effect are true. The linear has
-/// coefficients up to 256 in size.
+/// On every board of which the row and its parts hold, if no reason that the certificate decides applies to the row,
+/// the instruction does what one of these successors says, and the conditions and the linear effect are true. The
+/// linear has coefficients up to 256 in size.
 pub fn refined_step(
     alloc: Global,
     ground: &Ground,

@@ -31,8 +31,8 @@ pub fn for_loop(case: &Case, search: &mut Search, at: u16) -> Result<Remedy, Flo
     }
 }
 
-/// The counters that a plan has, as a remedy: all that go down, those of the loops around an address, or all notes of the
-/// plan.
+/// The counters that a plan has, as a remedy: all that go down, those of the loops around an address, or all notes of
+/// the plan.
 fn counted(case: &Case, other: &ExploredPlan, at: u16) -> Result<Remedy, FlowFault> {
     let all = falling_loops(case, other, None)?;
     if is_bounded_with(case, &all, at)? {

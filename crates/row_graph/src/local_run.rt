@@ -92,7 +92,8 @@ impl<'w> LocalRun<'w> {
         Ok(())
     }
 
-    /// The join of what is at an address and what comes there; None if that changes nothing, or the address takes no more.
+    /// The join of what is at an address and what comes there; None if that changes nothing, or the address takes no
+    /// more.
     fn joined_at(&self, address: u16, row: &LocalRow, arriving: &LocalRow) -> Option<LocalRow> {
         let (one, other) = (&row.state, &arriving.state);
         let parts = common_parts(&row.parts, &arriving.parts);

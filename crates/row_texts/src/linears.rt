@@ -89,7 +89,8 @@ pub(crate) fn is_word(variable: Variable) -> bool {
     }
 }
 
-/// Adds terms to a sum, with the signs turned if `is_turned`. `Some(true)` keeps the positive ones only, `Some(false)` the others.
+/// Adds terms to a sum, with the signs turned if `is_turned`. `Some(true)` keeps the positive ones only, `Some(false)`
+/// the others.
 fn add_terms(
     alloc: Global,
     sum: &mut String,

@@ -51,8 +51,8 @@ fn is_single(term: &Term) -> bool {
     term.coefficient == 1 || term.coefficient == -1
 }
 
-/// The text of a flag part: where its flag is set. `C: L < 40` is C where L is below 40h; `Z: A = 0`; `S: A > 7F`. A part
-/// without a variable is `C set` or `C clear`.
+/// The text of a flag part: where its flag is set. `C: L < 40` is C where L is below 40h; `Z: A = 0`; `S: A > 7F`. A
+/// part without a variable is `C set` or `C clear`.
 pub fn part_text(alloc: Global, part: &FlagPart) -> Result<String, AllocError> {
     let flag = flag_letter(part.letter);
     if part.linear.terms().is_empty() {

@@ -47,8 +47,8 @@ pub fn state_at_exit<'j>(manner: Manner, judged: &'j JudgedRow) -> Option<&'j Ab
     exit
 }
 
-/// What the step of a judged row says beside its successors. Nothing is said before version 3, nor in an analysis that keeps
-/// no relations.
+/// What the step of a judged row says beside its successors. Nothing is said before version 3, nor in an analysis that
+/// keeps no relations.
 pub fn told_by(setting: Setting, number: u64, row: &InferredRow, judged: &JudgedRow) -> StepTold {
     if !setting.manner.relates || setting.task.version() != Version::Three {
         return StepTold::none();
@@ -108,8 +108,8 @@ pub fn parts_told(
     }
 }
 
-/// The flag parts that are known after a step from a state with these facts, in the state `after`, by what the step says
-/// beside and by its two effects.
+/// The flag parts that are known after a step from a state with these facts, in the state `after`, by what the step
+/// says beside and by its two effects.
 pub fn parts_by(
     facts: &[Linear],
     before: &AbsState,

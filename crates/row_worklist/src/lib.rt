@@ -1,5 +1,5 @@
-// The worklist of an inferring analysis (docs/INFERENCE.md): the rows found so far, with their calls and exits, and what
-// the visit of a row changes.
+// The worklist of an inferring analysis (docs/INFERENCE.md): the rows found so far, with their calls and exits, and
+// what the visit of a row changes.
 #![tactic(auto)]
 
 mod judged_steps;

@@ -203,8 +203,8 @@ impl Worklist {
         Ok(calls)
     }
 
-    /// A state comes to a place, and `told` says what it tells of the flags. If its row changes, it waits. `widens` says
-    /// whether a bound that moved often is widened. The result is whether some row has the state.
+    /// A state comes to a place, and `told` says what it tells of the flags. If its row changes, it waits. `widens`
+    /// says whether a bound that moved often is widened. The result is whether some row has the state.
     ///
     /// # Errors
     ///
@@ -307,8 +307,8 @@ impl Worklist {
     ///
     /// # Errors
     ///
-    /// `Limit` if there are more than 65,535 rows or 1,024 procedures, or the row is watched and refused; `NoMemory` where
-    /// memory was refused.
+    /// `Limit` if there are more than 65,535 rows or 1,024 procedures, or the row is watched and refused; `NoMemory`
+    /// where memory was refused.
     pub fn visit(&mut self, alloc: Global, setting: Setting, number: u64) -> Result<(), FlowFault> {
         let Some(row) = self.rows.get(&number) else {
             return Ok(());
@@ -328,8 +328,8 @@ impl Worklist {
         self.note(alloc, number, found)
     }
 
-    /// A judged row leads to its successors. The result is whether a state to which it leads is in no part of a split, or
-    /// in no row.
+    /// A judged row leads to its successors. The result is whether a state to which it leads is in no part of a split,
+    /// or in no row.
     fn lead(
         &mut self,
         alloc: Global,

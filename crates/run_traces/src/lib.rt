@@ -1,4 +1,5 @@
-// Runs that are watched event by event: their trace, where they end, and the RAM after them (docs/PROGRAM.md, "Traces").
+// Runs that are watched event by event: their trace, where they end, and the RAM after them (docs/PROGRAM.md,
+// "Traces").
 #![tactic(auto)]
 
 mod lines;

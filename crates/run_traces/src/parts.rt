@@ -17,8 +17,8 @@ pub struct DumpNames<'a> {
     pub object: &'a str,
 }
 
-/// The files that a word names for RAM: one or three, with commas between them; none if there is no word. None if the word
-/// is out of form: `-` is no file here.
+/// The files that a word names for RAM: one or three, with commas between them; none if there is no word. None if the
+/// word is out of form: `-` is no file here.
 pub fn dump_names<'a>(word: Option<&'a str>) -> Option<DumpNames<'a>> {
     let Some(word) = word else {
         return Some(only("", ""));

@@ -31,10 +31,10 @@ pub struct Watching {
     pub until_nmi: Option<u32>,
 }
 
-/// `galcert run` with `--trace`, `--until-nmi` or `--dump`: checks a certificate for a ROM. Then it writes the refusal, or
-/// plays the input event by event, and writes the lines of the run as they come (docs/PROGRAM.md, "Traces"). At the end
-/// the bytes of work, video and object RAM go to `ram`, and then the last three lines to `out`. The ROM is read first, up
-/// to its 16,385th byte, then the certificate; the input is read only for an accepted certificate.
+/// `galcert run` with `--trace`, `--until-nmi` or `--dump`: checks a certificate for a ROM. Then it writes the refusal,
+/// or plays the input event by event, and writes the lines of the run as they come (docs/PROGRAM.md, "Traces"). At the
+/// end the bytes of work, video and object RAM go to `ram`, and then the last three lines to `out`. The ROM is read
+/// first, up to its 16,385th byte, then the certificate; the input is read only for an accepted certificate.
 ///
 /// The result is the exit status: 0 run, 1 refused or a bad line of the input, 3 a device failed, 4 memory was refused.
 /// What was written before a device failed stays.

@@ -1,5 +1,5 @@
-// The files of the source and their lines, as a listing shows them. z80asm shows each line of source, but no numbers: its
-// lines are counted, without those of included files and of expanded macros. sjasmplus shows the numbers.
+// The files of the source and their lines, as a listing shows them. z80asm shows each line of source, but no numbers:
+// its lines are counted, without those of included files and of expanded macros. sjasmplus shows the numbers.
 
 use crate::layout::Layout;
 use crate::source_text::SourceText;

@@ -48,8 +48,8 @@ pub(crate) fn entries_of<'a>(alloc: Global, said: &'a Annotations) -> Entries<'a
     Ok(entries)
 }
 
-/// The entries of annotations and of what guides an inferring analysis, without facts: it finds these itself. Given facts
-/// are there.
+/// The entries of annotations and of what guides an inferring analysis, without facts: it finds these itself. Given
+/// facts are there.
 pub(crate) fn guided_entries<'a>(
     alloc: Global,
     said: &'a Annotations,

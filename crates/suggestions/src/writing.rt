@@ -32,8 +32,8 @@ pub enum Suggested {
 /// stand as comments. Names of `symbols` stand for addresses that have a label.
 ///
 /// `annot` is the text of the given annotations. Where it says anything, it stays with its comments and its order, and
-/// what was found is added; only where the search changed a given split, the file is written anew. The map has to be for
-/// a ROM of this length.
+/// what was found is added; only where the search changed a given split, the file is written anew. The map has to be
+/// for a ROM of this length.
 ///
 /// # Errors
 ///

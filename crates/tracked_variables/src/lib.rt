@@ -1,5 +1,5 @@
-// The registers and stack slots that an affine space tracks, by their rank: vectors over them, and what an effect leaves
-// in each.
+// The registers and stack slots that an affine space tracks, by their rank: vectors over them, and what an effect
+// leaves in each.
 #![tactic(auto)]
 
 mod effects;

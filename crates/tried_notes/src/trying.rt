@@ -85,8 +85,8 @@ fn without_bad(addresses: Vec<u16>, bad: Vec<u16>) -> Vec<u16> {
     left
 }
 
-/// The addresses at which no row of a list is refused, in rising order. `unshown` has the rows from which a fact does not
-/// follow, in rising order.
+/// The addresses at which no row of a list is refused, in rising order. `unshown` has the rows from which a fact does
+/// not follow, in rising order.
 fn clean_addresses(alloc: Global, list: &Worklist, unshown: &[u64]) -> Result<Vec<u16>, FlowFault> {
     let mut all: Vec<u16> = Vec::new(alloc);
     let mut bad: Vec<u16> = Vec::new(alloc);

@@ -16,12 +16,12 @@ use std::alloc::Global;
 use symbols::Symbols;
 use texts::{Sink, Source, put};
 
-/// `galcert list ROM CERT`: checks a certificate for a ROM, and writes the listing of the program (docs/LISTING.md) line
-/// by line, or the refusal. The ROM is read first, up to its 16,385th byte, then the certificate; both are read before
-/// anything is written.
+/// `galcert list ROM CERT`: checks a certificate for a ROM, and writes the listing of the program (docs/LISTING.md)
+/// line by line, or the refusal. The ROM is read first, up to its 16,385th byte, then the certificate; both are read
+/// before anything is written.
 ///
-/// The result is the exit status: 0 listed, 1 refused, 3 a device failed, 4 memory was refused. What was written before a
-/// failure stays.
+/// The result is the exit status: 0 listed, 1 refused, 3 a device failed, 4 memory was refused. What was written before
+/// a failure stays.
 pub fn list_on<A: Source, B: Source, W: Sink>(
     alloc: Global,
     rom: &mut A,
@@ -128,11 +128,12 @@ pub fn longest_on<A: Source, B: Source, W: Sink, N: Sink>(
     }
 }
 
-/// `galcert report ROM CERT`: checks a certificate for a ROM, and writes the report on the program (docs/REPORT.md), a page
-/// of HTML, part by part, or the refusal. `files` has the names that are shown. The files are read as by `list_on`.
+/// `galcert report ROM CERT`: checks a certificate for a ROM, and writes the report on the program (docs/REPORT.md), a
+/// page of HTML, part by part, or the refusal. `files` has the names that are shown. The files are read as by
+/// `list_on`.
 ///
-/// The result is the exit status: 0 written, 1 refused, 3 a device failed, 4 memory was refused. What was written before a
-/// failure stays.
+/// The result is the exit status: 0 written, 1 refused, 3 a device failed, 4 memory was refused. What was written
+/// before a failure stays.
 pub fn report_on<A: Source, B: Source, W: Sink>(
     alloc: Global,
     rom: &mut A,

@@ -21,8 +21,8 @@ fn is_written(rt: &HostRuntime, out: &mut Taken) -> Result<bool, Fail> {
     }
 }
 
-/// Where memory is refused to one call, the other one gives the whole listing, and the text before is its beginning. Long
-/// names do not make lines longer than 100 columns.
+/// Where memory is refused to one call, the other one gives the whole listing, and the text before is its beginning.
+/// Long names do not make lines longer than 100 columns.
 #[test]
 fn written_again(rt: HostRuntime) -> Result<(), Fail> {
     let (mut one, mut other) = (Taken::new(rt.alloc()), Taken::new(rt.alloc()));

@@ -229,8 +229,8 @@ impl<'a> Solving<'a> {
         None
     }
 
-    /// The multiple of a loop's counter that a turn of it costs: what its row needs beyond a high constant to come back to
-    /// itself. None if each turn passes a row of a loop that waits.
+    /// The multiple of a loop's counter that a turn of it costs: what its row needs beyond a high constant to come back
+    /// to itself. None if each turn passes a row of a loop that waits.
     fn turn_of(&mut self, group: &Group, head: &Head) -> Option<Linear> {
         if self.rests_below(group, head.row) {
             turn_costing(head, self.needed(head.row)?.constant())
