@@ -11,7 +11,7 @@ all: galcert
 
 # prove.py proves what the program stands on, side by side. Then it builds the program and runs it once.
 galcert: crates.txt $(shell find crates -name '*.rt' -o -name '*.antt' | grep -v /out/)
-	@echo "== proving what galcert stands on, and building it; the first time may take hours"
+	@echo "== proving what galcert stands on, and building it; the first time takes an hour or more"
 	tools/prove.py galcert verify ../../$(SIX).rom ../../$(SIX).cert
 	cp crates/galcert/out/galcert galcert
 
@@ -42,8 +42,9 @@ install: galcert
 	install -D -m 644 share/galcert.bash $(DESTDIR)$(PREFIX)/share/bash-completion/completions/galcert
 	install -D -m 644 share/_galcert $(DESTDIR)$(PREFIX)/share/zsh/site-functions/_galcert
 	install -D -m 644 share/galcert.fish $(DESTDIR)$(PREFIX)/share/fish/vendor_completions.d/galcert.fish
-	install -d $(DESTDIR)$(PREFIX)/share/doc/galcert
-	install -m 644 README.md docs/*.md $(DESTDIR)$(PREFIX)/share/doc/galcert
+	install -d $(DESTDIR)$(PREFIX)/share/doc/galcert/docs
+	install -m 644 README.md $(DESTDIR)$(PREFIX)/share/doc/galcert
+	install -m 644 docs/*.md docs/*.png $(DESTDIR)$(PREFIX)/share/doc/galcert/docs
 
 uninstall:
 	rm -f $(DESTDIR)$(PREFIX)/bin/galcert $(DESTDIR)$(PREFIX)/share/man/man1/galcert.1

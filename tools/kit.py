@@ -7,7 +7,9 @@ so both kinds of `rt` go on from each other's work.
 Plain `rt` builds a library with its proofs. Here the first build of a library holds its statements alone, as in `rt ci`. Checks
 over statements take less time, memory and disk, but such a build keeps no work. So after an edit the library, and those above
 it, are built as plain `rt` does it: then the next edit finds what they kept. Statements fit only the very builds that they were
-made over. This module looks for that. Plain `rt` does not, but `rattle` then says which library to build again."""
+made over. This module looks for that. Plain `rt` does not, but `rattle` then says which library to build again.
+
+Plain `rt ci` leaves its libraries without a stamp, so that later commands build them again. Here they go on from them."""
 
 import importlib.machinery
 import importlib.util
@@ -27,6 +29,12 @@ FOR_STATEMENTS = {
     "rtlib.Crate.words": ["self", "flags", "tests", "keeps", "as_source"],
     "rtlib.help_of": ["verb"],
     "rtlib.text_of": ["file"],
+}
+# The same for the libraries that `rt ci` builds. A kit that lacks one of these builds them again after `rt ci`.
+FOR_CI = {
+    "Kept.is_built": ["self", "crate"],
+    "Kept.is_untouched": ["self", "crate"],
+    "rtlib.Crate.makes_rlib": ["self"],
 }
 # Some kits remember the sums by themselves, by a function of this name. The others sum by this one.
 REMEMBERS, SUMS = "stamp_once", {"rtlib.Crate.stamp": ["self"]}
@@ -74,8 +82,10 @@ def load(taken=None):
         remember_sums(rt.rtlib.Crate)
     remember_lists(rt.rtlib.Crate)
     set_less_aside(rt)
-    if can_build_statements(rt):
+    if has(rt, FOR_STATEMENTS) and STATEMENTS in rt.rtlib.help_of("build"):
         build_statements_first(rt.rtlib)
+        if has(rt, FOR_CI):
+            go_on_from_ci(rt)
     return rt
 
 
@@ -108,13 +118,41 @@ def remember_sums(crate_type):
     crate_type.stamp = stamp
 
 
-def can_build_statements(rt):
+def has(rt, functions):
     try:
-        for name, parameters in FOR_STATEMENTS.items():
+        for name, parameters in functions.items():
             check(rt, name, parameters)
     except Unexpected:
         return False
-    return STATEMENTS in rt.rtlib.help_of("build")
+    return True
+
+
+def beside(crate, name):
+    return f"{os.path.dirname(crate.rlib)}/{name}"
+
+
+def is_over_statements(crate):
+    return all(os.path.exists(beside(it, MARK)) for it in crate.below())
+
+
+def sum_line(crate):
+    try:
+        with open(f"{crate.rlib}/format", "rb") as it:
+            it.seek(-SUM_LENGTH, os.SEEK_END)
+            return it.read().decode()
+    except OSError:
+        return "none\n"
+
+
+def builds_below(crate):
+    return "".join(f"{it.name} {sum_line(it)}" for it in crate.below())
+
+
+def note_build(crate, stamp):
+    """Notes over which builds a library of statements was made, and of which text it is."""
+    for name, text in (MARK, builds_below(crate)), ("stamp", stamp):
+        with open(beside(crate, name), "w", encoding="utf-8") as it:
+            it.write(text)
 
 
 def build_statements_first(rtlib):
@@ -122,27 +160,13 @@ def build_statements_first(rtlib):
     far more time and memory. If one of those is built anew with its proofs, the library does not count as built any more."""
     made_is_built, made_build = rtlib.Crate.is_built, rtlib.Crate.build_rlib
 
-    def beside(crate, name):
-        return f"{os.path.dirname(crate.rlib)}/{name}"
-
-    def sum_line(crate):
-        try:
-            with open(f"{crate.rlib}/format", "rb") as it:
-                it.seek(-SUM_LENGTH, os.SEEK_END)
-                return it.read().decode()
-        except OSError:
-            return "none\n"
-
-    def builds_below(crate):
-        return "".join(f"{it.name} {sum_line(it)}" for it in crate.below())
-
     def is_built(crate):
         mark = rtlib.text_of(beside(crate, MARK))
         return made_is_built(crate) and mark in (None, builds_below(crate))
 
     def build_rlib(crate, flags, anew):
         is_first = not os.path.exists(beside(crate, "stamp")) and not crate.has_kept()
-        if anew or not is_first or not all(os.path.exists(beside(it, MARK)) for it in crate.below()):
+        if anew or not is_first or not is_over_statements(crate):
             return made_build(crate, flags, anew)
         stamp = crate.stamp()
         os.makedirs(os.path.dirname(crate.rlib), exist_ok=True)
@@ -150,12 +174,23 @@ def build_statements_first(rtlib):
         status = crate.call(rtlib.RATTLE, "build", *words, STATEMENTS, "-o", crate.rlib)
         # (after an edit meanwhile nobody could tell of which text this library is)
         if status == 0 and stamp == crate.stamp():
-            for name, text in (MARK, builds_below(crate)), ("stamp", stamp):
-                with open(beside(crate, name), "w", encoding="utf-8") as it:
-                    it.write(text)
+            note_build(crate, stamp)
         return status
 
     rtlib.Crate.is_built, rtlib.Crate.build_rlib = is_built, build_rlib
+
+
+def go_on_from_ci(rt):
+    """`rt ci` builds statements, anew or as an earlier run kept them. A library of text that did not change during the run counts as
+    built for later commands."""
+    made = rt.Kept.is_built
+
+    def is_built(kept, crate):
+        made(kept, crate)
+        if crate.makes_rlib() and is_over_statements(crate) and kept.is_untouched(crate):
+            note_build(crate, crate.stamp())
+
+    rt.Kept.is_built = is_built
 
 
 def set_less_aside(rt):

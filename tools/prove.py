@@ -36,19 +36,20 @@ TAKEN = {
     "rtlib.stop_on_links": ["folder"],
 }
 
-# The estimate, in seconds with one job. A crate takes OWN for 1,000 lines of its src/, and BELOW for 1,000 lines of src/ that
-# it stands on, since it loads them. A program loads them twice, since it is linked too. Both numbers are a fit over 100 crates
-# that were built from nothing on a Xeon with four processors at 2.5 GHz (2026-12-01). What this run measures corrects them.
-OWN, BELOW = 155, 3
-# No crate takes less.
-LEAST = 8
-# N jobs divide the own part by N to the power of GAIN: two jobs took 0.73 of the time for `texts`, and three half of it for
+# The estimate, in seconds with one job. 1,000 lines of a crate's src/ take OWN, and STEEP more for each 1,000 lines of src/ that the
+# crate stands on. Both are a fit over 107 crates that were built from nothing, with nothing beside, on a Xeon with four processors
+# at 2.5 GHz (2026-12-01). For these it is off by 35 seconds a crate, and for what was left of that run by 6 minutes at most. What
+# a run measures corrects them.
+OWN, STEEP = 72, 4.5
+# No crate takes less. A program is compiled too, which takes COMPILED.
+LEAST, COMPILED = 8, 230
+# N jobs divide the time by N to the power of GAIN: two jobs took 0.73 of the time for `texts`, and three half of it for
 # `command_reports` (2026-12-01).
 GAIN = 0.6
-# The share of the own part that a crate takes when it goes on from the work in out/.
-KEPT = 0.15
+# The share of the time that a crate takes when it goes on from the work in out/.
+KEPT = 0.3
 # The estimate counts as if this run had measured it for so many seconds.
-TRUST = 60
+TRUST = 300
 
 MOST_JOBS = 4
 # On two processors, a crate that stands on so many lines gets one job: where work is kept, a second job loads all of them again.
@@ -80,9 +81,9 @@ class Schedule:
 
     def seconds(self, crate, jobs):
         """How long a crate takes, before any correction."""
-        own = OWN * self.lines[crate] / jobs**GAIN * (KEPT if self.is_kept[crate] else 1)
-        loaded = BELOW * self.below[crate] * (2 if crate.is_program else 1)
-        return max(LEAST, (own + loaded) / 1000)
+        lines, below = self.lines[crate] / 1000, self.below[crate] / 1000
+        proved = lines * (OWN + STEEP * below) / jobs**GAIN * (KEPT if self.is_kept[crate] else 1)
+        return max(LEAST, proved + COMPILED * crate.is_program)
 
     def jobs(self, crate, idle, others, room):
         """How many jobs a crate gets of the idle processors, which `others` wait for too."""
@@ -129,7 +130,11 @@ class Schedule:
             crate = min(ahead.running, key=ends.get)
             now = ends[crate]
             ahead.end(crate)
-        return now + (pace * self.seconds(self.program, 1) if self.program else 0)
+        return now + (pace * self.seconds(self.program, self.jobs_of_program()) if self.program else 0)
+
+    def jobs_of_program(self):
+        """The program comes last, so it gets all processors."""
+        return self.jobs(self.program, self.lanes, 0, self.memory)
 
 
 class Run:
@@ -226,8 +231,7 @@ def prove_by_module(rt, top, arguments):
     run.tell(program)
     for it in held:
         os.close(it)
-    jobs = run.schedule.jobs(program, run.schedule.lanes, 0, run.schedule.memory)
-    return rt.main(["run", "--jobs", str(jobs), "--", *arguments])
+    return rt.main(["run", "--jobs", str(run.schedule.jobs_of_program()), "--", *arguments])
 
 
 def prove_by_plain(top, arguments):
