@@ -25,7 +25,7 @@ _galcert() {
                 options="--infer --trials --cert --output --symbols --listing --warn-unneeded --max-stack --max-nmi"
                 options="$options --version-at-most --quiet --json"
                 ;;
-            suggest) options="--trials --output --symbols --listing --quiet --json" ;;
+            suggest) options="--trials --version-at-most --output --symbols --listing --quiet --json" ;;
             explain) options="--infer --trials --max --symbols --listing --json" ;;
             verify) options="--symbols --listing --max-stack --max-nmi --quiet --json" ;;
             run) options="--trace --until-nmi --dump --symbols --listing --json" ;;

@@ -830,6 +830,39 @@ ask suggest "$six.rom" --json
 document "a document of suggest" "$(python3 -c 'import json, sys
 print(json.dumps({"command": "suggest", "verdict": "accepted", "annotations": open("suggested.toml").read(),
     "warnings": open("suggested.notes").read().splitlines()}))')" 0
+# The file gets the annotations, and standard output the document without them.
+ask suggest "$six.rom" -o found.toml --json
+document "a document of suggest beside a file" "$(python3 -c 'import json
+print(json.dumps({"command": "suggest", "verdict": "accepted", "status": 0,
+    "warnings": open("suggested.notes").read().splitlines()}))')" 0
+cmp -s found.toml suggested.toml && ! grep -q '"annotations"' out ||
+    { echo "not as it should be: a file of suggest beside a document: $(head -c 300 found.toml out)"; wrong=$((wrong + 1)); }
+ask suggest "$six.rom" -o - --json
+document "a document of suggest, named as standard output" "$(python3 -c 'import json
+print(json.dumps({"command": "suggest", "annotations": open("suggested.toml").read()}))')" 0
+rm -f found.toml
+ask suggest "$six.rom" -o found.toml --json -q
+judge "a file of suggest beside a quiet document" 0 '' ''
+cmp -s found.toml suggested.toml ||
+    { echo "not as it should be: a file of suggest beside a quiet document"; wrong=$((wrong + 1)); }
+# Where there is no file of annotations, the file stays as it was.
+printf 'top = true\n' > wrong.toml
+printf 'kept' > found.toml
+ask suggest "$six.rom" wrong.toml -o found.toml --json
+document "a document of bad annotations beside a file" '{"verdict": "bad annotation", "key": "top", "status": 1}' 1
+ask suggest "$six.rom" wrong.toml -o found.toml
+judge "bad annotations beside a file" 1 $'bad annotation top\n' $'wrong.toml:1: \'top\' has to be an address of 0 to 0xFFFF\n'
+ask suggest empty -o found.toml
+judge "a ROM without bytes beside a file" 1 $'refused 0000 1 Rom\n' $'galcert: empty has no bytes; a ROM has 1 to 16,384\n'
+ask suggest "$six.rom" -o found.toml --trials no
+judge "a word out of form beside a file" 2 '' +
+printf 'kept' | cmp -s - found.toml ||
+    { echo "not as it should be: a file that suggest does not write: $(head -c 300 found.toml)"; wrong=$((wrong + 1)); }
+for json in '' --json; do
+    ask suggest "$six.rom" -o nowhere/found.toml $json
+    judge "suggest to a file that cannot be written $json" 3 '' "$(cat suggested.notes)"$'\ndevice error\ngalcert: cannot create nowhere/found.toml: No such file or directory (os error 2)\n'
+done
+growths "a file of suggest without memory" 1 suggest "$six.rom" -o kept.cert
 # With another status there is no document, and standard error says why.
 ask verify missing "$six.cert" --json
 judge "no document of a ROM that is missing" 3 '' $'device error\ngalcert: cannot open missing: No such file or directory (os error 2)\n'
@@ -917,7 +950,7 @@ if command -v make > /dev/null && [ -x "$here/galcert" ]; then
     cases=$((cases + 1))
     make -s -C "$here" -o galcert install DESTDIR="$work/stage" PREFIX=/usr > out 2>&1
     for file in bin/galcert share/man/man1/galcert.1 share/bash-completion/completions/galcert \
-        share/zsh/site-functions/_galcert share/fish/vendor_completions.d/galcert.fish share/doc/galcert/PROGRAM.md; do
+        share/zsh/site-functions/_galcert share/fish/vendor_completions.d/galcert.fish share/doc/galcert/docs/PROGRAM.md; do
         [ -s "stage/usr/$file" ] || { echo "not as it should be: make install: no $file: $(cat out)"; wrong=$((wrong + 1)); }
     done
     make -s -C "$here" uninstall DESTDIR="$work/stage" PREFIX=/usr

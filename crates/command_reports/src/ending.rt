@@ -3,6 +3,7 @@
 use crate::reported::report;
 use command_parts::ExitStatus;
 use file_devices::{Failure, FileSource, Output};
+use std::cell::RefCell;
 use std::io::ErrorKind;
 use std::rt::Files;
 use texts::Sink;
@@ -98,6 +99,23 @@ pub fn finish_all<R: Files>(status: u8, outputs: &mut [Output<'_, R>]) -> u8 {
         }
     }
     ended
+}
+
+/// Finishes the file that a command kept, or removes it where the status is neither 0 nor 1. The result is the status,
+/// which is 3 if the file cannot get its name, and why the file failed.
+pub fn finish_kept<R: Files>(status: u8, kept: &RefCell<Output<'_, R>>) -> (u8, Option<Failure>) {
+    match kept.try_borrow_mut() {
+        Ok(mut kept) => {
+            let mut ended = status;
+            if status > ExitStatus::Refused.code() {
+                kept.discard();
+            } else if kept.finish().is_err() {
+                ended = ExitStatus::Device.code();
+            }
+            (ended, kept.failure())
+        }
+        Err(_) => (status, None),
+    }
 }
 
 /// Whether an output failed because nobody reads it any more, as in `galcert list .. | head`. Then standard error says

@@ -13,9 +13,9 @@ mod words;
 
 pub use clashes::{Clash, clash_of, report_clash, twice_written};
 pub use colors::is_colored;
-pub use ending::{UsedDevice, end, finish_all, is_closed_pipe};
+pub use ending::{UsedDevice, end, finish_all, finish_kept, is_closed_pipe};
 pub use limits::Limits;
-pub use numbers::number_of;
+pub use numbers::{number_of, trials_of};
 pub use reported::{print, report};
 pub use reporter::Reporter;
 pub use versions::version_of;

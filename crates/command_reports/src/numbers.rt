@@ -1,7 +1,17 @@
 // The numbers that options say.
 
 use crate::reported::report;
+use clap::ArgMatches;
+use command_words::TRIALS;
 use texts::Sink;
+
+/// The most trials of a search where none is said.
+const TRIALS_UNSAID: u32 = 2_000;
+
+/// The most trials that a search may take. If the word is out of form, it is reported.
+pub fn trials_of<N: Sink>(notes: &mut N, matches: &ArgMatches) -> Option<u32> {
+    number_of(notes, matches.get_str(TRIALS), TRIALS, TRIALS_UNSAID)
+}
 
 /// The number that the word of an option says, or `unsaid` where there is no word. If the word is out of form, it is
 /// reported.

@@ -5,8 +5,8 @@ use certificate::Version;
 use clap::ArgMatches;
 use texts::Sink;
 
-/// The version, 2 or 3, that the word of an option says, or `unsaid` where there is no word. If the word is out of form,
-/// it is reported.
+/// The version, 2 or 3, that the word of an option says, or `unsaid` where there is no word. If the word is out of
+/// form, it is reported.
 pub fn version_of<N: Sink>(
     notes: &mut N,
     matches: &ArgMatches,

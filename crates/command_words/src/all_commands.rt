@@ -171,6 +171,7 @@ const SUGGEST_ARGUMENTS: &[Argument] = &[
     Argument::Rom,
     Argument::Annot,
     Argument::Trials,
+    Argument::VersionAtMost,
     Argument::Output,
     Argument::Symbols,
     Argument::Listing,

@@ -155,7 +155,7 @@ impl Argument {
             }
             Argument::Trials => "Tries at most N plans; 2,000 if not said",
             Argument::VersionAtMost => {
-                "With --infer: finds a certificate of version N at most, 2 or 3; 3 if not said"
+                "Searches for a certificate of version N at most, 2 or 3; 3 if not said"
             }
             Argument::To => "The version that is printed, 2 or 3; 2 if not said",
             Argument::Output => "Writes to FILE in the place of standard output",

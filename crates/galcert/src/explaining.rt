@@ -1,13 +1,12 @@
 // `galcert explain`.
 
 use crate::devices::{InputFile, input, optional, searching, stdout};
-use crate::making::trials_of;
 use crate::naming::read;
 use crate::streams::{Answer, Remarks, answer};
 use clap::ArgMatches;
 use command_parts::ExitStatus;
-use command_reports::{UsedDevice, clash_of, end, number_of, report, report_clash};
-use command_words::{INFER, LISTING, MAX, SECOND, SYMBOLS, word};
+use command_reports::{UsedDevice, clash_of, end, number_of, report, report_clash, trials_of};
+use command_words::{INFER, JSON, LISTING, MAX, SECOND, SYMBOLS, word};
 use explain_commands::{Asked, explain_on, page_number, page_on};
 use file_devices::Likeness;
 use json_documents::{Command, conclude};
@@ -34,7 +33,7 @@ pub fn explain_files<'a>(rt: &'a HostRuntime, matches: &ArgMatches<'a>, notes: &
         );
         return ExitStatus::Usage.code();
     }
-    let Some(trials) = trials_of(matches, notes) else {
+    let Some(trials) = trials_of(notes, matches) else {
         return ExitStatus::Usage.code();
     };
     let Some(most) = number_of(notes, matches.get_str(MAX), MAX, MOST_UNSAID) else {
@@ -58,7 +57,7 @@ fn explain_rom<'a>(
         Ok(names) => names,
         Err(status) => return status,
     };
-    let mut out = answer(rt, matches, stdout(rt));
+    let mut out = answer(rt, matches.get_flag(JSON), stdout(rt));
     let sourced = match &names.notes {
         None => None,
         Some(Ok(sourced)) => Some(sourced),

@@ -2,28 +2,25 @@
 
 use crate::devices::{InputFile, Out, input, optional, output, searching, stderr, stdout};
 use crate::naming::{has_names, has_reports, names, symbols_of, tell_refused};
-use crate::streams::{Answer, Remarks, answer};
+use crate::streams::{Remarks, answer};
 use certificate::Version;
 use clap::ArgMatches;
 use command_parts::ExitStatus;
 use command_reports::{
-    Limits, UsedDevice, clash_of, end, finish_all, number_of, report, report_clash, version_of,
+    Limits, UsedDevice, clash_of, end, finish_kept, report, report_clash, trials_of, version_of,
 };
 use command_streams::{Printed, Watched};
 use command_words::{
-    CERT_FILE, INFER, LISTING, OUTPUT, QUIET, SYMBOLS, TRIALS, VERSION_AT_MOST, WARN_UNNEEDED, word,
+    CERT_FILE, INFER, JSON, LISTING, OUTPUT, QUIET, SYMBOLS, VERSION_AT_MOST, WARN_UNNEEDED, word,
 };
 use commands::check_on;
 use file_devices::{AfterOutput, Output, SharedOutput};
 use inference_commands::{infer_on, suggest_on};
-use json_documents::{Command, conclude};
+use json_documents::{Command, conclude, conclude_file};
 use named_commands::{NamedCheck, check_named_on, suggest_named_on};
 use named_reports::{ProgramNames, hint_annotations, hint_named, hint_rom};
 use std::cell::RefCell;
 use texts::Sink;
-
-/// The most trials of a search where none is said.
-const TRIALS_UNSAID: u32 = 2_000;
 
 /// The inputs of the commands here.
 const INPUTS: [&str; 4] = ["ROM", "ANNOT", SYMBOLS, LISTING];
@@ -40,6 +37,26 @@ struct MakeRequest<'r, 'm> {
     limits: Limits,
 }
 
+impl<'r, 'm> MakeRequest<'r, 'm> {
+    /// What the words ask for. Each word out of form is reported.
+    fn of(
+        rt: &'m HostRuntime,
+        matches: &'r ArgMatches<'m>,
+        notes: &mut Remarks,
+    ) -> Option<MakeRequest<'r, 'm>> {
+        let trials = trials_of(notes, matches);
+        let most = version_of(notes, matches, VERSION_AT_MOST, Version::Three);
+        let limits = Limits::of(matches, notes);
+        Some(MakeRequest {
+            rt,
+            matches,
+            trials: trials?,
+            most: most?,
+            limits: limits?,
+        })
+    }
+}
+
 /// `galcert check`, with and without `--infer`. The result is the exit status.
 pub fn check_files<'a>(rt: &'a HostRuntime, matches: &ArgMatches<'a>, notes: &mut Remarks) -> u8 {
     let infers = matches.get_flag(INFER);
@@ -50,11 +67,7 @@ pub fn check_files<'a>(rt: &'a HostRuntime, matches: &ArgMatches<'a>, notes: &mu
         );
         return ExitStatus::Usage.code();
     }
-    let (Some(trials), Some(most), Some(limits)) = (
-        trials_of(matches, notes),
-        version_of(notes, matches, VERSION_AT_MOST, Version::Three),
-        Limits::of(matches, notes),
-    ) else {
+    let Some(asked) = MakeRequest::of(rt, matches, notes) else {
         return ExitStatus::Usage.code();
     };
     if let Some(clash) = clash_of(rt, matches, &INPUTS, matches.get_str(CERT_FILE)) {
@@ -65,14 +78,7 @@ pub fn check_files<'a>(rt: &'a HostRuntime, matches: &ArgMatches<'a>, notes: &mu
     let kept = RefCell::new(output(rt, matches, CERT_FILE));
     let mut keep = SharedOutput::new(&kept);
     let table = AfterOutput::new(&kept, table_output(rt, matches));
-    let out = answer(rt, matches, table);
-    let asked = MakeRequest {
-        rt,
-        matches,
-        trials,
-        most,
-        limits,
-    };
+    let out = answer(rt, matches.get_flag(JSON), table);
     let (status, out) = match judge_files(asked, &mut rom, &mut annot, &mut keep, out, notes) {
         Ok(judged) => judged,
         Err(status) => return status,
@@ -193,90 +199,92 @@ fn table_output<'a>(rt: &'a HostRuntime, matches: &ArgMatches) -> Out<'a> {
     stdout(rt)
 }
 
-/// The number of trials that a command may take. If the word is out of form, it is reported.
-pub fn trials_of(matches: &ArgMatches, notes: &mut Remarks) -> Option<u32> {
-    number_of(notes, matches.get_str(TRIALS), TRIALS, TRIALS_UNSAID)
-}
-
 /// `galcert suggest`. The result is the exit status.
 pub fn suggest_files<'a>(rt: &'a HostRuntime, matches: &ArgMatches<'a>, notes: &mut Remarks) -> u8 {
-    let Some(trials) = trials_of(matches, notes) else {
+    let Some(asked) = MakeRequest::of(rt, matches, notes) else {
         return ExitStatus::Usage.code();
     };
     if let Some(clash) = clash_of(rt, matches, &INPUTS, matches.get_str(OUTPUT)) {
         return report_clash(notes, &clash);
     }
-    let names = match names(rt, matches, notes, has_names(matches)) {
-        Ok(names) => names,
-        Err(status) => return status,
-    };
     let mut rom = input(rt, matches, "ROM");
     let mut annot = annotations(rt, matches);
-    let mut out = answer(rt, matches, suggested_output(rt, matches));
-    let suggested = suggest(
-        rt,
-        trials,
-        names.as_ref(),
-        &mut rom,
-        &mut annot,
-        &mut out,
-        notes,
-    );
-    if suggested == ExitStatus::Refused.code() {
-        hint_rom(rt, rt.alloc(), &rom, notes);
-        match &names {
-            Some(names) => hint_named(rt.alloc(), &annot, names, true, notes),
-            None => hint_annotations(rt.alloc(), &annot, true, notes),
-        }
-    }
-    let symbols = symbols_of(names.as_ref());
-    let told = conclude(
-        rt.alloc(),
-        Command::Suggest,
-        suggested,
-        &mut out,
-        notes,
-        symbols,
-    );
-    let mut outputs = [out.into_device()];
-    let status = finish_all(told, &mut outputs);
-    let name = match matches.get_str(OUTPUT) {
-        None | Some("-") => "standard output",
-        Some(path) => path,
+    let kept = RefCell::new(output(rt, matches, OUTPUT));
+    let mut keep = SharedOutput::new(&kept);
+    let printed = AfterOutput::new(&kept, suggested_rest(rt, matches));
+    let out = answer(rt, has_file(matches) || matches.get_flag(JSON), printed);
+    let (status, out) = match find_files(asked, &mut rom, &mut annot, &mut keep, out, notes) {
+        Ok(found) => found,
+        Err(status) => return status,
     };
+    let (status, kept_failure) = finish_kept(status, &kept);
     let used = [
         UsedDevice::input(&rom),
         UsedDevice::input(&annot),
-        UsedDevice::output(name, &outputs[0]),
+        UsedDevice::failed(word(matches, OUTPUT), kept_failure),
+        UsedDevice::stdout(out.device().output()),
     ];
     end(notes, status, &used)
 }
 
+/// Reads what names addresses, and finds annotations. The results and errors are those of `judge_files`.
+fn find_files<K: Sink, W: Sink + Drop>(
+    asked: MakeRequest<'_, '_>,
+    rom: &mut InputFile<'_>,
+    annot: &mut InputFile<'_>,
+    keep: &mut K,
+    out: Printed<W>,
+    notes: &mut Remarks,
+) -> Result<(u8, Printed<W>), u8> {
+    let (rt, matches, alloc) = (asked.rt, asked.matches, asked.rt.alloc());
+    let names = names(rt, matches, notes, has_names(matches))?;
+    let mut out = out;
+    let status = suggest(asked, names.as_ref(), rom, annot, &mut out, notes);
+    if status == ExitStatus::Refused.code() {
+        hint_rom(rt, alloc, rom, notes);
+        match &names {
+            Some(names) => hint_named(alloc, annot, names, true, notes),
+            None => hint_annotations(alloc, annot, true, notes),
+        }
+    }
+    let symbols = symbols_of(names.as_ref());
+    let status = if has_file(matches) {
+        let json = matches.get_flag(JSON);
+        conclude_file(alloc, json, status, keep, &mut out, notes, symbols)
+    } else {
+        let command = Command::Suggest;
+        conclude(alloc, command, status, &mut out, notes, symbols)
+    };
+    Ok((status, out))
+}
+
 /// Finds annotations, with names for addresses if there are any. The result is the exit status.
-fn suggest(
-    rt: &HostRuntime,
-    trials: u32,
+fn suggest<W: Sink>(
+    asked: MakeRequest<'_, '_>,
     names: Option<&ProgramNames>,
     rom: &mut InputFile,
     annot: &mut InputFile,
-    out: &mut Answer,
+    out: &mut W,
     notes: &mut Remarks,
 ) -> u8 {
-    let progress = &mut searching(rt);
+    let (alloc, trials, most) = (asked.rt.alloc(), asked.trials, asked.most);
+    let progress = &mut searching(asked.rt);
     match names {
-        Some(names) => {
-            suggest_named_on(rt.alloc(), rom, annot, names, trials, out, notes, progress)
-        }
-        None => suggest_on(rt.alloc(), rom, annot, trials, out, notes, progress),
+        Some(names) => suggest_named_on(
+            alloc, rom, annot, names, trials, most, out, notes, progress,
+        ),
+        None => suggest_on(alloc, rom, annot, trials, most, out, notes, progress),
     }
 }
 
-/// Where the file of `suggest` goes: to FILE if there is one, else nowhere if it is not wanted, else to standard output.
-fn suggested_output<'a>(rt: &'a HostRuntime, matches: &ArgMatches<'a>) -> Out<'a> {
-    if matches.get_str(OUTPUT).is_some() {
-        return output(rt, matches, OUTPUT);
-    }
-    if matches.get_flag(QUIET) {
+/// Whether `suggest` writes a file and not standard output.
+fn has_file(matches: &ArgMatches) -> bool {
+    !matches!(matches.get_str(OUTPUT), None | Some("-"))
+}
+
+/// Where all goes that `suggest` prints.
+fn suggested_rest<'a>(rt: &'a HostRuntime, matches: &ArgMatches) -> Out<'a> {
+    if matches.get_flag(QUIET) && matches.get_str(OUTPUT) != Some("-") {
         return Output::nowhere();
     }
     stdout(rt)

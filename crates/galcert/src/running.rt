@@ -10,7 +10,7 @@ use command_reports::{
     twice_written,
 };
 use command_streams::{MeteredSource, Printed, Watched};
-use command_words::{DUMP, LISTING, SYMBOLS, TRACE, UNTIL_NMI, word};
+use command_words::{DUMP, JSON, LISTING, SYMBOLS, TRACE, UNTIL_NMI, word};
 use commands::{run_on, steps_of};
 use file_devices::{Output, WriterSink};
 use json_documents::{Command, conclude};
@@ -198,7 +198,8 @@ fn played_input<'a>(rt: &'a HostRuntime, matches: &ArgMatches<'a>) -> RunInput<'
 
 /// Where the lines of a run go.
 fn lines_of<'a>(rt: &'a HostRuntime, matches: &ArgMatches<'a>) -> Lines<'a> {
-    Watched::new(answer(rt, matches, WriterSink::new(io::writer(rt))))
+    let writer = WriterSink::new(io::writer(rt));
+    Watched::new(answer(rt, matches.get_flag(JSON), writer))
 }
 
 /// After a refusal, says what the files look like.

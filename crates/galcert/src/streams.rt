@@ -31,9 +31,9 @@ pub fn plain_notes(rt: &HostRuntime) -> Remarks {
     Printed::at_once(ColoredLines::new(WriterSink::new(rt.stderr()), false))
 }
 
-/// What goes to a device, or into a document if one is asked for.
-pub fn answer<W: Sink>(rt: &HostRuntime, matches: &ArgMatches, device: W) -> Printed<W> {
-    if matches.get_flag(JSON) {
+/// What goes to a device, or is captured first, as for a document.
+pub fn answer<W: Sink>(rt: &HostRuntime, is_captured: bool, device: W) -> Printed<W> {
+    if is_captured {
         return Printed::captured(rt.alloc(), device);
     }
     Printed::at_once(device)

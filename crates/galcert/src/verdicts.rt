@@ -9,7 +9,7 @@ use clap::ArgMatches;
 use command_parts::ExitStatus;
 use command_reports::{Limits, UsedDevice, clash_of, end, report_clash, version_of};
 use command_streams::Watched;
-use command_words::{LISTING, QUIET, SYMBOLS, TO};
+use command_words::{JSON, LISTING, QUIET, SYMBOLS, TO};
 use commands::{migrate_on, verify_on};
 use file_devices::Output;
 use json_documents::{Command, conclude};
@@ -53,7 +53,7 @@ pub fn verify_files<'a>(rt: &'a HostRuntime, matches: &ArgMatches<'a>, notes: &m
 
 /// Where a verdict goes: nowhere if it is not wanted.
 fn verdict_output<'a>(rt: &'a HostRuntime, matches: &ArgMatches) -> Answer<'a> {
-    answer(rt, matches, wanted_output(rt, matches))
+    answer(rt, matches.get_flag(JSON), wanted_output(rt, matches))
 }
 
 /// Standard output; nowhere if it is not wanted.

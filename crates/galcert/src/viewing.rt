@@ -7,7 +7,7 @@ use crate::streams::{Remarks, answer};
 use clap::ArgMatches;
 use command_reports::{Reporter, UsedDevice, clash_of, end, is_closed_pipe, report_clash};
 use command_streams::MeteredSink;
-use command_words::{ENTRY, LISTING, ROWS, SYMBOLS, word};
+use command_words::{ENTRY, JSON, LISTING, ROWS, SYMBOLS, word};
 use file_devices::WriterSink;
 use json_documents::{Command, conclude};
 use std::io;
@@ -64,7 +64,7 @@ fn view_files<'a>(
         WriterSink::new(io::writer(rt)),
         Reporter::passing(rt, rt.stderr(), "written"),
     );
-    let mut out = answer(rt, matches, printed);
+    let mut out = answer(rt, matches.get_flag(JSON), printed);
     let alloc = rt.alloc();
     let status = match shows {
         Shows::List => list_on(alloc, &mut rom, &mut cert, symbols, &mut out),

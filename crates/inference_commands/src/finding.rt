@@ -44,8 +44,8 @@ pub fn read_given<W: Sink>(alloc: Global, text: &[u8], out: &mut W) -> Result<Gi
     }
 }
 
-/// Finds annotations for a ROM beside those given, for a certificate of version `most` at most: 3, or less for 2. If the
-/// search has no answer, the line that reports it is written to `out`. A line on `notes` says what was found, with
+/// Finds annotations for a ROM beside those given, for a certificate of version `most` at most: 3, or less for 2. If
+/// the search has no answer, the line that reports it is written to `out`. A line on `notes` says what was found, with
 /// labels beside addresses.
 ///
 /// # Errors
@@ -87,8 +87,8 @@ pub fn find<'r, 'g, W: Sink, N: Sink, P: Progress>(
 }
 
 /// Finds annotations for a ROM beside those of a text, and makes a certificate by them. If none is accepted, the line
-/// that reports it is written to `out`. A line on `notes` says what was found, with labels of `symbols` beside addresses.
-/// The certificate is of version `most` at most: 3, or less for 2.
+/// that reports it is written to `out`. A line on `notes` says what was found, with labels of `symbols` beside
+/// addresses. The certificate is of version `most` at most: 3, or less for 2.
 ///
 /// # Errors
 ///

@@ -26,17 +26,19 @@ use texts::{DeviceFault, Sink, Source, put};
 const MOST_FACTS: usize = 128;
 
 /// `galcert suggest ROM [ANNOT]`: finds annotations beside those in ANNOT, and writes a whole annotation file to `out`
-/// (docs/INFERENCE.md, "A file of what was found"). The search takes at most `trials` trials. One line on `notes` says
-/// what was found; what `notes` does changes nothing. `progress` is told of each trial.
+/// (docs/INFERENCE.md, "A file of what was found"). The search takes at most `trials` trials, and looks for a certificate
+/// of version `most` at most: 3, or less for 2. One line on `notes` says what was found; what `notes` does changes
+/// nothing. `progress` is told of each trial.
 ///
-/// The result is the exit status: 0 where the ROM is accepted, 1 where it is refused (the file then says what was found,
-/// and which instructions are refused) or the annotations are bad, 3 where a device failed, 4 where memory was refused.
-/// What was written before a device failed stays.
+/// The result is the exit status: 0 where the ROM is accepted, 1 where it is refused (the file then says what was
+/// found, and which instructions are refused) or the annotations are bad, 3 where a device failed, 4 where memory was
+/// refused. What was written before a device failed stays.
 pub fn suggest_on<A: Source, B: Source, W: Sink, N: Sink, P: Progress>(
     alloc: Global,
     rom: &mut A,
     annot: &mut B,
     trials: u32,
+    most: Version,
     out: &mut W,
     notes: &mut N,
     progress: &mut P,
@@ -68,6 +70,7 @@ pub fn suggest_on<A: Source, B: Source, W: Sink, N: Sink, P: Progress>(
         text.as_slice(),
         text.as_slice(),
         trials,
+        most,
         &Symbols::new(alloc),
         out,
         notes,
@@ -84,6 +87,7 @@ pub fn suggest<W: Sink, N: Sink, P: Progress>(
     text: &[u8],
     annot: &[u8],
     trials: u32,
+    most: Version,
     symbols: &Symbols,
     out: &mut W,
     notes: &mut N,
@@ -102,15 +106,7 @@ pub fn suggest<W: Sink, N: Sink, P: Progress>(
         Err(stop) => return stop.status(),
     };
     let found = match find(
-        alloc,
-        rom,
-        &given,
-        trials,
-        Version::Two,
-        symbols,
-        out,
-        notes,
-        progress,
+        alloc, rom, &given, trials, most, symbols, out, notes, progress,
     ) {
         Ok(found) => found,
         Err(stop) => return stop.status(),
@@ -185,8 +181,8 @@ fn is_accepted(alloc: Global, bytes: &[u8], said: &Annotations) -> Result<bool, 
     }
 }
 
-/// Accepted annotations without the facts, the last ones first, that are not given and not needed. Whether one is needed
-/// is first seen from the rows that change without it.
+/// Accepted annotations without the facts, the last ones first, that are not given and not needed. Whether one is
+/// needed is first seen from the rows that change without it.
 fn with_few_facts(
     alloc: Global,
     bytes: &[u8],

@@ -50,6 +50,10 @@ fn refusal_of(alloc: Global, line: &str) -> Members {
     };
     refusal.text("place", place);
     refusal.number("address", place.split(' ').find_map(address));
+    if rest == "unbounded" {
+        refusal.text("verdict", rest);
+        return refusal;
+    }
     let (instruction, reason) = match rest.rsplit_once('[') {
         Some((instruction, reason)) => (instruction.trim(), reason),
         None => (rest, ""),

@@ -11,5 +11,5 @@ mod verdicts;
 mod walks;
 mod words;
 
-pub use concluding::conclude;
+pub use concluding::{conclude, conclude_file};
 pub use document::{Command, Told, write_document};

@@ -49,8 +49,11 @@ pub(crate) fn add_reason(members: &mut Members, words: &mut Words) {
     members.object("reason", reason);
 }
 
-/// Adds the entries of procedures that call one another.
+/// Adds the entries of procedures that call one another, if the line names them.
 fn add_entries(members: &mut Members, words: &mut Words) {
+    if words.rest().is_empty() {
+        return;
+    }
     let mut entries = Items::new(members.alloc());
     for word in words.rest().split(' ') {
         entries.number(crate::words::address(word));

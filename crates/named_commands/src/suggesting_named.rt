@@ -6,6 +6,7 @@ ghost use Rattle.inference_commands.specs.Inferring.{IsAcceptable};
 ghost use Rattle.texts.specs.Device.{HasFailed, CountsNoFailure};
 
 use crate::checking_named::said_by;
+use certificate::Version;
 use command_parts::{read_all, read_rom};
 use inference_commands::{Progress, suggest};
 use named_reports::ProgramNames;
@@ -14,8 +15,9 @@ use texts::{Sink, Source};
 
 /// `galcert suggest ROM [ANNOT] --symbols FILE --listing FILE`: finds annotations beside those in ANNOT, in which names
 /// stand for addresses, and beside the notes in the source; writes a whole annotation file to `out`, with names for
-/// addresses (docs/PROGRAM.md, "Names for addresses"). The search takes at most `trials` trials. What `notes` does
-/// changes nothing. `progress` hears of each trial.
+/// addresses (docs/PROGRAM.md, "Names for addresses"). The search takes at most `trials` trials, and looks for a
+/// certificate of version `most` at most: 3, or less for 2. What `notes` does changes nothing. `progress` hears of each
+/// trial.
 ///
 /// The result is the exit status: 0 where the ROM is accepted, 1 where it is refused (the file then says what was
 /// found), or the annotations or a note are bad, 3 where a device failed, 4 where memory was refused. What was written
@@ -26,6 +28,7 @@ pub fn suggest_named_on<A: Source, B: Source, W: Sink, N: Sink, P: Progress>(
     annot: &mut B,
     names: &ProgramNames<'_>,
     trials: u32,
+    most: Version,
     out: &mut W,
     notes: &mut N,
     progress: &mut P,
@@ -62,6 +65,7 @@ pub fn suggest_named_on<A: Source, B: Source, W: Sink, N: Sink, P: Progress>(
         said.as_slice(),
         text.as_slice(),
         trials,
+        most,
         &names.names.symbols,
         out,
         notes,
