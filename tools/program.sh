@@ -321,6 +321,35 @@ same "FILE is ANNOT by its whole name" "$work/gone.toml" "ANNOT gone.toml"
 echo $? > status
 judge "FILE is standard input" 2 '' $'FILE gone.rom and ROM /dev/stdin are the same file\n'
 holds "FILE is standard input: ROM" gone.rom "$six.rom"
+for word in "check - gone.toml --cert gone.rom" "suggest - -o gone.rom" "run - six.cert missing 3 --dump gone.rom"; do
+    # shellcheck disable=SC2086
+    "$galcert" $word > out 2> err < gone.rom
+    echo $? > status
+    judge "FILE is the file of -: $word" 2 '' $'FILE gone.rom and ROM - are the same file\n'
+    holds "FILE is the file of -: $word" gone.rom "$six.rom"
+done
+# A FILE on which the program prints too. The first lines of that file stay.
+for word in "check $six.rom six.toml --cert" "suggest $six.rom -o" "run $six.rom $six.cert $six.input 3 --dump"; do
+    for stream in out /dev/stdout; do
+        echo earlier > out
+        # shellcheck disable=SC2086
+        "$galcert" $word $stream >> out 2> err < /dev/null
+        echo $? > status
+        judge "FILE is the file of standard output: $word $stream" 2 $'earlier\n' "FILE $stream and standard output are the same file"$'\n'
+    done
+done
+: > out
+"$galcert" check "$six.rom" --infer --cert err > out 2> err < /dev/null
+echo $? > status
+judge "FILE is the file of standard error" 2 '' $'FILE err and standard error are the same file\n'
+"$galcert" check "$six.rom" six.toml --cert /dev/stdout 2> err < /dev/null | cat > out
+echo 0 > status
+judge "FILE is a pipe" 0 "$(cat "$six.cert")"$'\n'"$table" ''
+for word in "check $six.rom six.toml --cert=" "suggest $six.rom --output="; do
+    # shellcheck disable=SC2086
+    ask $word
+    judge "an empty FILE: $word" 2 '' $'galcert: FILE is an empty word\n'
+done
 ask check missing.rom six.toml --cert missing.rom
 judge "FILE is a ROM that is not there" 2 '' $'FILE missing.rom and ROM missing.rom are the same file\n'
 ask check "$six.rom" six.toml --cert new.cert
@@ -726,8 +755,10 @@ judge "both limits" 1 "$table_of_pages" $'galcert: the stack takes 20 bytes, mor
 cmp -s limits.cert "$pages.cert" || { echo "not as it should be: the certificate of a table above its limits"; wrong=$((wrong + 1)); }
 ask verify "$pages.rom" "$pages.cert" --max-stack -1
 judge "a limit out of form" 2 '' +
-ask verify "$pages.rom" "$pages.cert" --max-nmi 2k
-judge "a limit that is no decimal" 2 '' $'bad max-nmi\ngalcert: N is "2k", and not a decimal of at most 4294967295\n'
+for word in 2k +2 '' ' 2' 4294967296; do
+    ask verify "$pages.rom" "$pages.cert" --max-nmi "$word"
+    judge "a limit that is no decimal: '$word'" 2 '' $'bad max-nmi\ngalcert: N is "'"$word"$'", and not a decimal of at most 4294967295\n'
+done
 
 # Runs that are watched: the lines are those of the run, with a line before each event in a trace.
 ask run "$six.rom" "$six.cert" "$six.input" 2 --trace
@@ -774,10 +805,50 @@ holds "the ROM stays" over.rom nmi.rom
 ask run nmi.rom nmi.cert nmi.input 7 --dump work.bin,video.bin,./work.bin
 judge "--dump of one file twice" 2 '' $'FILE work.bin and FILE ./work.bin are the same file\n'
 rm -f full.bin
+mkdir -p sub
+for names in full.bin,object.bin,./full.bin full.bin,object.bin,sub/../full.bin full.bin,object.bin,"$work/full.bin"; do
+    ask run nmi.rom nmi.cert nmi.input 7 --dump "$names"
+    judge "--dump of one new file twice: $names" 2 '' "FILE full.bin and FILE ${names##*,} are the same file"$'\n'
+done
+echo old > full.bin
+"$galcert" run nmi.rom nmi.cert nmi.input 7 --dump full.bin --json > /dev/full 2> err < /dev/null
+echo $? > status
+: > out
+judge "--dump where the document cannot be written" 3 '' $'device error\ngalcert: cannot write standard output: No space left on device (os error 28)\n'
+cases=$((cases + 1))
+[ "$(cat full.bin)" = old ] || { echo "not as it should be: a dump replaced its file where the document could not be written"; wrong=$((wrong + 1)); }
+rm -f full.bin
 ask run nmi.rom nmi.cert nmi.input 7 --dump full.bin,/dev/full,object.bin
 judge "--dump to a full device" 3 $'nmi 5 000C\nend 6 25\n' $'device error\ngalcert: cannot write /dev/full: No space left on device (os error 28)\n'
 cases=$((cases + 1))
 [ ! -e full.bin ] || { echo "not as it should be: a part of a dump is left"; wrong=$((wrong + 1)); }
+
+# Standard streams that are closed. No file gets their number, so nothing is printed into a FILE, and nothing is read from one.
+"$galcert" check "$six.rom" six.toml --cert closed.cert 2> err < /dev/null >&-
+echo $? > status
+: > out
+judge "standard output is closed" 3 '' $'device error\ngalcert: cannot write standard output: Bad file descriptor (os error 9)\n'
+"$galcert" check - six.toml --cert closed.cert 2> err < "$six.rom" >&-
+echo $? > status
+judge "standard output is closed, and the ROM is standard input" 3 '' $'device error\ngalcert: cannot write standard output: Bad file descriptor (os error 9)\n'
+holds "its FILE" closed.cert "$six.cert"
+rm -f closed.cert
+"$galcert" check "$six.rom" six.toml --cert closed.cert <&- >&- 2>&-
+echo $? > status
+: > err
+judge "all streams are closed" 3 '' ''
+holds "its FILE too" closed.cert "$six.cert"
+"$galcert" check "$pages.rom" --infer --cert closed.cert --max-stack 0 > /dev/null 2>&- < /dev/null
+echo $? > status
+judge "standard error is closed" 1 '' ''
+cases=$((cases + 1))
+[ "$(tail -n 1 closed.cert)" = end ] || { echo "not as it should be: a line of standard error stands in a certificate"; wrong=$((wrong + 1)); }
+for words in "verify $six.rom -" "verify - $six.cert" "check $six.rom -" "suggest $six.rom -" "diff $six.cert -" "run $six.rom $six.cert - 3"; do
+    # shellcheck disable=SC2086
+    "$galcert" $words > out 2> err <&-
+    echo $? > status
+    judge "standard input is closed: $words" 3 '' $'device error\ngalcert: cannot read standard input: Bad file descriptor (os error 9)\n'
+done
 
 # Documents. python3 reads them.
 document() {

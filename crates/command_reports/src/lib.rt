@@ -4,6 +4,7 @@
 mod clashes;
 mod colors;
 mod ending;
+mod held;
 mod limits;
 mod numbers;
 mod reported;
@@ -14,6 +15,7 @@ mod words;
 pub use clashes::{Clash, clash_of, report_clash, twice_written};
 pub use colors::is_colored;
 pub use ending::{UsedDevice, end, finish_all, finish_kept, is_closed_pipe};
+pub use held::hold_streams;
 pub use limits::Limits;
 pub use numbers::{number_of, trials_of};
 pub use reported::{print, report};

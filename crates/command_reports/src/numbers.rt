@@ -24,9 +24,10 @@ pub fn number_of<N: Sink>(
     let Some(text) = word else {
         return Some(unsaid);
     };
+    let is_decimal = text.bytes().all(|byte| byte.is_ascii_digit());
     match text.parse() {
-        Ok(number) => Some(number),
-        Err(_) => {
+        Ok(number) if is_decimal => Some(number),
+        _ => {
             report(notes, format_args!("bad {option}"));
             let text = text.escape_debug();
             report(

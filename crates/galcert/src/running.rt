@@ -117,11 +117,11 @@ fn watch_files<'a>(
     );
     tell_refused(rt, names, status, &out, notes);
     hint_refused(rt, status, &rom, &cert, notes);
-    let mut ram = ram.into_parts();
-    let status = finish_all(status, &mut ram);
     let mut out = out.into_inner();
     let symbols = symbols_of(names);
     let status = conclude(rt.alloc(), Command::Run, status, &mut out, notes, symbols);
+    let mut ram = ram.into_parts();
+    let status = finish_all(status, &mut ram);
     let [work_out, video_out, object_out] = &ram;
     let used = [
         UsedDevice::input(&rom),
@@ -179,7 +179,7 @@ fn clash_of_dumps<'a>(
             return Some(clash);
         }
     }
-    twice_written(rt, &paths)
+    twice_written(rt, rt.alloc(), &paths)
 }
 
 /// Where the bytes of a RAM go; nowhere where no file is named.

@@ -2,7 +2,7 @@
 
 use crate::members::{Items, Members};
 use crate::verdicts::{add_reason, add_refusal};
-use crate::words::{Words, address};
+use crate::words::Words;
 use std::alloc::Global;
 
 /// The blanks before a line about a refusal, and before a line of a remedy.
@@ -45,26 +45,34 @@ fn refusal_of(alloc: Global, line: &str) -> Members {
     let mut refusal = Members::new(alloc);
     refusal.text("text", line);
     add_refusal(&mut refusal, line);
-    let Some((place, rest)) = line.split_once("  ") else {
-        return refusal;
-    };
-    refusal.text("place", place);
-    refusal.number("address", place.split(' ').find_map(address));
-    if rest == "unbounded" {
-        refusal.text("verdict", rest);
+    if let Some(place) = line.strip_suffix("  unbounded") {
+        add_place(&mut refusal, place);
+        refusal.text("verdict", "unbounded");
         return refusal;
     }
-    let (instruction, reason) = match rest.rsplit_once('[') {
-        Some((instruction, reason)) => (instruction.trim(), reason),
-        None => (rest, ""),
+    let Some((head, reason)) = line.rsplit_once("  [") else {
+        return refusal;
     };
-    if !instruction.is_empty() {
-        refusal.text("instruction", instruction);
+    match head.rsplit_once("  ") {
+        Some((place, instruction)) => {
+            add_place(&mut refusal, place);
+            refusal.text("instruction", instruction);
+        }
+        None => add_place(&mut refusal, head),
     }
-    if let Some(reason) = reason.strip_suffix("]") {
-        add_reason(&mut refusal, &mut Words::of(reason));
-    }
+    let reason = reason.strip_suffix("]").unwrap_or(reason);
+    add_reason(&mut refusal, &mut Words::of(reason));
     refusal
+}
+
+/// Adds a place and its address, which stands after the file and its line, if there are any: `game.asm:3: 0003 start`.
+fn add_place(refusal: &mut Members, place: &str) {
+    refusal.text("place", place);
+    let own = match place.rsplit_once(": ") {
+        Some((_, own)) => own,
+        None => place,
+    };
+    refusal.number("address", Words::of(own).address());
 }
 
 /// A line about a refusal: its topic, if it names one, and its text.

@@ -33,9 +33,8 @@ pub(crate) fn add_listing(members: &mut Members, text: &str) {
 fn instruction_of(alloc: Global, at: u64, line: &str) -> Members {
     let mut columns_of = Members::new(alloc);
     columns_of.number("address", Some(at));
-    let rest = columns(line, BYTES, usize::MAX);
-    if rest.starts_with(';') || rest.starts_with("DEFB") {
-        columns_of.text("text", rest);
+    if !is_instruction(line) {
+        columns_of.text("text", columns(line, BYTES, usize::MAX));
         return columns_of;
     }
     columns_of.text("bytes", columns(line, BYTES, INSTRUCTION));
@@ -48,6 +47,15 @@ fn instruction_of(alloc: Global, at: u64, line: &str) -> Members {
     columns_of.text("stack", words.word());
     columns_of.text("known", words.rest());
     columns_of
+}
+
+/// Whether a line is of an instruction: its bytes end before its text begins, and they are no comment. A line of bytes
+/// that are never reached has a fifth byte there, or nothing.
+fn is_instruction(line: &str) -> bool {
+    let bytes = columns(line, BYTES, INSTRUCTION);
+    let is_comment = bytes.starts_with(';') || bytes.starts_with("DEFB");
+    let has_fifth = !columns(line, INSTRUCTION - 1, INSTRUCTION).is_empty();
+    !is_comment && !has_fifth && !columns(line, INSTRUCTION, INSTRUCTION + 1).is_empty()
 }
 
 /// The T-states of an instruction, if it is taken or repeats and if not: `12/7`, or one number for both.

@@ -13,13 +13,17 @@ pub(crate) fn add_walk(members: &mut Members, text: &str) {
     members.object("procedure", procedure_of(alloc, heading));
     let mut items = Items::new(alloc);
     let mut totals = Items::new(alloc);
-    let mut in_totals = false;
+    let (mut in_rows, mut in_totals) = (false, false);
     for line in lines {
         if line.trim_start().starts_with("times ") {
             in_totals = true;
+        } else if line.starts_with("addr") {
+            in_rows = true;
         } else if in_totals {
             totals.object(total_of(alloc, line));
-        } else if !line.is_empty() && !line.starts_with("addr") {
+        } else if in_rows {
+            items.object(row_of(alloc, line));
+        } else if !line.is_empty() {
             items.object(item_of(alloc, line));
         }
     }
@@ -57,6 +61,19 @@ fn item_of(alloc: Global, line: &str) -> Members {
         _ => item.text("text", line.trim()),
     }
     item
+}
+
+/// A row of the way, or a loop, with `--rows`: its address, if it has one, its T-states, the sum so far, and its text.
+fn row_of(alloc: Global, line: &str) -> Members {
+    let mut row = Members::new(alloc);
+    let mut words = Words::of(line);
+    if !line.starts_with(' ') {
+        row.number("address", words.address());
+    }
+    row.number("time", words.decimal());
+    row.number("sum", words.decimal());
+    row.text("text", words.rest());
+    row
 }
 
 /// The T-states of a procedure in the whole way.
