@@ -140,6 +140,14 @@ pub fn add_misfit(
     if let Some((explored, _)) = explored {
         let sites = explored.call_sites(alloc, situation.place.proc)?;
         let entry = with.place(entry_of(situation.place.proc));
+        if sites.as_slice().is_empty() {
+            return add_line(
+                text,
+                format_args!(
+                    "{entry} is the NMI routine: this is where the program was interrupted"
+                ),
+            );
+        }
         let places = with.places(sites.as_slice())?;
         add_line(text, format_args!("{entry} is called at {places}"))?;
     }

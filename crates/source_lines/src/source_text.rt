@@ -13,10 +13,14 @@ pub struct SourceText<'a> {
 }
 
 /// The words that give a label a value instead of an address.
-const EQUATES: [&[u8]; 4] = [b"equ", b".equ", b"=", b"defl"];
+const EQUATES: [&[u8]; 7] = [
+    b"equ", b".equ", b"=", b"==", b"defl", b".gblequ", b".lclequ",
+];
 
 /// The directives of SDCC's assembler that reserve bytes, which its listing does not show.
-const RESERVES: [&[u8]; 3] = [b".ds", b".blkb", b".rmb"];
+const RESERVES: [&[u8]; 7] = [
+    b".ds", b".rs", b".rmb", b".blkb", b".blkw", b".blk3", b".blk4",
+];
 
 impl<'a> SourceText<'a> {
     /// The parts of a line, as the assembler of a layout reads them.
@@ -87,38 +91,51 @@ fn is_equate(word: &[u8]) -> bool {
         .any(|equate| word.eq_ignore_ascii_case(equate))
 }
 
-/// The first word of a text and what follows it. A word ends at a blank or at a colon.
+/// The first word of a text and what follows it. A word ends at a blank, at a colon, and before `=`; one or more `=` are
+/// a word of their own.
 fn split_word(text: &[u8]) -> (&[u8], &[u8]) {
+    let is_sign = text.starts_with(b"=");
     let end = text
         .iter()
-        .position(|byte| byte.is_ascii_whitespace() || *byte == b':')
+        .position(|byte| byte.is_ascii_whitespace() || *byte == b':' || (*byte == b'=') != is_sign)
         .unwrap_or(text.len());
     text.split_at(end)
 }
 
 /// What stands before the first semicolon, and what follows it. A semicolon in a text does not count: between double
-/// quotes, or as `';'`.
+/// quotes, or between two single quotes.
 fn split_comment(source: &[u8]) -> (&[u8], &[u8]) {
-    let mut is_in_text = false;
+    let mut quote = None;
     for (at, byte) in source.iter().enumerate() {
-        if is_character(source, at) {
-            continue;
-        }
-        match *byte {
-            b'"' => is_in_text = !is_in_text,
-            b';' if !is_in_text => {
-                let (code, comment) = source.split_at(at);
-                return (code, comment.strip_prefix(b";").unwrap_or(comment));
+        match quote {
+            Some(sign) => {
+                if *byte == sign {
+                    quote = None;
+                }
             }
-            _ => {}
+            None => match *byte {
+                b'"' => quote = Some(b'"'),
+                b'\'' if begins_text(source, at) => quote = Some(b'\''),
+                b';' => {
+                    let (code, comment) = source.split_at(at);
+                    return (code, comment.strip_prefix(b";").unwrap_or(comment));
+                }
+                _ => {}
+            },
         }
     }
     (source, b"")
 }
 
-/// Whether the byte at an index stands between two single quotes.
-fn is_character(source: &[u8], at: usize) -> bool {
-    let before = at.checked_sub(1).and_then(|index| source.get(index));
-    let after = at.checked_add(1).and_then(|index| source.get(index));
-    before == Some(&b'\'') && after == Some(&b'\'')
+/// Whether a single quote at an index begins a text: it is one character, or another quote follows. It then belongs
+/// neither to a name, as in `AF'`, nor to a character of SDCC's assembler, as in `#'a`.
+fn begins_text(source: &[u8], at: usize) -> bool {
+    let place = |distance: usize| at.checked_add(distance);
+    let is_character = place(2).and_then(|index| source.get(index)) == Some(&b'\'');
+    let is_alone = match at.checked_sub(1).and_then(|index| source.get(index)) {
+        Some(before) => before.is_ascii_alphanumeric() || *before == b'#',
+        None => false,
+    };
+    let behind = place(1).and_then(|index| source.get(index..));
+    is_character || (!is_alone && behind.unwrap_or(b"").contains(&b'\''))
 }

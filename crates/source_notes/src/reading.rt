@@ -95,7 +95,8 @@ fn equated_address(line: &ListingLine<'_>, value: &[u8], symbols: &Symbols) -> O
     if let Some(value) = number(str::from_utf8(value).ok()?) {
         return u16::try_from(value).ok();
     }
-    symbols.address_of(str::from_utf8(line.text.label?).ok()?)
+    let name = line.text.label.unwrap_or(line.text.mnemonic());
+    symbols.address_of(str::from_utf8(name).ok()?)
 }
 
 impl Reading {
