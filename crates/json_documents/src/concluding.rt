@@ -47,8 +47,8 @@ pub fn conclude<W: Sink, N: Sink>(
 
 /// Ends `suggest` with a file for the annotations, where `out` captured the answer. `file` gets a file of annotations
 /// whole. Another answer is one line; it is written to the sink of `out`, and `file` takes nothing. With `is_document`
-/// the document of the first line is written to that sink in the place of a line, also after a file. With another status
-/// than 0 and 1 nothing is written. Of `notes` and of the result the same holds as for `conclude`.
+/// the document of the first line is written to that sink in the place of a line, also after a file. With another
+/// status than 0 and 1 nothing is written. Of `notes` and of the result the same holds as for `conclude`.
 pub fn conclude_file<F: Sink, W: Sink, N: Sink>(
     alloc: Global,
     is_document: bool,

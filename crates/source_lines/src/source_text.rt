@@ -91,8 +91,8 @@ fn is_equate(word: &[u8]) -> bool {
         .any(|equate| word.eq_ignore_ascii_case(equate))
 }
 
-/// The first word of a text and what follows it. A word ends at a blank, at a colon, and before `=`; one or more `=` are
-/// a word of their own.
+/// The first word of a text and what follows it. A word ends at a blank, at a colon, and before `=`; one or more `=`
+/// are a word of their own.
 fn split_word(text: &[u8]) -> (&[u8], &[u8]) {
     let is_sign = text.starts_with(b"=");
     let end = text
