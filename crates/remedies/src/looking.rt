@@ -16,7 +16,7 @@ use std::alloc::Global;
 use t_states::MAX_BUDGET;
 use tried_notes::{
     TrialGoal, added_of, clash, clean_with, merged, only_facts, only_split, with_budget,
-    with_split_instead, without_facts,
+    with_region, with_split_instead, without_facts,
 };
 
 /// The most trials for one refusal.
@@ -153,11 +153,17 @@ impl Remedies {
                 }
             }
             Reason::Time => for_time(case, search, refusal.address),
-            Reason::SpWrite => case.other_top(refusal),
-            Reason::StackOverwrite => match case.deep_enough(refusal)? {
-                Remedy::Unknown => self.found(case, search, refusal),
-                remedy => Ok(remedy),
-            },
+            Reason::SpWrite => {
+                let found = case.other_top(refusal)?;
+                self.if_region_stands(case, refusal, found)
+            }
+            Reason::StackOverwrite => {
+                let found = case.deep_enough(refusal)?;
+                match self.if_region_stands(case, refusal, found)? {
+                    Remedy::Unknown => self.found(case, search, refusal),
+                    remedy => Ok(remedy),
+                }
+            }
             Reason::NotCovered => match self.otherwise_covered(case, refusal)? {
                 Remedy::Unknown => self.found(case, search, refusal),
                 remedy => Ok(remedy),
@@ -172,6 +178,24 @@ impl Remedies {
             | Reason::CellRange
             | Reason::CellUnarmed => self.found(case, search, refusal),
             _ => Ok(Remedy::Unknown),
+        }
+    }
+
+    /// A remedy that is a region, if the refused row is refused no more with it.
+    fn if_region_stands(
+        &mut self,
+        case: &Case,
+        refusal: &Refusal,
+        remedy: Remedy,
+    ) -> Result<Remedy, FlowFault> {
+        let Remedy::Stack(region) = remedy else {
+            return Ok(Remedy::Unknown);
+        };
+        let said = with_region(case.alloc, case.said, region)?;
+        if self.is_gone_with(case, &said, refusal.address)? {
+            Ok(Remedy::Stack(region))
+        } else {
+            Ok(Remedy::Unknown)
         }
     }
 
