@@ -28,7 +28,7 @@ const MOST_FACTS: usize = 128;
 /// `galcert suggest ROM [ANNOT]`: finds annotations beside those in ANNOT, and writes a whole annotation file to `out`
 /// (docs/INFERENCE.md, "A file of what was found"). The search takes at most `trials` trials, and looks for a
 /// certificate of version `most` at most: 3, or less for 2. One line on `notes` says what was found; what `notes` does
-/// changes nothing. `progress` is told of each trial.
+/// changes nothing. `progress` hears of each trial.
 ///
 /// The result is the exit status: 0 where the ROM is accepted, 1 where it is refused (the file then says what was
 /// found, and which instructions are refused) or the annotations are bad, 3 where a device failed, 4 where memory was

@@ -1,5 +1,5 @@
 // What an accepted certificate says of its program as a whole: which code runs in main and in the NMI routine, what
-// each instruction stores and reads, who uses which byte of RAM, and the deepest calls.
+// each instruction stores and reads, which side uses which byte of RAM, and the deepest calls.
 #![tactic(auto)]
 
 mod accesses;

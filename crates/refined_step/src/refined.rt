@@ -190,9 +190,9 @@ fn refined_answer(
 /// values of the linear, and ADC and SBC with a known carry have A cut to the results with that carry. All other
 /// successors are those of `row_step`, and so are data writes and reasons (docs/CHECKER.md, "The refined step").
 ///
-/// On every board of which the row and its parts hold, if no reason that the certificate decides applies to the row,
-/// the instruction does what one of these successors says, and the conditions and the linear effect are true. The
-/// linear has coefficients up to 256 in size.
+/// Take a board that the row and its parts describe. If no reason that the certificate decides applies to the row, the
+/// instruction does what one of these successors says. The conditions and the linear effect are true, and the linear
+/// has coefficients up to 256 in size.
 pub fn refined_step(
     alloc: Global,
     ground: &Ground,
