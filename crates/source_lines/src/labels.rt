@@ -8,8 +8,9 @@ use std::fmt::Write;
 use symbols::{SymbolFault, Symbols};
 
 impl SourceLines<'_> {
-    /// The labels of the lines that have bytes or nothing but the label. A label of two addresses is left out: it is
-    /// local to some part of the program.
+    /// The labels of lines that are not left out: of those that have bytes, that have nothing but the label, or that
+    /// call a macro which the listing defines. A label of two addresses is no name: it is local to some part of the
+    /// program.
     ///
     /// # Errors
     ///
@@ -45,9 +46,10 @@ fn addresses_of(
     alloc: Global,
     lines: &[ListingLine<'_>],
 ) -> Result<IndexMap<String, Option<u16>>, AllocError> {
+    let macros = macros_of(alloc, lines)?;
     let mut addresses = IndexMap::new(alloc);
     for line in lines {
-        if let Some((name, address)) = labelled(line) {
+        if let Some((name, address)) = labelled(line, &macros) {
             let address = match addresses.get(name) {
                 Some(before) if *before != Some(address) => None,
                 _ => Some(address),
@@ -58,10 +60,28 @@ fn addresses_of(
     Ok(addresses)
 }
 
+/// The names of the macros that a listing defines.
+fn macros_of<'a>(
+    alloc: Global,
+    lines: &[ListingLine<'a>],
+) -> Result<IndexMap<&'a [u8], ()>, AllocError> {
+    let mut macros = IndexMap::new(alloc);
+    for line in lines {
+        if let Some(name) = line.text.defined_macro() {
+            macros.insert(name, ())?;
+        }
+    }
+    Ok(macros)
+}
+
 /// The label of a line, and the address that it names.
-fn labelled<'a>(line: &ListingLine<'a>) -> Option<(&'a str, u16)> {
-    if !line.has_bytes && !line.text.operation.is_empty() {
+fn labelled<'a>(line: &ListingLine<'a>, macros: &IndexMap<&'a [u8], ()>) -> Option<(&'a str, u16)> {
+    let text = line.text;
+    let has_address = line.has_bytes
+        || text.operation.is_empty()
+        || macros.contains_key(text.mnemonic());
+    if !has_address || line.is_left_out {
         return None;
     }
-    Some((str::from_utf8(line.text.label?).ok()?, line.address?))
+    Some((str::from_utf8(text.label?).ok()?, line.address?))
 }

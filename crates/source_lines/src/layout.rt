@@ -19,6 +19,9 @@ const LAYOUTS: [Layout; 5] = [
     Layout::Sdcc,
 ];
 
+/// With these blanks a line of SDCC begins that has no address.
+const SDCC_WITHOUT_ADDRESS: &[u8] = b"            ";
+
 /// A line of a listing that shows a line of source.
 #[derive(Clone, Copy)]
 pub(crate) struct Shown<'a> {
@@ -61,6 +64,15 @@ impl Layout {
                 (line.trim_ascii_end().len() == 19 && has_byte_at(line, 5)).then_some(address)
             }
             Layout::Z80asm | Layout::Sjasmplus | Layout::Gas | Layout::Sdcc => None,
+        }
+    }
+
+    /// Whether a line shows that it is not assembled: by `~` in the place of bytes, or by a label without an address.
+    pub(crate) fn marks_as_left_out(self, line: &[u8], has_label: bool) -> bool {
+        match self {
+            Layout::Sjasmplus => line.get(11) == Some(&b'~'),
+            Layout::Sdcc => has_label && line.starts_with(SDCC_WITHOUT_ADDRESS),
+            Layout::Z80asm | Layout::Gas | Layout::Crasm => false,
         }
     }
 
@@ -194,7 +206,7 @@ fn sdcc_line(line: &[u8]) -> Option<Shown<'_>> {
     let source = line.get(40..).unwrap_or(b"");
     let left = line.get(..34)?;
     // A value that stands in the place of bytes is that of an equate or of a condition.
-    if left.starts_with(b"            ") {
+    if left.starts_with(SDCC_WITHOUT_ADDRESS) {
         return Some(Shown {
             address: None,
             has_bytes: false,

@@ -15,6 +15,9 @@ pub struct ListingLine<'a> {
     pub address: Option<u16>,
     /// Whether it shows or reserves bytes.
     pub has_bytes: bool,
+    /// Whether it is not assembled, as far as the listing tells: by a mark on the line, or by an instruction without
+    /// bytes at the line or next after it.
+    pub is_left_out: bool,
     pub text: SourceText<'a>,
 }
 
@@ -82,6 +85,7 @@ fn lines_of<'a>(
             number,
             address: begun.or(shown.address),
             has_bytes: shown.has_bytes || text.reserves_bytes(),
+            is_left_out: layout.marks_as_left_out(line, text.names_address()),
             text,
         };
         begun = None;
@@ -90,6 +94,7 @@ fn lines_of<'a>(
         }
     }
     fill_addresses(&mut lines);
+    mark_left_out(&mut lines);
     Ok(lines)
 }
 
@@ -101,5 +106,22 @@ fn fill_addresses(lines: &mut Vec<ListingLine<'_>>) {
             line.address = next;
         }
         next = line.address;
+    }
+}
+
+/// Marks each instruction without bytes as left out, and what stands before it: lines without an operation, equates,
+/// and one other operation.
+fn mark_left_out(lines: &mut Vec<ListingLine<'_>>) {
+    let mut is_next_left_out = false;
+    for line in lines.iter_mut().rev() {
+        let text = line.text;
+        let is_left_out = !line.has_bytes && text.makes_bytes();
+        if is_left_out || (is_next_left_out && !line.has_bytes) {
+            line.is_left_out = true;
+        }
+        let is_operation = !text.operation.is_empty() && text.equate().is_none();
+        if line.has_bytes || is_operation {
+            is_next_left_out = is_left_out;
+        }
     }
 }

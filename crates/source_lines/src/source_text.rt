@@ -17,6 +17,21 @@ const EQUATES: [&[u8]; 7] = [
     b"equ", b".equ", b"=", b"==", b"defl", b".gblequ", b".lclequ",
 ];
 
+/// The directives of GNU as that give a name a value: the name and a comma stand before it.
+const NAME_FIRST: [&[u8]; 3] = [b".equ", b".set", b".equiv"];
+
+/// The instructions of the Z80 and the directives for data. SET is not among them: some assemblers have an equate of
+/// that name.
+const WITH_BYTES: [&[u8]; 76] = [
+    b"adc", b"add", b"and", b"bit", b"call", b"ccf", b"cp", b"cpd", b"cpdr", b"cpi", b"cpir",
+    b"cpl", b"daa", b"dec", b"di", b"djnz", b"ei", b"ex", b"exx", b"halt", b"im", b"in", b"inc",
+    b"ind", b"indr", b"ini", b"inir", b"jp", b"jr", b"ld", b"ldd", b"lddr", b"ldi", b"ldir",
+    b"neg", b"nop", b"or", b"otdr", b"otir", b"out", b"outd", b"outi", b"pop", b"push", b"res",
+    b"ret", b"reti", b"retn", b"rl", b"rla", b"rlc", b"rlca", b"rld", b"rr", b"rra", b"rrc",
+    b"rrca", b"rrd", b"rst", b"sbc", b"scf", b"sla", b"sra", b"srl", b"sub", b"xor", b"db",
+    b"defb", b"dw", b"defw", b"dm", b"defm", b".db", b".dw", b".byte", b".word",
+];
+
 /// The directives of SDCC's assembler that reserve bytes, which its listing does not show.
 const RESERVES: [&[u8]; 7] = [
     b".ds", b".rs", b".rmb", b".blkb", b".blkw", b".blk3", b".blk4",
@@ -57,9 +72,29 @@ impl<'a> SourceText<'a> {
 
     /// Whether the operation reserves bytes that the listing does not show.
     pub(crate) fn reserves_bytes(&self) -> bool {
-        RESERVES
-            .iter()
-            .any(|reserve| self.mnemonic().eq_ignore_ascii_case(reserve))
+        is_one_of(self.mnemonic(), &RESERVES)
+    }
+
+    /// Whether the operation is an instruction or data, which has bytes wherever it is assembled.
+    pub(crate) fn makes_bytes(&self) -> bool {
+        is_one_of(self.mnemonic(), &WITH_BYTES)
+    }
+
+    /// Whether the line has a label that is the name of an address, and not that of an equate.
+    pub(crate) fn names_address(&self) -> bool {
+        self.label.is_some() && self.equate().is_none()
+    }
+
+    /// The name of the macro that the operation defines: the label, or what follows the word `macro`.
+    pub(crate) fn defined_macro(&self) -> Option<&'a [u8]> {
+        let (word, rest) = split_word(self.operation);
+        let word = word.strip_prefix(b".").unwrap_or(word);
+        if !word.eq_ignore_ascii_case(b"macro") {
+            return None;
+        }
+        let (first, _) = split_word(rest.trim_ascii());
+        let name = first.split(|byte| *byte == b',').next().unwrap_or(first);
+        Some(self.label.unwrap_or(name))
     }
 
     /// The name of the file that the operation includes, between double quotes.
@@ -71,24 +106,26 @@ impl<'a> SourceText<'a> {
         rest.trim_ascii().strip_prefix(b"\"")?.strip_suffix(b"\"")
     }
 
-    /// The text of the value that an equate gives its name.
-    pub fn equated(&self) -> Option<&'a [u8]> {
-        let (word, value) = split_word(self.operation);
-        if self.label.is_some() && is_equate(word) {
-            return Some(value.trim_ascii());
+    /// The name that an equate gives a value, and the text of the value.
+    pub fn equate(&self) -> Option<(&'a [u8], &'a [u8])> {
+        let (word, rest) = split_word(self.operation);
+        if let Some(label) = self.label {
+            return is_one_of(word, &EQUATES).then_some((label, rest.trim_ascii()));
         }
-        let (word, value) = split_word(value.trim_ascii_start());
-        if self.label.is_none() && is_equate(word) {
-            return Some(value.trim_ascii());
+        let (sign, value) = split_word(rest.trim_ascii_start());
+        if is_one_of(sign, &EQUATES) {
+            return Some((word, value.trim_ascii()));
         }
-        None
+        let comma = rest.iter().position(|byte| *byte == b',')?;
+        let (name, value) = rest.split_at(comma);
+        let value = value.strip_prefix(b",")?;
+        is_one_of(word, &NAME_FIRST).then_some((name.trim_ascii(), value.trim_ascii()))
     }
 }
 
-fn is_equate(word: &[u8]) -> bool {
-    EQUATES
-        .iter()
-        .any(|equate| word.eq_ignore_ascii_case(equate))
+/// Whether a word is one of these, in upper or lower case.
+fn is_one_of(word: &[u8], words: &[&[u8]]) -> bool {
+    words.iter().any(|other| word.eq_ignore_ascii_case(other))
 }
 
 /// The first word of a text and what follows it. A word ends at a blank, at a colon, and before `=`; one or more `=`

@@ -81,21 +81,23 @@ fn target_of(line: &ListingLine<'_>, symbols: &Symbols) -> Target {
     if let Some(at) = line.bytes_at() {
         return Target::Bytes(at);
     }
+    if line.is_left_out {
+        return Target::Nothing;
+    }
     if line.text.operation.is_empty() {
         return Target::Next;
     }
-    match line.text.equated() {
-        Some(value) => Target::Named(equated_address(line, value, symbols)),
+    match line.text.equate() {
+        Some((name, value)) => Target::Named(equated_address(name, value, symbols)),
         None => Target::Nothing,
     }
 }
 
-/// The address that an equate gives its name: a number that the line has, or the value of the name.
-fn equated_address(line: &ListingLine<'_>, value: &[u8], symbols: &Symbols) -> Option<u16> {
+/// The address that an equate gives its name: a number that is its value's text, or what the symbols say of the name.
+fn equated_address(name: &[u8], value: &[u8], symbols: &Symbols) -> Option<u16> {
     if let Some(value) = number(str::from_utf8(value).ok()?) {
         return u16::try_from(value).ok();
     }
-    let name = line.text.label.unwrap_or(line.text.mnemonic());
     symbols.address_of(str::from_utf8(name).ok()?)
 }
 
