@@ -34,6 +34,7 @@ pub struct FileSource<'a, R: Files> {
     /// All that was read, where that is wanted and memory was not refused.
     text: Option<Vec<u8>>,
     len: u64,
+    was_read: bool,
     is_amid: bool,
     failures: Failures,
 }
@@ -48,6 +49,7 @@ impl<'a, R: Files> FileSource<'a, R> {
             head: ArrayVec::new(),
             text: None,
             len: 0,
+            was_read: false,
             is_amid: false,
             failures: Failures::none(),
         }
@@ -99,6 +101,11 @@ impl<'a, R: Files> FileSource<'a, R> {
         self.len
     }
 
+    /// Whether a read was tried.
+    pub fn was_read(&self) -> bool {
+        self.was_read
+    }
+
     /// Why it failed first; None if it did not.
     pub fn failure(&self) -> Option<Failure> {
         self.failures.first
@@ -114,6 +121,7 @@ impl<'a, R: Files> Source for FileSource<'a, R> {
     ghost state = { λ s. record { bytes = None; failures = s.failures.count } };
 
     fn read(&mut self, buffer: &mut [u8]) -> Result<usize, DeviceFault> {
+        self.was_read = true;
         if let Stream::Unopened = &self.stream {
             match fs::open(self.files, self.path) {
                 Ok(file) => self.stream = Stream::File(file),

@@ -4,9 +4,10 @@ use crate::devices::{input, stdout};
 use crate::naming::read_files;
 use crate::streams::Remarks;
 use clap::ArgMatches;
+use command_parts::ExitStatus;
 use command_reports::{UsedDevice, clash_of, end, report_clash};
 use command_words::{OLD_SYMBOLS, SYMBOLS};
-use named_reports::{NameFiles, ProgramNames};
+use named_reports::{NameFiles, ProgramNames, hint_last_read};
 use view_commands::{EntryNames, diff_on};
 
 /// `galcert diff`. The result is the exit status.
@@ -30,6 +31,9 @@ pub fn diff_files<'a>(rt: &'a HostRuntime, matches: &ArgMatches<'a>, notes: &mut
     let mut later = input(rt, matches, "NEW");
     let mut out = stdout(rt);
     let status = diff_on(rt.alloc(), &mut earlier, &mut later, names, &mut out);
+    if status == ExitStatus::Refused.code() {
+        hint_last_read(rt.alloc(), &earlier, &later, notes);
+    }
     let used = [
         UsedDevice::input(&earlier),
         UsedDevice::input(&later),

@@ -20,6 +20,12 @@ const INPUTS: [&str; 4] = ["ROM", SECOND, SYMBOLS, LISTING];
 
 /// `galcert explain`. The result is the exit status.
 pub fn explain_files<'a>(rt: &'a HostRuntime, matches: &ArgMatches<'a>, notes: &mut Remarks) -> u8 {
+    let Some(trials) = trials_of(notes, matches) else {
+        return ExitStatus::Usage.code();
+    };
+    let Some(most) = number_of(notes, matches.get_str(MAX), MAX, MOST_UNSAID) else {
+        return ExitStatus::Usage.code();
+    };
     let second = matches.get_str(SECOND);
     if second.is_none() {
         if let Some(number) = page_number(word(matches, "ROM")) {
@@ -33,12 +39,6 @@ pub fn explain_files<'a>(rt: &'a HostRuntime, matches: &ArgMatches<'a>, notes: &
         );
         return ExitStatus::Usage.code();
     }
-    let Some(trials) = trials_of(notes, matches) else {
-        return ExitStatus::Usage.code();
-    };
-    let Some(most) = number_of(notes, matches.get_str(MAX), MAX, MOST_UNSAID) else {
-        return ExitStatus::Usage.code();
-    };
     if let Some(clash) = clash_of(rt, matches, &INPUTS, None) {
         return report_clash(notes, &clash);
     }
@@ -57,6 +57,7 @@ fn explain_rom<'a>(
         Ok(names) => names,
         Err(status) => return status,
     };
+    let alloc = rt.alloc();
     let mut out = answer(rt, matches.get_flag(JSON), stdout(rt));
     let sourced = match &names.notes {
         None => None,
@@ -64,7 +65,7 @@ fn explain_rom<'a>(
         Some(Err(_)) => return bad_note(rt, &names, &mut out, notes),
     };
     let mut rom = input(rt, matches, "ROM");
-    let mut second = optional(rt, matches.get_str(SECOND)).remembering(rt.alloc());
+    let mut second = optional(rt, matches.get_str(SECOND)).remembering(alloc);
     let infers = matches.get_flag(INFER);
     let asked = Asked {
         names: &names.names,
@@ -74,19 +75,12 @@ fn explain_rom<'a>(
         most,
     };
     let progress = &mut searching(rt);
-    let status = explain_on(rt.alloc(), &mut rom, &mut second, asked, &mut out, progress);
+    let status = explain_on(alloc, &mut rom, &mut second, asked, &mut out, progress);
     if status == ExitStatus::Refused.code() {
         hint_explained(rt, &rom, &second, &names, infers, notes);
     }
     let symbols = Some(&names.names.symbols);
-    let status = conclude(
-        rt.alloc(),
-        Command::Explain,
-        status,
-        &mut out,
-        notes,
-        symbols,
-    );
+    let status = conclude(alloc, Command::Explain, status, &mut out, notes, symbols);
     let used = [
         UsedDevice::input(&rom),
         UsedDevice::input(&second),

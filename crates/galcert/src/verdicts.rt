@@ -13,6 +13,7 @@ use command_words::{JSON, LISTING, QUIET, SYMBOLS, TO};
 use commands::{migrate_on, verify_on};
 use file_devices::Output;
 use json_documents::{Command, conclude};
+use named_reports::hint_no_certificate;
 
 /// `galcert verify`. The result is the exit status.
 pub fn verify_files<'a>(rt: &'a HostRuntime, matches: &ArgMatches<'a>, notes: &mut Remarks) -> u8 {
@@ -26,23 +27,17 @@ pub fn verify_files<'a>(rt: &'a HostRuntime, matches: &ArgMatches<'a>, notes: &m
         Ok(names) => names,
         Err(status) => return status,
     };
+    let alloc = rt.alloc();
     let mut rom = input(rt, matches, "ROM");
     let mut cert = input(rt, matches, "CERT");
     let mut out = Watched::new(verdict_output(rt, matches));
-    let status = verify_on(rt.alloc(), &mut rom, &mut cert, &mut out);
+    let status = verify_on(alloc, &mut rom, &mut cert, &mut out);
     tell_refused(rt, names.as_ref(), status, &out, notes);
     hint_refused(rt, status, &rom, &cert, notes);
     let status = limits.judge(notes, status, &out);
     let mut out = out.into_inner();
     let symbols = symbols_of(names.as_ref());
-    let status = conclude(
-        rt.alloc(),
-        Command::Verify,
-        status,
-        &mut out,
-        notes,
-        symbols,
-    );
+    let status = conclude(alloc, Command::Verify, status, &mut out, notes, symbols);
     let used = [
         UsedDevice::input(&rom),
         UsedDevice::input(&cert),
@@ -72,6 +67,9 @@ pub fn migrate_file<'a>(rt: &'a HostRuntime, matches: &ArgMatches<'a>, notes: &m
     let mut cert = input(rt, matches, "CERT");
     let mut out = stdout(rt);
     let status = migrate_on(rt.alloc(), version, &mut cert, &mut out);
+    if status == ExitStatus::Refused.code() {
+        hint_no_certificate(rt.alloc(), &cert, notes);
+    }
     end(
         notes,
         status,

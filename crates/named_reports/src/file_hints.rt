@@ -22,16 +22,13 @@ pub fn hint_rom<R: Files, N: Sink>(
     notes: &mut N,
 ) {
     let name = rom.path().escape_debug();
-    if let Some(likeness) = Likeness::of(rom.head()) {
-        let words = likeness.words();
-        tell_note(
-            alloc,
-            notes,
-            format_args!(
-                "galcert: {name} looks like {words}; ROM is a file of the bytes themselves"
-            ),
-        );
-    }
+    hint_likeness(
+        alloc,
+        rom,
+        None,
+        "ROM is a file of the bytes themselves",
+        notes,
+    );
     if rom.len() == 0 && rom.failure().is_none() {
         tell_note(
             alloc,
@@ -63,22 +60,11 @@ pub fn hint_certificate<R: Files, N: Sink>(
     cert: &FileSource<'_, R>,
     notes: &mut N,
 ) {
-    let name = cert.path().escape_debug();
-    match Likeness::of(cert.head()) {
-        Some(Likeness::Certificate) => {}
-        Some(likeness) => {
-            let words = likeness.words();
-            tell_note(
-                alloc,
-                notes,
-                format_args!("galcert: {name} looks like {words}; CERT is a certificate"),
-            );
-        }
-        None => {}
-    }
+    hint_no_certificate(alloc, cert, notes);
     if let Some(len) = certified_len(cert.head()) {
         let found = rom.len();
         if u64::from(len) != found && 0 < found && found <= MOST_ROM {
+            let name = cert.path().escape_debug();
             tell_note(
                 alloc,
                 notes,
@@ -90,6 +76,39 @@ pub fn hint_certificate<R: Files, N: Sink>(
     }
 }
 
+/// Says what a certificate looks like, if it is none.
+pub fn hint_no_certificate<R: Files, N: Sink>(
+    alloc: Global,
+    cert: &FileSource<'_, R>,
+    notes: &mut N,
+) {
+    let right = Some(Likeness::Certificate);
+    hint_likeness(alloc, cert, right, "CERT is a certificate", notes);
+}
+
+/// Says which of two files is no certificate: the one that was read last.
+pub fn hint_last_read<R: Files, N: Sink>(
+    alloc: Global,
+    old: &FileSource<'_, R>,
+    new: &FileSource<'_, R>,
+    notes: &mut N,
+) {
+    let (cert, wanted) = if new.was_read() {
+        (new, "NEW is a certificate")
+    } else {
+        (old, "OLD is a certificate")
+    };
+    let right = Some(Likeness::Certificate);
+    if !hint_likeness(alloc, cert, right, wanted, notes) {
+        let name = cert.path().escape_debug();
+        tell_note(
+            alloc,
+            notes,
+            format_args!("galcert: {name} is no certificate"),
+        );
+    }
+}
+
 /// Says what annotations look like, if they are none, and where they are at fault. With `infers` they were read for
 /// `--infer`.
 pub fn hint_annotations<R: Files, N: Sink>(
@@ -98,7 +117,7 @@ pub fn hint_annotations<R: Files, N: Sink>(
     infers: bool,
     notes: &mut N,
 ) {
-    if !hint_other(alloc, annot, notes) {
+    if !hint_no_toml(alloc, annot, notes) {
         if let Some(text) = annot.text() {
             hint_fault(alloc, annot, text, infers, notes);
         }
@@ -113,7 +132,7 @@ pub fn hint_named<R: Files, N: Sink>(
     infers: bool,
     notes: &mut N,
 ) {
-    if hint_other(alloc, annot, notes) {
+    if hint_no_toml(alloc, annot, notes) {
         return;
     }
     let Some(text) = annot.text() else {
@@ -130,20 +149,37 @@ pub fn hint_named<R: Files, N: Sink>(
     }
 }
 
-/// Says what annotations look like. The result is whether they look like something else.
-fn hint_other<R: Files, N: Sink>(alloc: Global, annot: &FileSource<'_, R>, notes: &mut N) -> bool {
-    let name = annot.path().escape_debug();
-    match Likeness::of(annot.head()) {
-        None | Some(Likeness::Toml) => false,
-        Some(likeness) => {
+/// Says what annotations look like, if they are none. The result is whether they look like something else.
+fn hint_no_toml<R: Files, N: Sink>(
+    alloc: Global,
+    annot: &FileSource<'_, R>,
+    notes: &mut N,
+) -> bool {
+    let right = Some(Likeness::Toml);
+    hint_likeness(alloc, annot, right, "ANNOT is a TOML text", notes)
+}
+
+/// Says what a file looks like, if that is not what is right. `wanted` says what it should be. The result is whether
+/// the file looks like something else.
+fn hint_likeness<R: Files, N: Sink>(
+    alloc: Global,
+    file: &FileSource<'_, R>,
+    right: Option<Likeness>,
+    wanted: &str,
+    notes: &mut N,
+) -> bool {
+    match Likeness::of(file.head()) {
+        Some(likeness) if Some(likeness) != right => {
+            let name = file.path().escape_debug();
             let words = likeness.words();
             tell_note(
                 alloc,
                 notes,
-                format_args!("galcert: {name} looks like {words}; ANNOT is a TOML text"),
+                format_args!("galcert: {name} looks like {words}; {wanted}"),
             );
             true
         }
+        _ => false,
     }
 }
 

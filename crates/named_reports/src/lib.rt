@@ -11,7 +11,9 @@ mod telling;
 mod unneeded;
 mod warnings;
 
-pub use file_hints::{hint_annotations, hint_certificate, hint_named, hint_rom};
+pub use file_hints::{
+    hint_annotations, hint_certificate, hint_last_read, hint_named, hint_no_certificate, hint_rom,
+};
 pub use program_names::{NameFiles, ProgramNames, read_names};
 pub use refused_warnings::warn_of_refused;
 pub use reports::{tell_bad_note, tell_conflict, tell_refusal, tell_unknown_names};
