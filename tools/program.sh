@@ -734,7 +734,7 @@ judge "procedures by their names" 0 "$(awk '$3 == "depth" { end = ""; name = "";
     else if (entry == "00C8") { entry = "00BA"; depth = 2; time = 147; name = " second"; end = " grew" }
     printf "%-4s %s depth%7s%7s time%7s%7s%s%s\n", $1, entry, $4, depth, $6, time, name, end }' pages.table)"$'\nstack 20 20 of 64\nnmi 1959 1959 of 2500\n' ''
 ask diff "$six.cert" "$six.rom"
-judge "a ROM in the place of a certificate" 1 $'bad certificate line 1\n' ''
+judge "a ROM in the place of a certificate" 1 $'bad certificate line 1\n' "galcert: $six.rom is no certificate"$'\n'
 ask diff "$six.cert" missing
 judge "a certificate that is not there" 3 '' $'device error\ngalcert: cannot open missing: No such file or directory (os error 2)\n'
 ask diff - -
