@@ -130,7 +130,7 @@ def step_of(text, short):
     """A step of a table: the words of its row and its bytes. `@0010` begins the called procedure there."""
     if text[0] == "@":
         return None, text[1:]
-    words, _, code = text.rpartition(" :") if " :" in text else ("", "", text)
+    words, _, code = f" {text}".rpartition(" :")
     return [each for it in words.split() for each in short.get(it, it).split()], code if code.strip() else STAY
 
 
@@ -157,7 +157,7 @@ def cases_of(table):
                     wrong = [*left[:-1], word[1:], *(it for it in words[number:] if it[0] != "!")]
                     before = max(it for it in range(place) if said[it][0] is not None and said[it][1] != STAY)
                     steps = [*plain[:place], (wrong, code), *plain[place + 1 :]]
-                    yield verdict_of(f"{table['name']}: {name}: not {word[1:]}", steps, before)
+                    yield verdict_of(f"{table['name']}: {name}: step {place + 1}: not {word[1:]}", steps, before)
 
 
 def lines_that_differ(wanted, found):
