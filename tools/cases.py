@@ -47,19 +47,22 @@ def bytes_of_hex(text):
     return bytes(made)
 
 
-def repeated(new):
-    """A new text. A table with `text`, `from` and `count` is its text that many times, with a number that rises at each `{}`."""
-    if isinstance(new, str):
-        return new
-    return "".join(new["text"].format(new["from"] + step) for step in range(new["count"]))
+def piece(said):
+    """An old or a new text: a table with `hex` is bytes. One with `text`, `from` and `count` is its text that many times, with a
+    number that rises at each `{}`."""
+    if isinstance(said, str):
+        return said.encode()
+    if set(said) == {"hex"}:
+        return bytes_of_hex(said["hex"])
+    return "".join(said["text"].format(said["from"] + step) for step in range(said["count"])).encode()
 
 
 def changed(data, pairs):
     """The file with the first occurrence of each old text replaced, in turn."""
     for old, new in pairs:
-        if old.encode() not in data:
+        if piece(old) not in data:
             raise BadCase(f"the text has no {old!r}")
-        data = data.replace(old.encode(), repeated(new).encode(), 1)
+        data = data.replace(piece(old), piece(new), 1)
     return data
 
 
@@ -254,4 +257,5 @@ def main():
     sys.exit(1 if failed or not passed else 0)
 
 
-main()
+if __name__ == "__main__":
+    main()
