@@ -23,7 +23,8 @@ try:
 # The gate. First the scripts that take seconds: the trusted definitions stand where their heads say, and each name stands
 # for one thing. Then `rt ci`: every proof from nothing, the edits that the prover must refuse, the tests and the stored
 # run. tools/rt runs it, since some kits sum the files of a crate once for each path down to it, which takes hours here.
-# Last the program that the gate built, over files: by two scripts, and by the cases of tests/cases/.
+# Last the program that the gate built, over files: by two scripts, by the cases of tests/cases/, and by the transcripts of
+# the pages.
 test:
 	tools/trusted.py > /dev/null
 	tools/names.py
@@ -31,6 +32,7 @@ test:
 	tools/program.sh crates/galcert/out/galcert
 	tools/naming.sh crates/galcert/out/galcert
 	tools/cases.py crates/galcert/out/galcert
+	tools/transcripts.py crates/galcert/out/galcert
 
 # The edits that the gate leaves out. The prover must refuse these too. CRATES="a b" tries those of some crates.
 edits:
