@@ -427,7 +427,11 @@ small() { (trap '' XFSZ; ulimit -f 1; "$galcert" "$@" > out 2> err < /dev/null; 
     yes $'\xC9' | head -n 30 | tr -d '\n'
 } > calls.rom
 ask check calls.rom six.toml --cert calls.cert
-cp out whole.table
+{
+    printf 'accepted\nmain 0000 depth     2 time      -\n'
+    for at in $(seq 0 29); do printf 'sub  %04X depth     2 time      -\n' $((128 + at)); done
+    printf 'stack 2 of 128\nnmi none\n'
+} > whole.table
 judge "30 procedures" 0 "$(cat whole.table)"$'\n' ''
 small verify calls.rom calls.cert
 head -c 1024 whole.table > part.table
