@@ -32,7 +32,7 @@ def folder(galcert, room):
     """Fills the folder in which the commands of a page run."""
     shutil.copytree(ROOT / "examples", room / "examples")
     for file in [*ROOT.glob("examples/*/*"), *ROOT.glob("tests/raid/*")]:
-        if file.name not in ("README.md", "Makefile"):
+        if file.is_file() and file.name not in ("README.md", "Makefile"):
             shutil.copy(file, room)
     said = tomllib.loads(MADE.read_text())
     made = cases.shared_of(said["files"])
