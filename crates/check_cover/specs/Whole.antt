@@ -11,7 +11,7 @@ use Rattle.check_cover.specs.Program.{IsRowAt}
 
 -- the parts of covering that say nothing of claims: a row suits the state, keeps its origins, and covers what its facts
 -- leave of it
-pub record Fits (row : Row) (state : AbsState) : Type 0 where
+pub record FitsState (row : Row) (state : AbsState) : Type 0 where
   pub suits : Suits row state
   pub kept : KeepsState row.state state
   pub tightened : CoversTightened row state
@@ -38,5 +38,5 @@ abbrev pub KnowsClaimsOf : CertificateView → ArrivalView → ℕ → Type 0
 KnowsClaimsOf cert a number = IfSome (slice_get cert.rows number) (KnowsClaims a)
 
 -- those of a row that was remembered, if one was
-abbrev pub AreKnown : CertificateView → ArrivalView → Option ℕ → Type 0
-AreKnown cert a known = IfSome known (KnowsClaimsOf cert a)
+abbrev pub IsRemembered : CertificateView → ArrivalView → Option ℕ → Type 0
+IsRemembered cert a known = IfSome known (KnowsClaimsOf cert a)

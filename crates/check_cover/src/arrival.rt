@@ -4,7 +4,7 @@ ghost use Rattle.std.specs.Prelude.{◌≡◌, ◌↔◌, IfSome, IsSomeAnd, IsT
 ghost use Rattle.std.specs.List.{All};
 ghost use Rattle.check_cover.specs.Arrival.{source_of};
 ghost use Rattle.check_cover.specs.Covering.{CoversArrival, CoversTightened, KnowsFact, KnowsPart, Suits};
-ghost use Rattle.check_cover.specs.Whole.{Fits, HasClaims, KnowsClaims};
+ghost use Rattle.check_cover.specs.Whole.{FitsState, HasClaims, KnowsClaims};
 
 use crate::claims::have_same_claims;
 use crate::knowing::{are_known, tightened};
@@ -149,7 +149,7 @@ impl<'a, 'r> Arrival<'a, 'r> {
 /// Whether a row covers what its facts leave of a state, and has its origins and its flag fact. Claims are not looked
 /// at.
 fn fits(row: &RowRef, state: &AbsState) -> bool
-    ensures { IsTrue result ↔ Fits row.now state.now }
+    ensures { IsTrue result ↔ FitsState row.now state.now }
 {
     suits(row, state) && keeps_state(row, state) && covers_tightened(row, state)
 }

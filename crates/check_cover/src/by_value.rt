@@ -62,21 +62,26 @@ impl ByValue {
         certificate: &Certificate,
         rows: &[RowId],
     ) -> Result<Option<ByValue>, AllocError> {
+        let ends = ends_of(alloc, certificate, rows)?;
         let most = rows
             .len()
             .saturating_mul(PLACES_A_ROW)
             .saturating_add(VALUES);
         let mut best = None;
         let mut depth = usize::MAX;
-        for (pair, is_high) in BYTES {
-            let spread = spread_of(certificate, rows, pair, is_high);
+        for byte in 0..BYTES.len() {
+            let counts = counts_of(ends.as_slice(), byte);
+            let spread = spread_of(&counts);
             if spread.places <= most && spread.depth < depth {
                 depth = spread.depth;
-                best = Some((pair, is_high));
+                best = Some(byte);
             }
         }
         match best {
-            Some((pair, is_high)) => Ok(Some(by_byte(alloc, certificate, rows, pair, is_high)?)),
+            Some(byte) => {
+                let counts = counts_of(ends.as_slice(), byte);
+                Ok(Some(by_byte(alloc, certificate, rows, byte, &counts)?))
+            }
             None => Ok(None),
         }
     }
@@ -106,13 +111,20 @@ impl ByValue {
     }
 }
 
+/// The pair and which of its bytes has this number among `BYTES`; A for a greater number.
+fn named(byte: usize) -> (RegPair, bool) {
+    match BYTES.get(byte) {
+        Some((pair, is_high)) => (*pair, *is_high),
+        None => (RegPair::Af, true),
+    }
+}
+
 fn byte_of(pairs: &Pairs, pair: RegPair, is_high: bool) -> ByteRange {
     let pair = pairs.pair(pair);
     if is_high { pair.high } else { pair.low }
 }
 
-fn spread_of(certificate: &Certificate, rows: &[RowId], pair: RegPair, is_high: bool) -> Spread {
-    let counts = counts_of(certificate, rows, pair, is_high);
+fn spread_of(counts: &[usize; VALUES]) -> Spread {
     let (mut depth, mut places) = (0, 0usize);
     for count in counts.iter() {
         depth = (*count).max(depth);
@@ -121,44 +133,60 @@ fn spread_of(certificate: &Certificate, rows: &[RowId], pair: RegPair, is_high: 
     Spread { depth, places }
 }
 
-/// How many of the rows have each value.
-fn counts_of(
+/// For each byte and each value, how many rows have it as their lowest value, and how many as their highest.
+fn ends_of(
+    alloc: Global,
     certificate: &Certificate,
     rows: &[RowId],
-    pair: RegPair,
-    is_high: bool,
-) -> [usize; VALUES] {
-    let (mut begun, mut ended) = ([0usize; VALUES], [0usize; VALUES]);
+) -> Result<Vec<(usize, usize)>, AllocError> {
+    let mut ends = Vec::new(alloc);
+    for _ in 0..BYTES.len() * VALUES {
+        ends.push((0, 0))?;
+    }
     for id in rows {
         if let Some(row) = certificate.row(*id) {
-            let byte = byte_of(row.pairs, pair, is_high);
-            count_one(&mut begun, byte.low());
-            count_one(&mut ended, byte.high());
+            add_ends(&mut ends, row.pairs);
         }
     }
-    let mut counts = [0usize; VALUES];
-    let mut open = 0usize;
-    for place in 0..VALUES {
-        open = open.saturating_add(begun[place]);
-        counts[place] = open;
-        open = open.saturating_sub(ended[place]);
-    }
-    counts
+    Ok(ends)
 }
 
-fn count_one(counts: &mut [usize; VALUES], value: u8) {
-    let place = usize::from(value);
-    counts[place] = counts[place].saturating_add(1);
+fn add_ends(ends: &mut Vec<(usize, usize)>, pairs: &Pairs) {
+    for byte in 0..BYTES.len() {
+        let (pair, is_high) = BYTES[byte];
+        let range = byte_of(pairs, pair, is_high);
+        if let Some(end) = ends.get_mut(byte * VALUES + usize::from(range.low())) {
+            end.0 = end.0.saturating_add(1);
+        }
+        if let Some(end) = ends.get_mut(byte * VALUES + usize::from(range.high())) {
+            end.1 = end.1.saturating_add(1);
+        }
+    }
+}
+
+/// How many of the rows have each value of a byte.
+fn counts_of(ends: &[(usize, usize)], byte: usize) -> [usize; VALUES] {
+    let mut counts = [0usize; VALUES];
+    let mut open = 0usize;
+    for value in 0..VALUES {
+        let place = byte.saturating_mul(VALUES).saturating_add(value);
+        if let Some((begun, ended)) = ends.get(place) {
+            open = open.saturating_add(*begun);
+            counts[value] = open;
+            open = open.saturating_sub(*ended);
+        }
+    }
+    counts
 }
 
 fn by_byte(
     alloc: Global,
     certificate: &Certificate,
     rows: &[RowId],
-    pair: RegPair,
-    is_high: bool,
+    byte: usize,
+    counts: &[usize; VALUES],
 ) -> Result<ByValue, AllocError> {
-    let counts = counts_of(certificate, rows, pair, is_high);
+    let (pair, is_high) = named(byte);
     let mut starts = Vec::new(alloc);
     let mut next = [0usize; VALUES];
     let mut total = 0usize;

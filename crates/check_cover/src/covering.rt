@@ -5,7 +5,7 @@ ghost use Rattle.abs_state.specs.Restricting.{byte_is};
 ghost use Rattle.check_cover.specs.Covering.{Covered, CoveredBy, SomeCovers};
 ghost use Rattle.check_cover.specs.Plainly.{CoversPlainly};
 ghost use Rattle.check_cover.specs.Arrival.{ArrivalView};
-ghost use Rattle.check_cover.specs.Whole.{AreKnown, CoversWhole, KnowsClaims, KnowsClaimsOf};
+ghost use Rattle.check_cover.specs.Whole.{IsRemembered, CoversWhole, KnowsClaims, KnowsClaimsOf};
 
 use crate::arrival::Arrival;
 use crate::claims::have_same_claims;
@@ -208,11 +208,11 @@ impl<'a> Coverer<'a> {
         value: u8,
         found: &mut Found,
     ) -> bool
-        requires { AreKnown self.old arrival.now found.old.known }
+        requires { IsRemembered self.old arrival.now found.old.known }
         ensures exact { IsTrue result
             ↔ IfSome (byte_is true register value state.now) (SomeCovers self.old arrival.now) }
         ensures same { self.new ≡ self.old }
-        ensures known { AreKnown self.old arrival.now found.new.known }
+        ensures known { IsRemembered self.old arrival.now found.new.known }
     {
         let mut part = state.copied();
         if part.restrict_byte(true, register, value) {
@@ -231,10 +231,10 @@ impl<'a> Coverer<'a> {
         value: u8,
         found: &mut Found,
     ) -> bool
-        requires { AreKnown self.old arrival.now found.old.known }
+        requires { IsRemembered self.old arrival.now found.old.known }
         ensures exact { IsTrue result ↔ SomeCovers self.old arrival.now part.now }
         ensures same { self.new ≡ self.old }
-        ensures known { AreKnown self.old arrival.now found.new.known }
+        ensures known { IsRemembered self.old arrival.now found.new.known }
     {
         let place = usize::from(value);
         self.last = self.by_value[place];
@@ -251,8 +251,8 @@ impl<'a> Coverer<'a> {
     /// Remembers the row that covered last, if its claims are found to hold whatever the state, and are not those of the
     /// row that is remembered.
     fn remember(&self, arrival: &Arrival, found: &mut Found)
-        requires { AreKnown self.now arrival.now found.old.known }
-        ensures { AreKnown self.now arrival.now found.new.known }
+        requires { IsRemembered self.now arrival.now found.old.known }
+        ensures { IsRemembered self.now arrival.now found.new.known }
     {
         if found.asked < MOST_ASKED && !self.have_same_claims(found.known, self.last) {
             found.asked += 1;
@@ -272,7 +272,7 @@ impl<'a> Coverer<'a> {
 
     /// The row that is remembered, if one is.
     pub(crate) fn row_known(&self, known: Option<RowId>) -> Option<RowRef<'a>>
-        ensures { (a : ArrivalView) → AreKnown self.now a known → IfSome result (KnowsClaims a) }
+        ensures { (a : ArrivalView) → IsRemembered self.now a known → IfSome result (KnowsClaims a) }
     {
         self.certificate.row(known?)
     }
@@ -291,7 +291,7 @@ impl<'a> Coverer<'a> {
 
     /// Whether some row at the address covers the state that is sought for.
     fn some_covers_sought(&mut self, sought: &Sought) -> bool
-        requires { AreKnown self.old sought.now.arrival.now sought.now.known }
+        requires { IsRemembered self.old sought.now.arrival.now sought.now.known }
         ensures exact { IsTrue result ↔ SomeCovers self.old sought.now.arrival.now sought.now.state.now }
         ensures same { self.new ≡ self.old }
     {

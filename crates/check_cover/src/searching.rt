@@ -2,7 +2,7 @@
 
 ghost use Rattle.std.specs.Prelude.{◌≤◌, ◌<◌, ◌↔◌, ℕ, IfSome, IsTrue, MatchOption};
 ghost use Rattle.check_cover.specs.Covering.{RowCovers, SomeCovers};
-ghost use Rattle.check_cover.specs.Whole.{AreKnown};
+ghost use Rattle.check_cover.specs.Whole.{IsRemembered};
 
 use crate::alike::{Alike, BLOCK};
 use crate::covering::{Coverer, Sought};
@@ -15,7 +15,7 @@ impl<'a> Coverer<'a> {
     /// The number of a row at the address that covers the state. The row that covered last comes first, then the rows to
     /// which the index leads, then all.
     pub(crate) fn covering_row(&self, sought: &Sought) -> Option<RowId>
-        requires { AreKnown self.now sought.now.arrival.now sought.now.known }
+        requires { IsRemembered self.now sought.now.arrival.now sought.now.known }
         ensures { MatchOption result (SomeCovers self.now sought.now.arrival.now sought.now.state.now
             → ⊥) (λ _. SomeCovers self.now sought.now.arrival.now sought.now.state.now) }
     {
@@ -31,7 +31,7 @@ impl<'a> Coverer<'a> {
     /// The number of a row among these that covers the state: the row that covered last, or one to which the index leads,
     /// or the first if there is no index for the address.
     pub(crate) fn likely_row(&self, start: RowId, end: RowId, sought: &Sought) -> Option<RowId>
-        requires { AreKnown self.now sought.now.arrival.now sought.now.known }
+        requires { IsRemembered self.now sought.now.arrival.now sought.now.known }
         ensures { IfSome result (λ k. (start ≤ k) × (k < end)
             × RowCovers self.now sought.now.arrival.now sought.now.state.now k) }
     {
@@ -48,7 +48,7 @@ impl<'a> Coverer<'a> {
 
     /// The number of a row that covers the state, among those to which the index of an address leads.
     fn indexed(&self, place: &Place, start: RowId, end: RowId, sought: &Sought) -> Option<RowId>
-        requires { AreKnown self.now sought.now.arrival.now sought.now.known }
+        requires { IsRemembered self.now sought.now.arrival.now sought.now.known }
         ensures { IfSome result (λ k. (start ≤ k) × (k < end)
             × RowCovers self.now sought.now.arrival.now sought.now.state.now k) }
     {
@@ -62,7 +62,7 @@ impl<'a> Coverer<'a> {
 
     /// The same, over the kinds of rows at the address.
     fn among_kinds(&self, place: &Place, sought: &Sought) -> Option<RowId>
-        requires { AreKnown self.now sought.now.arrival.now sought.now.known }
+        requires { IsRemembered self.now sought.now.arrival.now sought.now.known }
         ensures { IfSome result
             (RowCovers self.now sought.now.arrival.now sought.now.state.now) }
     {
@@ -78,7 +78,7 @@ impl<'a> Coverer<'a> {
     /// The same, over rows of one kind. They have the same claims, so where those of one row are not known, those of no
     /// other are.
     fn among_kind(&self, kind: &Kind, sought: &Sought) -> Option<RowId>
-        requires { AreKnown self.now sought.now.arrival.now sought.now.known }
+        requires { IsRemembered self.now sought.now.arrival.now sought.now.known }
         ensures { IfSome result
             (RowCovers self.now sought.now.arrival.now sought.now.state.now) }
     {
@@ -155,7 +155,7 @@ impl<'a> Coverer<'a> {
 
     /// The first of these numbers whose row covers the state.
     fn first_covering(&self, start: RowId, end: RowId, sought: &Sought) -> Option<RowId>
-        requires { AreKnown self.now sought.now.arrival.now sought.now.known }
+        requires { IsRemembered self.now sought.now.arrival.now sought.now.known }
         ensures { MatchOption result ((k : ℕ) → start ≤ k → k < end
             → RowCovers self.now sought.now.arrival.now sought.now.state.now k → ⊥)
             (λ k. (start ≤ k) × (k < end)
@@ -171,7 +171,7 @@ impl<'a> Coverer<'a> {
 
     /// Whether there is a row with this number and it covers the state.
     fn row_covers(&self, id: RowId, sought: &Sought) -> bool
-        requires { AreKnown self.now sought.now.arrival.now sought.now.known }
+        requires { IsRemembered self.now sought.now.arrival.now sought.now.known }
         ensures { IsTrue result
             ↔ RowCovers self.now sought.now.arrival.now sought.now.state.now id }
     {
