@@ -9,7 +9,9 @@
 # with them; 32,000 rows at a call of a procedure with as many exits, each of which leaves something else, likewise; as many rows at a call of a procedure
 # of as many rows without an exit; 65,535 rows at two addresses, with pairs and shapes, where each is covered by another: in order, and at random; 65,024
 # rows at one DJNZ at random; 32,000 rows that pay to as many; and 65,000 rows where states are told apart: by a row that covers all, and by 256 rows at
-# random. Each is handed to `PROGRAM verify` up to three times, and as often for a ROM of another length, which is refused at once: what is told are the
+# random. Four more are made at four sizes each, of which twice the size should take at most three times as long: calls of a procedure of as many exits that
+# come back to a split, to rows that cover once facts have tightened the state; rows with facts and flag parts that come to a split, to 256 rows that cover a
+# value each; rows that come to rows which cover once tightened; and the same with flag parts at a split. Each is handed to `PROGRAM verify` up to three times, and as often for a ROM of another length, which is refused at once: what is told are the
 # least processor time and the greatest memory beyond those of reading.
 set -eu
 cd "$(dirname "$0")/.."
@@ -170,6 +172,63 @@ def told_apart(count, by_one):
     return b"\x00\x18\xFE", text(b"\x00\x18\xFE", ["main 0000 0 0 -"], rows, ["0 0001 B"])
 
 
+def two(number):
+    """A pair that holds one of two words: 2 * number, and the next."""
+    low, high = 2 * number, 2 * number + 1
+    return f"{low:04X}-{high:04X}:{low // 256:02X}-{high // 256:02X}:{low % 256:02X}-{high % 256:02X}"
+
+
+def text3(rom, procs, rows, splits):
+    """A certificate of version 3 without an NMI routine and without cells. The rows are written without their number of cells."""
+    def with_cells(row):
+        fields = row.split(" ")
+        return " ".join(fields[:3] + ["0"] + fields[3:])
+
+    head = f"galcert 3\nrom {len(rom)}\nmap galaxian\nstack 4380 4400\nbudget -\n"
+    lists = (("proc", procs), ("split", splits), ("row", [with_cells(row) for row in rows]))
+    return head + "".join(f"{name} {line}\n" for name, lines in lists for line in lines) + "end\n"
+
+
+PARTS = ",".join(["z0+1*A-1*B+1*C", "s-5+1*D-1*E+1*H", "c7-1*A-1*D+1*L", "b100+1*A-1*B-1*C"] * 2)
+FACTS = "0+1*A-1*D+1*E,0+1*D-1*E+1*H,0+1*A-1*E+1*L,0+1*D+1*H-1*L"
+
+
+def call_splits(count):
+    """So many rows at one call of a procedure of as many different exits, back at a split, to rows that cover once facts tightened the state."""
+    rom = b"\x18\xFE\xCD\x0A\x00\x18\xFE\x00\x00\x00\x00\xC9"
+    facts = "0+1*DE-1*HL,0+1*D-1*H,0+1*E-1*L"
+    own = OWN.split(" ")
+    rows = [f"0 0000 u {ANY}- - - -"]
+    rows += [f"1 0002 s * * * {two(i)} {'* ' * 6}- {facts} - -" for i in shuffled(range(count), 1)]
+    rows += [f"1 0005 s * * {two(i)} {two(i)} {'* ' * 6}- {facts} - -" for i in shuffled(range(count), 2)]
+    rows += [f"2 000A s {OWN}- - - -", f"2 000B s {OWN}- - - -"]
+    rows += [f"2 000B s {own[0]} {one(i)} {' '.join(own[2:-1])} - - - -" for i in range(count)]
+    return rom, text3(rom, ["main 0000 2 0 -", "sub 0002 1 4 -", "sub 000A 0 2 -"], rows, ["1 0005 A"])
+
+
+def part_rows(count):
+    """So many rows with facts and flag parts that come to a split, where 256 rows with the same ones cover a value each."""
+    rom = b"\x18\xFE\x00\x18\xFD"
+    rows = [f"0 0000 u {ANY}- - - -"] + [f"1 0002 s {ANY}{PARTS} {FACTS} - -"] * count
+    rows += [f"1 0003 s * {b:02X}00-{b:02X}FF:{b:02X}-{b:02X}:00-FF {'* ' * 8}{PARTS} {FACTS} - -" for b in shuffled(range(256), 4)]
+    return rom, text3(rom, ["main 0000 1 0 -", "sub 0002 0 2 -"], rows, ["1 0003 B"])
+
+
+def tightened(count, parts, facts):
+    """So many rows that come to as many at a split, each of which covers once its facts have tightened DE."""
+    rom = b"\x18\xFE\x00\x18\xFE"
+    rows = [f"0 0000 u {ANY}- - - -"]
+    rows += [f"1 0002 s * * * {two(i)} {'* ' * 6}{parts} {facts} - -" for i in shuffled(range(count), 1)]
+    rows += [f"1 0003 s * * {two(i)} {two(i)} {'* ' * 6}{parts} {facts} - -" for i in shuffled(range(count), 2)]
+    return rom, text3(rom, ["main 0000 1 0 -", "sub 0002 0 2 -"], rows, ["1 0003 B"])
+
+
+def tell_sizes(folder, what, made, count):
+    """The same at four sizes: a half of `count`, `count`, and two and four times as many."""
+    for size in (count // 2, count, 2 * count, 4 * count):
+        tell(folder, f"{what}, {size}", lambda: made(size))
+
+
 def run(rom, cert):
     """The processor time in seconds, the greatest memory in KB and the first line of the answer of one run."""
     child = subprocess.Popen([PROGRAM, "verify", rom, cert], stdout=subprocess.PIPE, stderr=subprocess.STDOUT)
@@ -222,4 +281,9 @@ with tempfile.TemporaryDirectory() as folder:
     tell(folder, "32,000 rows that pay to 32,000", lambda: all_meet(32000))
     tell(folder, "65,000 rows where B is told apart, one covers", lambda: told_apart(65000, True))
     tell(folder, "the same, 256 rows at random cover", lambda: told_apart(65000, False), 1)
+    tell_sizes(folder, "calls times exits at a split", call_splits, 105)
+    tell_sizes(folder, "rows with claims, 256 cover a value each", part_rows, 1000)
+    tell_sizes(folder, "rows that cover once tightened", lambda count: tightened(count, "-", "0+1*DE-1*HL"), 200)
+    facts = "0+1*DE-1*HL,0+1*A-1*E+1*L,0+1*A-1*B+1*C"
+    tell_sizes(folder, "the same with flag parts", lambda count: tightened(count, PARTS, facts), 60)
 PYTHON

@@ -5,3 +5,4 @@ pub mod Tests
 pub mod TruthLemmas
 pub mod SeenLemmas
 pub mod RegisterLemmas
+pub mod OrLemmas

@@ -1,6 +1,7 @@
 // Which flag parts are known to hold after a step.
 ghost use Rattle.std.specs.Prelude.{◌≡◌, ◌↔◌, ◌⊎◌, All, IsTrue};
 ghost use Rattle.abs_state.specs.Variables.{range_of};
+ghost use Rattle.abs_state.specs.declared.state.AbsState.{AbsState};
 ghost use Rattle.linear_sums.specs.Rewriting.{IsSlight};
 ghost use Rattle.check_claims.specs.Claims.{IsClaimedPart, IsConveyedBy, IsToldAfter, IsToldAfterEitherWay, IsToldBack, IsToldBefore, IsToldBeforeEitherWay, TellsAfter, TellsBack, TellsBefore};
 ghost use Rattle.check_claims.specs.Truth.{PartLaw};
@@ -253,6 +254,41 @@ impl<'f, 'b, 's, 'm, 'l, 'c> StepSource<'f, 'b, 's, 'm, 'l, 'c> {
             part,
             self.conditions.after(),
         )
+    }
+    /// Whether a flag part is found to hold after the step, whatever the state after it: conditions are not compared by
+    /// the ranges after the step.
+    fn tells_part(&self, part: &FlagPart) -> bool
+        ensures { IsTrue result → ((after : AbsState) → IsClaimedPart self.now after part.now) }
+    {
+        if is_told_before_either_way(
+            self.facts,
+            self.before,
+            self.settled,
+            self.moved,
+            self.linear,
+            part,
+            self.conditions.before(),
+        ) {
+            return true;
+        }
+        is_told_back(
+            self.facts,
+            self.before,
+            &variables_first(self.settled, self.moved, self.linear),
+            part,
+            self.conditions.after(),
+        )
+    }
+    /// Whether each of the flag parts is.
+    pub fn tells_parts(&self, parts: &[FlagPart]) -> bool
+        ensures { IsTrue result → ((after : AbsState) → All (IsClaimedPart self.now after) parts.now) }
+    {
+        for part in parts {
+            if !self.tells_part(part) {
+                return false;
+            }
+        }
+        true
     }
     /// Whether each of the flag parts is.
     pub fn knows_parts(&self, parts: &[FlagPart], after: &AbsState) -> bool

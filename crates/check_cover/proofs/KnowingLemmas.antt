@@ -42,6 +42,17 @@ module _ (a self : ArrivalView) (told : Bool) (is : a ≡ self) where
       refined_is : a.refined ≡ self.refined
       refined_is = subst (λ (b : ArrivalView). a.refined ≡ b.refined) is refl
 
+  -- in version 3, whatever the state
+  pub parts_told : (r : RefinementView) (s : StepSourceView) (parts known : List FlagPart) → a.refined ≡ Some r → s ≡ source_of self r → known ≡ parts → (state : AbsState) → All (IsClaimedPart s state) known →
+      All (KnowsPart self self.refined state) parts
+  parts_told r s parts known some source same state h =
+      subst (λ (o : Option RefinementView). All (KnowsPart self o state) parts) (sym some ∙ refined_is)
+      (subst (λ (t : StepSourceView). All (IsClaimedPart t state) parts) source
+      (subst (λ (ps : List FlagPart). All (IsClaimedPart s state) ps) same h))
+    where
+      refined_is : a.refined ≡ self.refined
+      refined_is = subst (λ (b : ArrivalView). a.refined ≡ b.refined) is refl
+
   -- before version 3 no part is known
   no_part : (state : AbsState) (parts : List FlagPart) → All (KnowsPart a None state) parts → parts ≡ []
   no_part state [] h = refl

@@ -6,3 +6,7 @@ pub mod PlainLemmas
 pub mod ProgramLemmas
 pub mod RowLemmas
 pub mod KnowingLemmas
+pub mod CutsStill
+pub mod TightenStill
+pub mod StateStill
+pub mod WholeLemmas

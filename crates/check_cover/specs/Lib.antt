@@ -3,3 +3,4 @@ pub mod Arrival
 pub mod Covering
 pub mod Plainly
 pub mod Program
+pub mod Whole

@@ -1,4 +1,4 @@
-// The rows at one address, ordered so that similar rows are neighbours.
+// Rows at one address, ordered so that similar rows are neighbours.
 
 ghost use Rattle.std.specs.Prelude.{◌≤◌};
 
@@ -13,34 +13,37 @@ pub(crate) const BLOCK: usize = 32;
 /// How many numbers describe the ranges of ten pairs.
 const NUMBERS: usize = 40;
 
-/// The numbers of the rows at one address, ordered so that similar rows are neighbours, with the hulls of each block of
+/// The numbers of rows at one address, ordered so that similar rows are neighbours, with the hulls of each block of
 /// rows and of each group of blocks. It only says where to look first; each row to which it leads is tested.
 #[derive(Drop)]
 pub(crate) struct Alike {
-    /// The number of the first row at the address.
-    pub start: RowId,
-    pub order: Vec<RowId>,
+    order: Vec<RowId>,
     pub blocks: Vec<Pairs>,
     pub groups: Vec<Pairs>,
 }
 
 impl Alike {
-    /// The order of the rows from `start` to below `end`.
+    /// The order of these rows.
     pub fn of(
         alloc: Global,
         certificate: &Certificate,
-        start: RowId,
-        end: RowId,
+        rows: &[RowId],
     ) -> Result<Alike, AllocError> {
-        let order = ordered(alloc, certificate, start, end)?;
+        let order = ordered(alloc, certificate, rows)?;
         let blocks = hulls_of_rows(alloc, certificate, order.as_slice())?;
         let groups = hulls_of_blocks(alloc, blocks.as_slice())?;
         Ok(Alike {
-            start,
             order,
             blocks,
             groups,
         })
+    }
+
+    /// The rows of a block.
+    pub fn rows_of(&self, block: usize) -> &[RowId] {
+        let start = block.saturating_mul(BLOCK);
+        let end = self.order.len().min(start.saturating_add(BLOCK));
+        self.order.as_slice().get(start..end).unwrap_or(&[])
     }
 }
 
@@ -48,10 +51,9 @@ impl Alike {
 fn ordered(
     alloc: Global,
     certificate: &Certificate,
-    start: RowId,
-    end: RowId,
+    rows: &[RowId],
 ) -> Result<Vec<RowId>, AllocError> {
-    let mut keyed = keyed(alloc, certificate, start, end)?;
+    let mut keyed = keyed(alloc, certificate, rows)?;
     keyed.sort_unstable();
     let mut order = Vec::new(alloc);
     for (_, id) in keyed.as_slice() {
@@ -64,14 +66,13 @@ fn ordered(
 fn keyed(
     alloc: Global,
     certificate: &Certificate,
-    start: RowId,
-    end: RowId,
+    rows: &[RowId],
 ) -> Result<Vec<(u128, RowId)>, AllocError> {
-    let varying = varying_bits(certificate, start, end);
+    let varying = varying_bits(certificate, rows);
     let mut keyed = Vec::new(alloc);
-    for id in start..end {
-        if let Some(row) = certificate.row(id) {
-            keyed.push((key_of(&numbers_of(row.pairs), &varying), id))?;
+    for id in rows {
+        if let Some(row) = certificate.row(*id) {
+            keyed.push((key_of(&numbers_of(row.pairs), &varying), *id))?;
         }
     }
     Ok(keyed)
@@ -105,15 +106,16 @@ fn numbers_of(pairs: &Pairs) -> [u16; NUMBERS] {
 }
 
 /// The bits in which the numbers of these rows differ.
-fn varying_bits(certificate: &Certificate, start: RowId, end: RowId) -> [u16; NUMBERS] {
+fn varying_bits(certificate: &Certificate, rows: &[RowId]) -> [u16; NUMBERS] {
     let mut varying = [0; NUMBERS];
-    let Some(first) = certificate.row(start) else {
-        return varying;
-    };
-    let first = numbers_of(first.pairs);
-    for id in start..end {
-        if let Some(row) = certificate.row(id) {
-            add_varying(&mut varying, &first, &numbers_of(row.pairs));
+    let mut first = None;
+    for id in rows {
+        if let Some(row) = certificate.row(*id) {
+            let numbers = numbers_of(row.pairs);
+            match &first {
+                Some(first) => add_varying(&mut varying, first, &numbers),
+                None => first = Some(numbers),
+            }
         }
     }
     varying

@@ -1,10 +1,12 @@
 // Where a state arrives, and from where it comes.
 
-ghost use Rattle.std.specs.Prelude.{◌≡◌, ◌↔◌, IsTrue};
+ghost use Rattle.std.specs.Prelude.{◌≡◌, ◌↔◌, IfSome, IsSomeAnd, IsTrue};
 ghost use Rattle.std.specs.List.{All};
 ghost use Rattle.check_cover.specs.Arrival.{source_of};
 ghost use Rattle.check_cover.specs.Covering.{CoversArrival, CoversTightened, KnowsFact, KnowsPart, Suits};
+ghost use Rattle.check_cover.specs.Whole.{FitsState, HasClaims, KnowsClaims};
 
+use crate::claims::have_same_claims;
 use crate::knowing::{are_known, tightened};
 use crate::rows::{covers_state, is_plain, keeps_state};
 use abs_state::AbsState;
@@ -67,23 +69,45 @@ impl<'a, 'r> Model for Arrival<'a, 'r> {
 }
 
 impl<'a, 'r> Arrival<'a, 'r> {
-    /// Whether a row covers the state that arrives.
-    pub(crate) fn is_covered_by(&self, state: &AbsState, row: &RowRef) -> bool
+    /// Whether a row covers the state that arrives. Ranges are compared first, since claims take longer; those of a row
+    /// whose claims are known are not judged again.
+    pub(crate) fn is_covered_by(
+        &self,
+        state: &AbsState,
+        row: &RowRef,
+        known: Option<&RowRef>,
+    ) -> bool
+        requires { IfSome known (λ k. KnowsClaims self.now k.now) }
         ensures { IsTrue result ↔ CoversArrival self.now state.now row.now }
     {
         if is_plain(row) {
             return covers_state(row, state);
         }
-        if !suits(row, state) {
-            return false;
+        fits(row, state) && (has_known_claims(row, known) || self.has_claims(row, state))
+    }
+
+    /// Whether each claim of the row is known to hold in this state.
+    fn has_claims(&self, row: &RowRef, state: &AbsState) -> bool
+        ensures { IsTrue result ↔ HasClaims self.now state.now row.now }
+    {
+        self.knows_facts(row) && self.knows_parts(row, state)
+    }
+
+    /// Whether each claim of the row is found to hold, whatever state arrives.
+    pub(crate) fn knows_claims(&self, row: &RowRef) -> bool
+        ensures { IsTrue result → KnowsClaims self.now row.now }
+    {
+        self.knows_facts(row) && self.tells_parts(row)
+    }
+
+    /// Whether each flag part of the row is found to hold, whatever state arrives.
+    fn tells_parts(&self, row: &RowRef) -> bool
+        ensures { IsTrue result → ((state : AbsState) → All (KnowsPart self.now self.now.refined state) row.now.parts) }
+    {
+        match &self.refined {
+            None => row.parts.is_empty(),
+            Some(refined) => self.source(refined).tells_parts(row.parts.parts()),
         }
-        if !self.knows_facts(row) {
-            return false;
-        }
-        if !self.knows_parts(row, state) {
-            return false;
-        }
-        keeps_state(row, state) && covers_tightened(row, state)
     }
 
     /// Whether each fact of the row is known to hold.
@@ -119,6 +143,24 @@ impl<'a, 'r> Arrival<'a, 'r> {
             linear: refined.linear,
             conditions: refined.conditions,
         }
+    }
+}
+
+/// Whether a row covers what its facts leave of a state, and has its origins and its flag fact. Claims are not looked
+/// at.
+fn fits(row: &RowRef, state: &AbsState) -> bool
+    ensures { IsTrue result ↔ FitsState row.now state.now }
+{
+    suits(row, state) && keeps_state(row, state) && covers_tightened(row, state)
+}
+
+/// Whether a row is found to have the claims of a row that is known, if there is one.
+fn has_known_claims(row: &RowRef, known: Option<&RowRef>) -> bool
+    ensures { IsTrue result → IsSomeAnd known.entry (λ k. (row.now.facts ≡ k.now.facts) × (row.now.parts ≡ k.now.parts)) }
+{
+    match known {
+        Some(other) => have_same_claims(row, other),
+        None => false,
     }
 }
 

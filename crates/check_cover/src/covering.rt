@@ -1,32 +1,39 @@
 // Which rows cover a state that arrives at their address.
 
-ghost use Rattle.std.specs.Prelude.{◌≡◌, ◌≤◌, ◌<◌, ◌↔◌, ℕ, true, IfSome, IsTrue, MatchOption, Some, [], slice_get};
+ghost use Rattle.std.specs.Prelude.{◌≡◌, ◌↔◌, true, IfSome, IsTrue, Some, [], slice_get};
 ghost use Rattle.abs_state.specs.Restricting.{byte_is};
-ghost use Rattle.check_cover.specs.Covering.{Covered, CoveredBy, RowCovers, SomeCovers};
+ghost use Rattle.check_cover.specs.Covering.{Covered, CoveredBy, SomeCovers};
 ghost use Rattle.check_cover.specs.Plainly.{CoversPlainly};
+ghost use Rattle.check_cover.specs.Arrival.{ArrivalView};
+ghost use Rattle.check_cover.specs.Whole.{IsRemembered, CoversWhole, KnowsClaims, KnowsClaimsOf};
 
-use crate::alike::{Alike, BLOCK};
 use crate::arrival::Arrival;
+use crate::claims::have_same_claims;
 use crate::index::AddressIndex;
 use crate::program::split_at;
 use crate::rows::is_plain;
-use abs_state::{AbsState, Pairs};
+use abs_state::AbsState;
 use call_graph::ProcId;
 use cert_contents::{Certificate, RowId};
+use cert_lines::RowRef;
 use loop_bounds::Effect;
 use std::alloc::Global;
 use std::marker::Model;
 use z80_decode::Register8;
 
+/// How often the rows that covered a state are asked at one split whether their claims hold whatever the state.
+const MOST_ASKED: u8 = 16;
+
 /// Searches for rows that cover a state: first at the row that covered last, then where the index leads
 /// (docs/CHECKER.md, "How long judging takes").
 #[derive(Drop)]
 pub struct Coverer<'a> {
-    certificate: &'a Certificate,
-    last: RowId,
-    /// The row that covered last at a split, for each value of the register; 0 if none did.
+    pub(crate) certificate: &'a Certificate,
+    /// The row that covered last.
+    pub(crate) last: RowId,
+    /// The row that covered last at a split, for each value of the register.
     by_value: [RowId; 256],
-    index: AddressIndex,
+    pub(crate) index: AddressIndex,
 }
 
 impl<'a> Model for Coverer<'a> {
@@ -35,6 +42,24 @@ impl<'a> Model for Coverer<'a> {
     ghost Value = { CertificateView };
 
     ghost view = { λ c. c.certificate.now };
+}
+
+/// What is looked for: a row that covers a state where it arrives.
+#[derive(Drop)]
+pub(crate) struct Sought<'s, 'a, 'r> {
+    pub arrival: &'s Arrival<'a, 'r>,
+    pub state: &'s AbsState,
+    /// The number of a row whose claims are known where the state arrives, if one was found.
+    pub known: Option<RowId>,
+}
+
+/// What was found at one split about the rows that covered a state there.
+#[derive(Drop)]
+struct Found {
+    /// The number of a row whose claims are known whichever value the register has.
+    known: Option<RowId>,
+    /// How many rows were asked so far.
+    asked: u8,
 }
 
 impl<'a> Coverer<'a> {
@@ -58,10 +83,53 @@ impl<'a> Coverer<'a> {
     {
         match split_at(self.certificate, arrival.proc, arrival.address) {
             Some(register) => {
-                self.covers_plainly(arrival.proc, arrival.address, state)
-                    || self.covers_each(arrival, state, register)
+                self.covers_whole(arrival, state) || self.covers_each(arrival, state, register)
             }
             None => self.some_covers(arrival, state),
+        }
+    }
+
+    /// Whether a row at the address is found that covers a state, with claims that are known whatever the state. Such a
+    /// row covers each state that this one covers. The search looks only where the row is likely, so it may miss one.
+    pub fn covers_whole(&mut self, arrival: &Arrival, state: &AbsState) -> bool
+        ensures found { IsTrue result → CoversWhole self.old arrival.now state.now }
+        ensures same { self.new ≡ self.old }
+    {
+        match self.whole_row(arrival, state) {
+            Some(id) => {
+                self.last = id;
+                true
+            }
+            None => false,
+        }
+    }
+
+    /// The number of such a row, if one is found.
+    fn whole_row(&self, arrival: &Arrival, state: &AbsState) -> Option<RowId>
+        ensures { IfSome result (λ _. CoversWhole self.now arrival.now state.now) }
+    {
+        let rows = self.certificate.rows_at(arrival.proc, arrival.address);
+        let sought = Sought {
+            arrival,
+            state,
+            known: None,
+        };
+        let id = self.likely_row(rows.start, rows.end, &sought)?;
+        if self.knows_claims_of(arrival, id) {
+            Some(id)
+        } else {
+            None
+        }
+    }
+
+    /// Whether the claims of the row with this number, if there is one, are found to hold where something arrives,
+    /// whatever the state.
+    fn knows_claims_of(&self, arrival: &Arrival, id: RowId) -> bool
+        ensures { IsTrue result → KnowsClaimsOf self.now arrival.now id }
+    {
+        match self.certificate.row(id) {
+            Some(row) => arrival.knows_claims(&row),
+            None => true,
         }
     }
 
@@ -94,7 +162,12 @@ impl<'a> Coverer<'a> {
             refined: None,
         };
         let rows = self.certificate.rows_at(proc, address);
-        let id = self.likely_row(rows.start, rows.end, &arrival, state)?;
+        let sought = Sought {
+            arrival: &arrival,
+            state,
+            known: None,
+        };
+        let id = self.likely_row(rows.start, rows.end, &sought)?;
         if self.is_plain(id) { Some(id) } else { None }
     }
 
@@ -114,8 +187,12 @@ impl<'a> Coverer<'a> {
         ensures exact { IsTrue result ↔ CoveredBy self.old arrival.now state.now (Some register) }
         ensures same { self.new ≡ self.old }
     {
+        let mut found = Found {
+            known: None,
+            asked: 0,
+        };
         for value in 0..=255u8 {
-            if !self.covers_value(arrival, state, register, value) {
+            if !self.covers_value(arrival, state, register, value, &mut found) {
                 return false;
             }
         }
@@ -129,32 +206,75 @@ impl<'a> Coverer<'a> {
         state: &AbsState,
         register: Register8,
         value: u8,
+        found: &mut Found,
     ) -> bool
+        requires { IsRemembered self.old arrival.now found.old.known }
         ensures exact { IsTrue result
             ↔ IfSome (byte_is true register value state.now) (SomeCovers self.old arrival.now) }
         ensures same { self.new ≡ self.old }
+        ensures known { IsRemembered self.old arrival.now found.new.known }
     {
         let mut part = state.copied();
         if part.restrict_byte(true, register, value) {
-            self.some_covers_part(arrival, &part, value)
+            self.some_covers_part(arrival, &part, value, found)
         } else {
             true
         }
     }
 
-    /// Whether some row at the address covers the state cut to this value of the register. It looks first at the row
-    /// that covered this value last.
-    fn some_covers_part(&mut self, arrival: &Arrival, state: &AbsState, value: u8) -> bool
-        ensures exact { IsTrue result ↔ SomeCovers self.old arrival.now state.now }
+    /// Whether some row at the address covers the state cut to one value of the register. The row that covered this
+    /// value last comes first.
+    fn some_covers_part(
+        &mut self,
+        arrival: &Arrival,
+        part: &AbsState,
+        value: u8,
+        found: &mut Found,
+    ) -> bool
+        requires { IsRemembered self.old arrival.now found.old.known }
+        ensures exact { IsTrue result ↔ SomeCovers self.old arrival.now part.now }
         ensures same { self.new ≡ self.old }
+        ensures known { IsRemembered self.old arrival.now found.new.known }
     {
         let place = usize::from(value);
-        if self.by_value[place] > 0 {
-            self.last = self.by_value[place];
-        }
-        let covered = self.some_covers(arrival, state);
+        self.last = self.by_value[place];
+        let covered = self.some_covers_sought(&Sought {
+            arrival,
+            state: part,
+            known: found.known,
+        });
         self.by_value[place] = self.last;
+        self.remember(arrival, found);
         covered
+    }
+
+    /// Remembers the row that covered last, if its claims are found to hold whatever the state, and are not those of the
+    /// row that is remembered.
+    fn remember(&self, arrival: &Arrival, found: &mut Found)
+        requires { IsRemembered self.now arrival.now found.old.known }
+        ensures { IsRemembered self.now arrival.now found.new.known }
+    {
+        if found.asked < MOST_ASKED && !self.have_same_claims(found.known, self.last) {
+            found.asked += 1;
+            if self.knows_claims_of(arrival, self.last) {
+                found.known = Some(self.last);
+            }
+        }
+    }
+
+    /// Whether a row that is remembered is found to have the claims of another one.
+    fn have_same_claims(&self, known: Option<RowId>, id: RowId) -> bool {
+        match (self.row_known(known), self.certificate.row(id)) {
+            (Some(row), Some(other)) => have_same_claims(&row, &other),
+            _ => false,
+        }
+    }
+
+    /// The row that is remembered, if one is.
+    pub(crate) fn row_known(&self, known: Option<RowId>) -> Option<RowRef<'a>>
+        ensures { (a : ArrivalView) → IsRemembered self.now a known → IfSome result (KnowsClaims a) }
+    {
+        self.certificate.row(known?)
     }
 
     /// Whether some row at the address covers the state.
@@ -162,165 +282,25 @@ impl<'a> Coverer<'a> {
         ensures exact { IsTrue result ↔ SomeCovers self.old arrival.now state.now }
         ensures same { self.new ≡ self.old }
     {
-        match self.covering_row(arrival, state) {
+        self.some_covers_sought(&Sought {
+            arrival,
+            state,
+            known: None,
+        })
+    }
+
+    /// Whether some row at the address covers the state that is sought for.
+    fn some_covers_sought(&mut self, sought: &Sought) -> bool
+        requires { IsRemembered self.old sought.now.arrival.now sought.now.known }
+        ensures exact { IsTrue result ↔ SomeCovers self.old sought.now.arrival.now sought.now.state.now }
+        ensures same { self.new ≡ self.old }
+    {
+        match self.covering_row(sought) {
             Some(id) => {
                 self.last = id;
                 true
             }
             None => false,
         }
-    }
-
-    /// The number of a row at the address that covers the state. The rows near the one that covered last come first,
-    /// since rows that follow one another mostly lead to rows that do; then the rows to which the index leads; then
-    /// all.
-    fn covering_row(&self, arrival: &Arrival, state: &AbsState) -> Option<RowId>
-        ensures { MatchOption result (SomeCovers self.now arrival.now state.now
-            → ⊥) (λ _. SomeCovers self.now arrival.now state.now) }
-    {
-        let rows = self.certificate.rows_at(arrival.proc, arrival.address);
-        let likely = self.likely_row(rows.start, rows.end, arrival, state);
-        if likely.is_some() {
-            return likely;
-        }
-        self.first_covering(rows.start, rows.end, arrival, state)
-    }
-
-    /// The number of a row among these that covers the state: one near the row that covered last, or one to which the
-    /// index leads, or the first if there is no index for the address.
-    fn likely_row(
-        &self,
-        start: RowId,
-        end: RowId,
-        arrival: &Arrival,
-        state: &AbsState,
-    ) -> Option<RowId>
-        ensures { IfSome result (λ k. (start ≤ k) × (k < end)
-            × RowCovers self.now arrival.now state.now k) }
-    {
-        let from = start.max(self.last.saturating_sub(1));
-        let to = end.min(self.last.saturating_add(2));
-        let near = self.first_covering(from, to, arrival, state);
-        if near.is_some() {
-            return near;
-        }
-        match self.index.at(start) {
-            Some(alike) => self.indexed(alike, start, end, arrival, state),
-            None => self.first_covering(start, end, arrival, state),
-        }
-    }
-
-    /// The number of a row that covers the state, among those to which an ordering leads.
-    fn indexed(
-        &self,
-        alike: &Alike,
-        start: RowId,
-        end: RowId,
-        arrival: &Arrival,
-        state: &AbsState,
-    ) -> Option<RowId>
-        ensures { IfSome result (λ k. (start ≤ k) × (k < end)
-            × RowCovers self.now arrival.now state.now k) }
-    {
-        let id = self.among_groups(alike, arrival, state)?;
-        if start <= id && id < end {
-            Some(id)
-        } else {
-            None
-        }
-    }
-
-    /// The same, over all groups.
-    fn among_groups(&self, alike: &Alike, arrival: &Arrival, state: &AbsState) -> Option<RowId>
-        ensures { IfSome result (RowCovers self.now arrival.now state.now) }
-    {
-        for group in 0..alike.groups.len() {
-            if may_cover(alike.groups.as_slice(), group, state) {
-                let found = self.among_blocks(alike, group * BLOCK, arrival, state);
-                if found.is_some() {
-                    return found;
-                }
-            }
-        }
-        None
-    }
-
-    /// The same, over the blocks of one group.
-    fn among_blocks(
-        &self,
-        alike: &Alike,
-        start: usize,
-        arrival: &Arrival,
-        state: &AbsState,
-    ) -> Option<RowId>
-        ensures { IfSome result (RowCovers self.now arrival.now state.now) }
-    {
-        for block in start..alike.blocks.len().min(start.saturating_add(BLOCK)) {
-            if may_cover(alike.blocks.as_slice(), block, state) {
-                let found = self.among_rows(alike, block * BLOCK, arrival, state);
-                if found.is_some() {
-                    return found;
-                }
-            }
-        }
-        None
-    }
-
-    /// The same, over the rows of one block.
-    fn among_rows(
-        &self,
-        alike: &Alike,
-        start: usize,
-        arrival: &Arrival,
-        state: &AbsState,
-    ) -> Option<RowId>
-        ensures { IfSome result (RowCovers self.now arrival.now state.now) }
-    {
-        for at in start..alike.order.len().min(start.saturating_add(BLOCK)) {
-            if let Some(id) = alike.order.get(at)
-                && self.row_covers(*id, arrival, state)
-            {
-                return Some(*id);
-            }
-        }
-        None
-    }
-
-    /// The first of these numbers whose row covers the state.
-    fn first_covering(
-        &self,
-        start: RowId,
-        end: RowId,
-        arrival: &Arrival,
-        state: &AbsState,
-    ) -> Option<RowId>
-        ensures { MatchOption result ((k : ℕ) → start ≤ k → k < end
-            → RowCovers self.now arrival.now state.now k → ⊥)
-            (λ k. (start ≤ k) × (k < end) × RowCovers self.now arrival.now state.now k) }
-    {
-        for id in start..end {
-            if self.row_covers(id, arrival, state) {
-                return Some(id);
-            }
-        }
-        None
-    }
-
-    /// Whether there is a row with this number and it covers the state.
-    fn row_covers(&self, id: RowId, arrival: &Arrival, state: &AbsState) -> bool
-        ensures { IsTrue result ↔ RowCovers self.now arrival.now state.now id }
-    {
-        match self.certificate.row(id) {
-            Some(row) => arrival.is_covered_by(state, &row),
-            None => false,
-        }
-    }
-}
-
-/// Whether some row of a block or group may cover a state: their hulls have to cover it.
-fn may_cover(hulls: &[Pairs], at: usize, state: &AbsState) -> bool {
-    match hulls.get(at) {
-        Some(hull) => hull.covers(&state.pairs),
-        None => false,
     }
 }

@@ -1,17 +1,53 @@
 // Where to look first among many rows at one address.
 
 use crate::alike::Alike;
+use crate::by_value::ByValue;
+use crate::claims::have_same_claims;
+use abs_state::{covers_fact, keeps_slots};
 use cert_contents::{Certificate, RowId};
-use std::alloc::Global;
+use cert_lines::RowRef;
+use std::alloc::{AllocError, Global};
 use std::ops::Range;
 
-/// From how many rows at one address on they are ordered.
-const MANY: RowId = 64;
+/// From how many rows at one address on there is an index.
+const MANY: RowId = 8;
 
-/// The orderings of the addresses with many rows.
+/// How many kinds of rows are told apart at one address. Rows of further kinds are searched one by one.
+const MOST_KINDS: usize = 16;
+
+/// Rows at one address that have the same claims, mode, cells, flag fact and origins, and as many slots.
+#[derive(Drop)]
+pub(crate) struct Kind {
+    /// The number of one of the rows.
+    pub like: RowId,
+    /// How many of the rows a search tests at most.
+    pub tests: usize,
+    pub order: Order,
+}
+
+/// How the rows of a kind are found.
+#[derive(Drop)]
+pub(crate) enum Order {
+    /// By the values of a byte.
+    ByValue(ByValue),
+    /// By hulls, where no byte tells them apart.
+    Alike(Alike),
+}
+
+/// The rows at an address, by kind.
+#[derive(Drop)]
+pub(crate) struct Place {
+    /// The number of the first row at the address.
+    start: RowId,
+    pub kinds: Vec<Kind>,
+    /// How many rows are of no kind.
+    pub others: usize,
+}
+
+/// The addresses with many rows.
 #[derive(Drop)]
 pub(crate) struct AddressIndex {
-    places: Vec<Alike>,
+    places: Vec<Place>,
 }
 
 impl AddressIndex {
@@ -38,25 +74,114 @@ impl AddressIndex {
         let Some(rows) = many_from(certificate, id, MANY) else {
             return true;
         };
-        match Alike::of(alloc, certificate, rows.start, rows.end) {
-            Ok(alike) => self.places.push(alike).is_ok(),
+        match Place::of(alloc, certificate, rows) {
+            Ok(place) => self.places.push(place).is_ok(),
             Err(_) => false,
         }
     }
 
-    /// The ordering of the rows at an address by the number of the first row there, if they are many.
-    pub fn at(&self, start: RowId) -> Option<&Alike> {
+    /// The rows at an address by the number of the first row there, if they are many.
+    pub fn at(&self, start: RowId) -> Option<&Place> {
         let place = self
             .places
             .as_slice()
-            .partition_point(|alike| alike.start < start);
-        let alike = self.places.get(place)?;
-        if alike.start == start {
-            Some(alike)
+            .partition_point(|place| place.start < start);
+        let place = self.places.get(place)?;
+        if place.start == start {
+            Some(place)
         } else {
             None
         }
     }
+}
+
+impl Place {
+    /// These rows by kind, which are those of one address.
+    fn of(
+        alloc: Global,
+        certificate: &Certificate,
+        rows: Range<RowId>,
+    ) -> Result<Place, AllocError> {
+        let start = rows.start;
+        let mut kinds = Vec::new(alloc);
+        let mut left = Vec::new(alloc);
+        for id in rows.start..rows.end {
+            left.push(id)?;
+        }
+        for _ in 0..MOST_KINDS {
+            left = add_kind(alloc, certificate, &mut kinds, left.as_slice())?;
+        }
+        Ok(Place {
+            start,
+            kinds,
+            others: left.len(),
+        })
+    }
+}
+
+impl Kind {
+    fn of(
+        alloc: Global,
+        certificate: &Certificate,
+        like: RowId,
+        rows: &[RowId],
+    ) -> Result<Kind, AllocError> {
+        match ByValue::of(alloc, certificate, rows)? {
+            Some(by_value) => Ok(Kind {
+                like,
+                tests: by_value.depth(),
+                order: Order::ByValue(by_value),
+            }),
+            None => Ok(Kind {
+                like,
+                tests: rows.len(),
+                order: Order::Alike(Alike::of(alloc, certificate, rows)?),
+            }),
+        }
+    }
+}
+
+/// Adds the rows of the kind of the first of these, and gives those that are left.
+fn add_kind(
+    alloc: Global,
+    certificate: &Certificate,
+    kinds: &mut Vec<Kind>,
+    rows: &[RowId],
+) -> Result<Vec<RowId>, AllocError> {
+    let (mut same, mut left) = (Vec::new(alloc), Vec::new(alloc));
+    if let Some(first) = rows.first() {
+        for id in rows {
+            if are_alike(certificate, *first, *id) {
+                same.push(*id)?;
+            } else {
+                left.push(*id)?;
+            }
+        }
+        kinds.push(Kind::of(alloc, certificate, *first, same.as_slice())?)?;
+    }
+    Ok(left)
+}
+
+/// Whether two rows are found to be of one kind.
+fn are_alike(certificate: &Certificate, id: RowId, other: RowId) -> bool {
+    match (certificate.row(id), certificate.row(other)) {
+        (Some(row), Some(other)) => {
+            row.mode == other.mode
+                && row.armed == other.armed
+                && row.shape.len() == other.shape.len()
+                && keeps(&row, &other)
+                && keeps(&other, &row)
+                && have_same_claims(&row, &other)
+        }
+        _ => false,
+    }
+}
+
+/// Whether a row has the flag fact and each origin of another one.
+fn keeps(row: &RowRef, other: &RowRef) -> bool {
+    covers_fact(row.flag, other.flag)
+        && row.pairs.keeps(other.pairs)
+        && keeps_slots(row.shape.slots(), other.shape.slots())
 }
 
 /// The numbers of the rows at the address of row `id`, if it is the first row there and they are at least `many`.

@@ -4,3 +4,4 @@ pub mod Order
 pub mod Steps
 pub mod Versions
 pub mod WaysOn
+pub mod RepeatedLemmas

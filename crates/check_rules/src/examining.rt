@@ -6,6 +6,7 @@ ghost use Rattle.cert_form.specs.Migrated.{migrated};
 ghost use Rattle.check_rules.specs.Acceptance.{Accepts, AreConsistent, Begins, IsRefused, depth_address};
 
 use crate::refused::Refused;
+use crate::repeated::is_repeated;
 use crate::rows::check_row;
 use crate::whole::{has_budget, has_depth, region_fits, rom_for, uncovered_entry};
 use abs_step::Reason;
@@ -93,7 +94,7 @@ fn check_rows(
     Ok(())
 }
 
-/// Judges the row with this number, if there is one.
+/// Judges the row with this number, if there is one. A row that is equal to the one before it is not judged again.
 fn check_numbered(
     alloc: Global,
     rom: &Rom,
@@ -113,6 +114,9 @@ fn check_numbered(
     ensures err { IfErr result (λ r. IsRefused rom.now certificate.now r.row r.address r.reason) }
     ensures same { coverer.new ≡ coverer.old }
 {
+    if is_repeated(certificate, id) {
+        return Ok(());
+    }
     let Some(subject) = Subject::of(rom, map, certificate, id) else {
         return Ok(());
     };

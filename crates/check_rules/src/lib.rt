@@ -5,6 +5,7 @@
 mod examining;
 mod instructions;
 mod refused;
+mod repeated;
 mod rows;
 mod saved;
 mod stack;

@@ -98,6 +98,12 @@ HaveOrigins a b = KeepsPairs a.pairs b.pairs × KeepsPairs b.pairs a.pairs
 abbrev pub Widens : AbsState → AbsState → Type 0
 Widens wide s = CoversState wide s × HaveOrigins wide s
 
--- a state covers each of these and has the same origins
-pub record WidensEach (lefts : List Left) (wide : AbsState) : Type 0 where
-  pub each : (left : Left) → Contains lefts left → Widens wide (state_of left)
+-- one of these states covers a state and has the same origins
+pub record IsWidened (wides : List AbsState) (s : AbsState) : Type 0 where
+  pub wide : AbsState
+  pub listed : Contains wides wide
+  pub over : Widens wide s
+
+-- one of these states covers each of what exits leave, with the same origins
+pub record WidensEach (lefts : List Left) (wides : List AbsState) : Type 0 where
+  pub each : (left : Left) → Contains lefts left → IsWidened wides (state_of left)

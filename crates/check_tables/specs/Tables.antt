@@ -1,5 +1,5 @@
 -- Tables of a certificate for a ROM (docs/CHECKER.md, "How long judging takes").
-use Rattle.std.specs.Prelude.{ℕ, ℤ, pos, ◌≡◌, ◌≤◌, ◌<◌, ◌≤ℤ◌, List, [], Option, Some, None, IfSome, slice_get}
+use Rattle.std.specs.Prelude.{ℕ, ℤ, pos, ◌≡◌, ◌≤◌, ◌<◌, ◌≤ℤ◌, ◌⊎◌, List, [], Option, Some, None, slice_get}
 use Rattle.std.specs.List.{All}
 use Rattle.abs_state.specs.declared.state.AbsState.{AbsState}
 use Rattle.cert_lines.specs.declared.row.Row.{Row}
@@ -9,15 +9,16 @@ use Rattle.check_tables.specs.Lefts.{AreLeft, WidensEach}
 use Rattle.check_tables.specs.declared.left.Left.{Left}
 use Rattle.check_tables.specs.declared.tops.Top.{Top}
 
--- what the exits of a procedure leave, and a state that covers each of them with the same origins
+-- what the exits of a procedure leave, and states that cover them with the same origins
 pub record ProcExitsView : Type 0 where
   pub proc : ℕ
   pub lefts : List Left
-  pub wide : Option AbsState
+  pub wides : List AbsState
 
+-- each is covered by one of these states, or there are none
 pub record AreExits (rom : List ℕ) (cert : CertificateView) (g : ProcExitsView) : Type 0 where
   pub left : AreLeft rom cert g.proc g.lefts
-  pub wide : IfSome g.wide (WidensEach g.lefts)
+  pub wides : (g.wides ≡ []) ⊎ WidensEach g.lefts g.wides
 
 -- a potential, if there is one, has no variable and is at most this number
 abbrev pub IsAtMost : ℤ → Option LinearView → Type 0

@@ -1,6 +1,6 @@
 // What the exits of one procedure leave, each once.
 
-ghost use Rattle.std.specs.Prelude.{◌≡◌, IfOk, IfSome, OnOk, option_copied};
+ghost use Rattle.std.specs.Prelude.{◌≡◌, IfOk, OnOk};
 ghost use Rattle.check_tables.specs.Lefts.{AddsExit, AreLeft};
 ghost use Rattle.check_tables.specs.Tables.{AreExits};
 
@@ -15,12 +15,12 @@ use indexmap::IndexSet;
 use std::alloc::{AllocError, Global};
 use std::marker::Model;
 
-/// What the exits of a procedure leave, each once, and their join if it was made.
+/// What the exits of a procedure leave, each once, and the joins of those with one pattern of origins.
 #[derive(Drop)]
 pub struct ProcExits {
     pub(crate) proc: ProcId,
     lefts: Vec<Left>,
-    wide: Option<AbsState>,
+    wides: Vec<AbsState>,
 }
 
 impl Model for ProcExits {
@@ -28,7 +28,7 @@ impl Model for ProcExits {
 
     ghost Value = { ProcExitsView };
 
-    ghost view = { λ e. record { proc = e.proc; lefts = e.lefts.items; wide = e.wide } };
+    ghost view = { λ e. record { proc = e.proc; lefts = e.lefts.items; wides = e.wides.items } };
 }
 
 impl ProcExits {
@@ -43,9 +43,9 @@ impl ProcExits {
         ensures exits { IfOk result (AreExits rom.now certificate.now) }
     {
         let lefts = lefts_of(alloc, rom, certificate, proc)?;
-        let wide = widest(lefts.as_slice());
+        let wides = widest(alloc, lefts.as_slice())?;
         let lefts = Vec::from_slice(alloc, lefts.as_slice())?;
-        Ok(ProcExits { proc, lefts, wide })
+        Ok(ProcExits { proc, lefts, wides })
     }
 
     /// What the exits leave, each once.
@@ -55,12 +55,12 @@ impl ProcExits {
         self.lefts.as_slice()
     }
 
-    /// The join of all of them: it covers each and has the same origins. None if their origins differ, or there is no
-    /// exit.
-    pub fn wide(&self) -> Option<&AbsState>
-        ensures { option_copied result ≡ self.now.wide }
+    /// States of which one covers each of them and has its origins. There are none if there are too many patterns of
+    /// origins, or no exit.
+    pub fn wides(&self) -> &[AbsState]
+        ensures { result.now ≡ self.now.wides }
     {
-        self.wide.as_ref()
+        self.wides.as_slice()
     }
 }
 

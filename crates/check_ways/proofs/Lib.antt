@@ -8,3 +8,4 @@ pub mod SubjectLemmas
 pub mod KeptLemmas
 pub mod TopLemmas
 pub mod WideLemmas
+pub mod BareLemmas

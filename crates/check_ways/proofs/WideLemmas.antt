@@ -1,5 +1,5 @@
 -- A call that comes back covered from an exit that covers each of its callee's comes back covered from each.
-use Rattle.std.proofs.Common.{◌≡◌, List, ℕ, Option, Some, None, IfSome, IsSome, refl, sym, subst, ap}
+use Rattle.std.proofs.Common.{◌≡◌, ◌⊎◌, List, [], ℕ, Option, Some, None, IfSome, inl, inr, refl, sym, subst, ap}
 use Rattle.abs_state.proofs.CoverLemmas.{state_covers_itself}
 use Rattle.abs_state.specs.Covers.{CoversState}
 use Rattle.abs_state.specs.Entries.{after_call, returned_pair}
@@ -8,11 +8,13 @@ use Rattle.abs_state.specs.declared.pairs.Pairs.{Pairs}
 use Rattle.abs_state.specs.declared.state.AbsState.{AbsState}
 use Rattle.abs_step.specs.declared.next.Next.{Next}
 use Rattle.check_cover.proofs.PlainLemmas.{covered_plain}
+use Rattle.check_cover.proofs.WholeLemmas.{covered_whole}
 use Rattle.check_cover.specs.declared.program.Callee.{Callee}
+use Rattle.check_ways.proofs.BareLemmas.{hands_back}
 use Rattle.check_ways.proofs.KeptLemmas.{bare, is_left, left_bare}
-use Rattle.check_ways.specs.Parts.{OnEachExit, ReturnCovered, WideCovered}
+use Rattle.check_ways.specs.Parts.{OnEachExit, ReturnCovered, WideCovered, WidesCovered, bare_arrival}
 use Rattle.check_ways.specs.Ways.{SubjectView, return_way}
-use Rattle.check_tables.specs.Lefts.{AreLeft, Widens, WidensEach, left_of}
+use Rattle.check_tables.specs.Lefts.{AreLeft, IsWidened, Widens, WidensEach, left_of}
 use Rattle.cert_form.specs.Contents.{CertificateView}
 use Rattle.cert_form.specs.Form.{IsInForm}
 use Rattle.check_tables.specs.Tables.{AreExits, ProcExitsView}
@@ -75,24 +77,31 @@ after_covers caller w e h =
       shape = own.shape;
     }
 
-wide_each : (cert : CertificateView) (s : SubjectView) (next : Next) (callee : Callee) (lefts : List Left) (wide : AbsState) →
-    IsInForm s.cert → AreLeft s.rom s.cert callee.number lefts → WidensEach lefts wide → WideCovered cert s next wide → OnEachExit s callee.number (ReturnCovered cert s next callee)
-wide_each cert s next callee lefts wide form left widens covered = record {
+-- by a row without claims, or by one whose claims are known back from each exit
+one_wide : (cert : CertificateView) (s : SubjectView) (next : Next) (callee : Callee) (wide exit : AbsState) → Widens wide exit → WideCovered cert s next wide → ReturnCovered cert s next callee exit
+one_wide cert s next callee wide exit over (inl plain) =
+    covered_plain cert (return_way s next callee exit).arrival (after_call next.state wide) (after_call next.state exit) plain (after_covers next.state wide exit over)
+one_wide cert s next callee wide exit over (inr whole) =
+    covered_whole cert (bare_arrival s next wide) (return_way s next callee exit).arrival (after_call next.state wide) (after_call next.state exit)
+    (hands_back s next callee wide exit whole.version over.1) whole.whole (after_covers next.state wide exit over)
+
+wide_each : (cert : CertificateView) (s : SubjectView) (next : Next) (callee : Callee) (lefts : List Left) (wides : List AbsState) →
+    IsInForm s.cert → AreLeft s.rom s.cert callee.number lefts → WidensEach lefts wides → WidesCovered cert s next wides → OnEachExit s callee.number (ReturnCovered cert s next callee)
+wide_each cert s next callee lefts wides form left widens covered = record {
   each = λ exit leaves.
       let listed = left.each (left_of exit) (is_left s.rom s.cert callee.number exit form leaves) in
-      let over : Widens wide (bare exit) = subst (λ (e : AbsState). Widens wide e) (left_bare exit) (widens.each (left_of exit) listed) in
-      let way = return_way s next callee exit in
-      covered_plain cert way.arrival (after_call next.state wide) (after_call next.state exit) covered (after_covers next.state wide (bare exit) over);
+      let widened : IsWidened wides (bare exit) = subst (λ (e : AbsState). IsWidened wides e) (left_bare exit) (widens.each (left_of exit) listed) in
+      one_wide cert s next callee widened.wide (bare exit) widened.over (covered.each widened.wide widened.listed);
 }
 
-by_wide : (cert : CertificateView) (s : SubjectView) (next : Next) (callee : Callee) (lefts : List Left) (wide : Option AbsState) →
-    IsInForm s.cert → AreLeft s.rom s.cert callee.number lefts → IfSome wide (WidensEach lefts) → IsSome wide → IfSome wide (WideCovered cert s next) →
+by_wides : (cert : CertificateView) (s : SubjectView) (next : Next) (callee : Callee) (lefts : List Left) (wides : List AbsState) →
+    IsInForm s.cert → AreLeft s.rom s.cert callee.number lefts → (wides ≡ []) ⊎ WidensEach lefts wides → WidesCovered cert s next wides →
     OnEachExit s callee.number (ReturnCovered cert s next callee)
-by_wide cert s next callee lefts None form left widens some covered = cc
-by_wide cert s next callee lefts (Some wide) form left widens some covered = wide_each cert s next callee lefts wide form left widens covered
+by_wides cert s next callee lefts wides form left (inl none) covered = absurd (covered.some none)
+by_wides cert s next callee lefts wides form left (inr widens) covered = wide_each cert s next callee lefts wides form left widens covered
 
--- if the callee's tables have such an exit
-pub wide_some : (cert : CertificateView) (s : SubjectView) (next : Next) (callee : Callee) (g : ProcExitsView) → IsInForm s.cert → g.proc ≡ callee.number → AreExits s.rom s.cert g →
-    IsSome g.wide → IfSome g.wide (WideCovered cert s next) → OnEachExit s callee.number (ReturnCovered cert s next callee)
-wide_some cert s next callee g form of are some covered =
-    by_wide cert s next callee g.lefts g.wide form (subst (λ (n : ℕ). AreLeft s.rom s.cert n g.lefts) of are.left) are.wide some covered
+-- if the callee's tables have such states
+pub wides_cover : (cert : CertificateView) (s : SubjectView) (next : Next) (callee : Callee) (g : ProcExitsView) → IsInForm s.cert → g.proc ≡ callee.number → AreExits s.rom s.cert g →
+    WidesCovered cert s next g.wides → OnEachExit s callee.number (ReturnCovered cert s next callee)
+wides_cover cert s next callee g form of are covered =
+    by_wides cert s next callee g.lefts g.wides form (subst (λ (n : ℕ). AreLeft s.rom s.cert n g.lefts) of are.left) are.wides covered

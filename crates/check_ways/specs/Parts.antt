@@ -1,5 +1,5 @@
 -- The parts of going on, of paying and of walks: what one successor needs, and one row of a callee.
-use Rattle.std.specs.Prelude.{ℕ, ℤ, ◌≡◌, ◌≤◌, ◌<◌, ◌↔◌, ◌&&◌, Bool, false, List, [], Option, Some, None, Result, Ok, Err, Contains, IsSome, max, slice_get}
+use Rattle.std.specs.Prelude.{ℕ, ℤ, ◌≡◌, ◌≢◌, ◌≤◌, ◌<◌, ◌↔◌, ◌⊎◌, ◌&&◌, Bool, false, List, [], Option, Some, None, Result, Ok, Err, Contains, IsSome, max, slice_get}
 use Rattle.abs_state.specs.Entries.{after_call, callee_entry}
 use Rattle.abs_state.specs.Variables.{range_of}
 use Rattle.abs_state.specs.declared.state.AbsState.{AbsState}
@@ -11,18 +11,23 @@ use Rattle.abs_step.specs.declared.next.NextKind.TheVariants.{Jump, Call, Exit}
 use Rattle.check_cover.specs.Arrival.{ArrivalView}
 use Rattle.check_cover.specs.Covering.{Covered}
 use Rattle.check_cover.specs.Plainly.{CoversPlainly}
+use Rattle.check_cover.specs.Whole.{CoversWhole}
 use Rattle.check_cover.specs.Program.{IsRowAt, callee_at}
 use Rattle.check_cover.specs.declared.program.Callee.{Callee}
 use Rattle.cert_lines.specs.declared.row.Row.{Row}
+use Rattle.cert_lines.specs.declared.version.Version.TheVariants.{Three}
 use Rattle.cert_form.specs.Contents.{CertificateView}
 use Rattle.check_ways.specs.Pays.{IsAsked, Lands, PaysCall, PaysOut, PaysTo, potential_of}
 use Rattle.check_ways.specs.Ways.{SubjectView, IsNumbered, IsExit, WayView, behind_of, call_cost, arrival_at_entry, jump_way, nexts_from, return_way}
+use Rattle.check_steps.specs.Returned.{effect_back}
+use Rattle.check_steps.specs.Told.{refinement_by}
 use Rattle.check_tables.specs.Lefts.{state_of}
 use Rattle.check_tables.specs.Tables.{IsTop}
 use Rattle.check_tables.specs.declared.left.Left.{Left}
 use Rattle.loop_bounds.specs.Bounds.{Decreases}
 use Rattle.loop_bounds.specs.Effect.{unchanged}
 use Rattle.loop_bounds.specs.Linear.{LinearView}
+use Rattle.refined_step.specs.Told.{untold}
 use Rattle.z80_decode.specs.declared.fault.DecodeFault.{DecodeFault}
 use Rattle.z80_decode.specs.declared.instr.Instr.{Instr}
 
@@ -96,9 +101,32 @@ IsCoveredWay cert way = Covered cert way.arrival way.state
 abbrev pub ReturnCovered : CertificateView → SubjectView → Next → Callee → AbsState → Type 0
 ReturnCovered cert s next callee exit = IsCoveredWay cert (return_way s next callee exit)
 
--- a call comes back from an exit in a state that is covered plainly
+-- the arrival back from a call, where only what the callee's exit leaves of origins is known of the variables
+abbrev pub bare_arrival : SubjectView → Next → AbsState → ArrivalView
+bare_arrival s next exit = record {
+  proc = s.row.proc;
+  address = behind_of s.decoded s.row.address;
+  facts = s.row.facts;
+  before = s.row.state;
+  effect = effect_back Three next.moved exit;
+  refined = refinement_by Three untold (effect_back Three next.moved exit);
+}
+
+-- in version 3 a call comes back from an exit in a state that is covered whole, with claims that are known without
+-- constants
+pub record WideCoveredWhole (cert : CertificateView) (s : SubjectView) (next : Next) (exit : AbsState) : Type 0 where
+  pub version : s.cert.version ≡ Three
+  pub whole : CoversWhole cert (bare_arrival s next exit) (after_call next.state exit)
+
+-- a call comes back from an exit in a state that one row covers, which does so from each smaller exit
 abbrev pub WideCovered : CertificateView → SubjectView → Next → AbsState → Type 0
-WideCovered cert s next exit = CoversPlainly cert s.row.proc (behind_of s.decoded s.row.address) (after_call next.state exit)
+WideCovered cert s next exit =
+    CoversPlainly cert s.row.proc (behind_of s.decoded s.row.address) (after_call next.state exit) ⊎ WideCoveredWhole cert s next exit
+
+-- a call comes back so from each of these exits, of which there is one at least
+pub record WidesCovered (cert : CertificateView) (s : SubjectView) (next : Next) (wides : List AbsState) : Type 0 where
+  pub some : wides ≢ []
+  pub each : (wide : AbsState) → Contains wides wide → WideCovered cert s next wide
 
 -- a call enters its callee in a covered state and comes back in one from each exit; a call of no procedure does not go
 -- on

@@ -1,11 +1,11 @@
 // Whether each successor of a row is covered.
 
-ghost use Rattle.std.specs.Prelude.{◌≡◌, ◌↔◌, IfSome, IsSome, IsTrue, Ok};
+ghost use Rattle.std.specs.Prelude.{◌≡◌, ◌↔◌, IsTrue, Ok};
 ghost use Rattle.std.specs.List.{All};
-ghost use Rattle.abs_state.specs.Entries.{callee_entry};
+ghost use Rattle.abs_state.specs.Entries.{after_call, callee_entry};
 ghost use Rattle.check_cover.specs.Covering.{Covered};
 ghost use Rattle.check_cover.specs.Program.{callee_at};
-ghost use Rattle.check_ways.specs.Parts.{AtEachExit, CallGoesOn, IsCoveredWay, NextGoesOn, OnEachExit, OnEachLeft, ReturnCovered, WideCovered};
+ghost use Rattle.check_ways.specs.Parts.{AtEachExit, CallGoesOn, IsCoveredWay, NextGoesOn, OnEachExit, OnEachLeft, ReturnCovered, WideCovered, WideCoveredWhole, WidesCovered};
 ghost use Rattle.check_ways.specs.Ways.{GoesOn, IsTold, arrival_at_entry, jump_way, state_after, step_of};
 
 use crate::subject::Subject;
@@ -13,6 +13,7 @@ use abs_draft::settled;
 use abs_state::AbsState;
 use abs_step::{Next, NextKind};
 use cert_contents::RowId;
+use cert_lines::Version;
 use check_cover::{Callee, Coverer, callee_at};
 use check_steps::{effect_back, restarted};
 use check_tables::{Left, ProcExits};
@@ -121,25 +122,76 @@ fn returns_are_covered(
     subject.certificate.is_in_form();
     match subject.exits_kept(callee.number) {
         Some(exits) => {
-            wide_is_covered(subject, next, exits, coverer)
+            wides_are_covered(subject, next, exits, coverer)
                 || lefts_are_covered(subject, next, callee, exits.lefts(), coverer)
         }
         None => rows_are_covered(subject, next, callee, coverer),
     }
 }
 
-/// Whether the state after the call from the join of the callee's exits is covered plainly. False without such a join.
-fn wide_is_covered(subject: &Subject, next: &Next, exits: &ProcExits, coverer: &mut Coverer) -> bool
+/// Whether for each of the states that cover the callee's exits one row is found that covers the state after the call
+/// from it, and so that from each exit. False without such states.
+fn wides_are_covered(
+    subject: &Subject,
+    next: &Next,
+    exits: &ProcExits,
+    coverer: &mut Coverer,
+) -> bool
     ensures found { IsTrue result
-        → IfSome exits.now.wide (WideCovered coverer.old subject.now next.now) }
-    ensures some { IsTrue result → IsSome exits.now.wide }
+        → WidesCovered coverer.old subject.now next.now exits.now.wides }
     ensures same { coverer.new ≡ coverer.old }
 {
-    let Some(wide) = exits.wide() else {
+    let wides = exits.wides();
+    if wides.is_empty() {
         return false;
-    };
+    }
+    for wide in wides {
+        if !wide_is_covered(subject, next, wide, coverer) {
+            return false;
+        }
+    }
+    true
+}
+
+/// Whether one row is found that covers the state after the call from an exit in this state, and so that from each exit
+/// that it covers.
+fn wide_is_covered(subject: &Subject, next: &Next, wide: &AbsState, coverer: &mut Coverer) -> bool
+    ensures found { IsTrue result → WideCovered coverer.old subject.now next.now wide.now }
+    ensures same { coverer.new ≡ coverer.old }
+{
     let after = next.state.after_call(wide);
     coverer.covers_plainly(subject.row.proc, subject.behind, &after)
+        || wide_is_covered_whole(subject, next, wide, &after, coverer)
+}
+
+/// The same in version 3 by a row with claims, which have to be known without the constants of the state after the
+/// call.
+fn wide_is_covered_whole(
+    subject: &Subject,
+    next: &Next,
+    wide: &AbsState,
+    after: &AbsState,
+    coverer: &mut Coverer,
+) -> bool
+    requires { after.now ≡ after_call next.now.state wide.now }
+    ensures found { IsTrue result
+        → WideCoveredWhole coverer.old subject.now next.now wide.now }
+    ensures same { coverer.new ≡ coverer.old }
+{
+    match subject.certificate.version() {
+        Version::One | Version::Two => false,
+        Version::Three => {
+            let moved = effect_back(Version::Three, &next.moved, wide);
+            let arrival = subject.arrival_at(
+                subject.row.proc,
+                subject.behind,
+                &moved,
+                &moved,
+                subject.untold(),
+            );
+            coverer.covers_whole(&arrival, after)
+        }
+    }
 }
 
 /// Whether a call comes back in a covered state from each exit that leaves one of these.
@@ -218,6 +270,22 @@ fn nexts_go_on(subject: &Subject, nexts: &[Next], told: &StepTold, coverer: &mut
         }
     }
     true
+}
+
+/// Whether one row is found that covers the state after a call from each exit of its callee, by tables of the
+/// certificate. It takes a search for each pattern of origins at the exits.
+pub fn comes_back_at_once(
+    subject: &Subject,
+    next: &Next,
+    callee: &Callee,
+    coverer: &mut Coverer,
+) -> bool
+    ensures { coverer.new ≡ coverer.old }
+{
+    let Some(exits) = subject.exits_kept(callee.number) else {
+        return false;
+    };
+    wides_are_covered(subject, next, exits, coverer)
 }
 
 /// Whether a row goes on, given its successors and what its step says beside (docs/CHECKER.md, "Successors, calls and

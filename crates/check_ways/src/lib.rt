@@ -10,8 +10,8 @@ mod subject;
 mod ways;
 
 pub use exits::may_have_exit;
-pub use going::goes_on;
+pub use going::{comes_back_at_once, goes_on};
 pub use only_row::is_lone;
-pub use paying::{constant_sum, cost_before, pays, potential_of};
+pub use paying::{constant_sum, cost_before, pays, pays_place, potential_of};
 pub use subject::{Subject, SubjectStep};
 pub use ways::Way;

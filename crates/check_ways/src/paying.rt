@@ -170,8 +170,9 @@ fn pays_behind(subject: &Subject, cost: u32) -> bool
     pays_place(subject, subject.row.proc, subject.behind, cost)
 }
 
-/// Whether the greatest potential at an address shows that the row pays the cost to each row there.
-fn pays_place(subject: &Subject, proc: ProcId, address: u16, cost: u32) -> bool
+/// Whether the greatest potential at an address of a procedure, if tables have it, shows that the row pays a cost in
+/// T-states to each row there.
+pub fn pays_place(subject: &Subject, proc: ProcId, address: u16, cost: u32) -> bool
     ensures { IsTrue result → PaysPlace subject.now proc address cost }
 {
     let rows = subject.certificate.rows_at(proc, address);

@@ -6,26 +6,8 @@ use Rattle.loop_bounds.specs.declared.effect.Effect.{Effect}
 use Rattle.loop_bounds.specs.declared.effect.SlotChange.{SlotChange}
 use Rattle.linear_effects.specs.declared.variable_effect.LinearEffect.{LinearEffect}
 use Rattle.check_claims.specs.Rewritings.{change_or, slot_or, effect_or, constants_first, variables_first}
+use Rattle.check_claims.proofs.OrLemmas.{same_effect}
 use Rattle.check_claims.proofs.rewritings.are_same.Goals as goal
-
-with_itself : (c : Change) → change_or c c ≡ c
-with_itself (Old v) = refl
-with_itself (Raised v) = refl
-with_itself (Lowered v) = refl
-with_itself (Constant n) = refl
-with_itself Unknown = refl
-
-same_number : (n : ℕ) → eqb n n ≡ true
-same_number n = search rules
-
-slot_with_itself : (slot : Option SlotChange) (e : Effect) → e.slot ≡ slot → slot_or slot e ≡ slot
-slot_with_itself None e is = refl
-slot_with_itself (Some c) e is =
-    rw (is, same_number c.number, with_itself c.word, with_itself c.high, with_itself c.low) refl
-
-same_effect : (e : Effect) → effect_or e e ≡ e
-same_effect e =
-    rw (with_itself e.a, with_itself e.b, with_itself e.c, with_itself e.d, with_itself e.e, with_itself e.h, with_itself e.l, with_itself e.bc, with_itself e.de, with_itself e.hl, with_itself e.ix, with_itself e.iy, slot_with_itself e.slot e refl) refl
 
 one_way : (settled moved : Effect) (linear : Option LinearEffect) → settled ≡ moved → linear ≡ None → variables_first settled moved linear ≡ constants_first settled linear
 one_way settled moved linear e none =

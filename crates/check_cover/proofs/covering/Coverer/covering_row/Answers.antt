@@ -8,7 +8,8 @@ pub returns : goal.returns
 returns c =
     let start = c.rows_at-rows.result.start in
     let end = c.rows_at-rows.result.end in
-    found_covers c.args.self.now c.args.arrival.now c.args.state.now start end c.first_covering.result
-    (subst (λ (cert : CertificateView). AreRowsAt cert c.args.arrival.now start end) c.self.view_is
-    (subst (λ (a : ArrivalView). AreRowsAt c.self.inside.certificate.now a start end) c.arrival.view_is c.rows_at-rows.ensures.at))
+    let a = c.args.sought.now.arrival.now in
+    found_covers c.args.self.now a c.args.sought.now.state.now start end c.first_covering.result
+    (subst (λ (cert : CertificateView). AreRowsAt cert a start end) c.self.view_is
+    (subst (λ (b : ArrivalView). AreRowsAt c.self.inside.certificate.now b start end) c.arrival.view_is c.rows_at-rows.ensures.at))
     c.first_covering.ensures

@@ -1,0 +1,7 @@
+use Rattle.std.proofs.Common.{◌≡◌, ◌<◌, ℕ, get_or}
+use Rattle.loop_bounds.specs.Linear.{LinearView}
+use Rattle.check_cover.proofs.claims.are_same_facts.Given as goal
+
+-- those so far are the same
+abbrev pub invariant-loop-at : goal.invariant-loop-at
+invariant-loop-at l = (k : ℕ) (d : LinearView) → k < l.at → get_or l.facts k d ≡ get_or l.other k d
