@@ -2,6 +2,7 @@
 #![tactic(auto)]
 
 mod arrivals;
+mod comparisons;
 mod entered;
 mod fault;
 mod links;
@@ -11,6 +12,7 @@ mod values;
 mod ways;
 mod worth;
 
+pub use comparisons::comparisons;
 pub use fault::WayFault;
 pub use parts::{LoopTurns, WayPart};
 pub use ways::{DearestWay, dearest};

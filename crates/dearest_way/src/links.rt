@@ -10,12 +10,11 @@ use abs_step::{Next, NextKind};
 use address_map::{Map, Rom};
 use call_graph::ProcId;
 use cert_contents::{Certificate, RowId};
+use cert_lines::RowRef;
 use check_cover::callee_at;
-use check_walks::cost_of_leaving;
 use check_ways::{Subject, is_lone, potential_of};
-use loop_bounds::Effect;
 use std::alloc::{AllocError, Global};
-use write_requests::{Request, Requests};
+use write_requests::RowRuns;
 
 /// A row that may come next after another.
 #[derive(Clone, Copy)]
@@ -24,109 +23,147 @@ pub(crate) struct Link {
     pub(crate) to: u32,
     /// T-states, the callee's time included.
     pub(crate) cost: u32,
-    /// What the potential of the next row comes to where this link arrives.
+    /// If the next row is in a loop that the link enters: what its potential comes to where the link arrives.
     pub(crate) worth: i64,
 }
 
-impl Link {
-    /// The row to which the link leads, as a request. Its step changes nothing.
-    fn request(&self) -> Request {
-        Request {
-            start: self.to,
-            end: self.to.saturating_add(1),
-            cost: self.cost,
-            effect: Effect::unchanged(),
-            moved: Effect::unchanged(),
-            linear: None,
+/// What is known of loops when links are found. Rows are counted from the procedure's first row.
+#[derive(Clone, Copy)]
+pub(crate) struct KnownLoops<'a> {
+    /// Which rows are in loops.
+    pub(crate) loops: &'a [bool],
+    /// The groups of rows.
+    pub(crate) groups: &'a [u16],
+    /// Of a row in a loop, its group: links within it are passed over.
+    pub(crate) own: Option<u16>,
+}
+
+impl<'a> KnownLoops<'a> {
+    /// Nothing is known.
+    pub(crate) fn none() -> KnownLoops<'a> {
+        KnownLoops {
+            loops: &[],
+            groups: &[],
+            own: None,
         }
     }
+
+    /// Whether links to a row are passed over.
+    fn is_passed_over(&self, row: u32) -> bool {
+        self.own.is_some() && self.groups.get(row as usize).copied() == self.own
+    }
+
+    /// Whether a row is in a loop.
+    fn is_in_loop(&self, row: u32) -> bool {
+        self.loops.get(row as usize).copied() == Some(true)
+    }
 }
 
-/// The links from a row, and the T-states of its exit.
+/// The links from one row at a time. So memory for them grows with the rows, and not with the links of all rows.
 #[derive(Drop)]
 pub(crate) struct Links {
-    pub(crate) to: Vec<Link>,
-    pub(crate) exit: Option<u32>,
-}
-
-/// The links from each row of a procedure, in the order of the rows.
-pub(crate) fn links_of(
-    alloc: Global,
-    rom: &Rom,
-    certificate: &Certificate,
-    proc: ProcId,
-) -> Result<Vec<Links>, AllocError>
-    requires { certificate.now.rom_len ≡ length rom.now }
-{
-    let map = certificate.board().map(rom.len());
-    let rows = certificate.rows_of(proc);
-    let mut all = Vec::new(alloc);
-    for id in rows.start..rows.end {
-        all.push(links_at(alloc, rom, &map, certificate, rows.start, id)?)?;
-    }
-    Ok(all)
-}
-
-/// The links from the row with this number. `first` is the procedure's first row.
-fn links_at(
-    alloc: Global,
-    rom: &Rom,
-    map: &Map,
-    certificate: &Certificate,
+    /// The procedure's first row.
     first: RowId,
-    id: RowId,
-) -> Result<Links, AllocError>
-    requires map { map.now ≡ map_of_board certificate.now }
-    requires len { map.now.rom_len ≡ length rom.now }
-{
-    let mut links = Links {
-        to: Vec::new(alloc),
-        exit: cost_of_leaving(alloc, rom, map, certificate, id),
-    };
-    if let Some(subject) = Subject::of(rom, map, certificate, id) {
-        links.add_all(alloc, &subject, first)?;
-    }
-    Ok(links)
+    to: Vec<Link>,
+    /// For each row of the procedure, the place of the link to it.
+    places: Vec<Option<u32>>,
 }
 
 impl Links {
-    /// Adds the links by all successors. `first` is the procedure's first row.
-    fn add_all(
+    /// No links yet, for the rows of a procedure.
+    pub(crate) fn new(
+        alloc: Global,
+        certificate: &Certificate,
+        proc: ProcId,
+    ) -> Result<Links, AllocError> {
+        let rows = certificate.rows_of(proc);
+        let count = rows.end.saturating_sub(rows.start);
+        Ok(Links {
+            first: rows.start,
+            to: Vec::new(alloc),
+            places: vec![in alloc; None; count as usize]?,
+        })
+    }
+
+    /// The procedure's first row.
+    pub(crate) fn first(&self) -> RowId {
+        self.first
+    }
+
+    /// The links of the row that was taken last.
+    pub(crate) fn as_slice(&self) -> &[Link] {
+        self.to.as_slice()
+    }
+
+    /// Takes the links from the row with this number, counted from the procedure's first row.
+    pub(crate) fn take(
         &mut self,
         alloc: Global,
-        subject: &Subject,
-        first: RowId,
-    ) -> Result<(), AllocError> {
+        rom: &Rom,
+        map: &Map,
+        certificate: &Certificate,
+        row: u32,
+        known: &KnownLoops,
+    ) -> Result<(), AllocError>
+        requires map { map.now ≡ map_of_board certificate.now }
+        requires len { map.now.rom_len ≡ length rom.now }
+    {
+        self.forget();
+        let id = self.first.saturating_add(row);
+        let Some(subject) = Subject::of(rom, map, certificate, id) else {
+            return Ok(());
+        };
         if let Ok(nexts) = subject.step(alloc) {
             for next in nexts.as_slice() {
-                self.add(subject, first, next)?;
+                self.add(&subject, next, known)?;
             }
         }
         Ok(())
     }
 
+    /// Forgets the links of the row before.
+    fn forget(&mut self) {
+        for link in &self.to {
+            if let Some(place) = self.places.get_mut(link.to as usize) {
+                *place = None;
+            }
+        }
+        self.to.clear();
+    }
+
     /// Adds the links by a successor.
-    fn add(&mut self, subject: &Subject, first: RowId, next: &Next) -> Result<(), AllocError> {
+    fn add(
+        &mut self,
+        subject: &Subject,
+        next: &Next,
+        known: &KnownLoops,
+    ) -> Result<(), AllocError> {
         match next.kind {
             NextKind::Jump => {
                 let cost = u32::from(next.cost);
-                self.add_rows(subject, first, next.address, &next.state, cost)
+                self.add_rows(subject, next.address, &next.state, cost, known)
             }
-            NextKind::Call => self.add_call(subject, first, next),
+            NextKind::Call => self.add_call(subject, next, known),
             NextKind::Exit => Ok(()),
         }
     }
 
     /// Adds the links by a call, back from each exit of its callee.
-    fn add_call(&mut self, subject: &Subject, first: RowId, next: &Next) -> Result<(), AllocError> {
+    fn add_call(
+        &mut self,
+        subject: &Subject,
+        next: &Next,
+        known: &KnownLoops,
+    ) -> Result<(), AllocError> {
         let Some(callee) = callee_at(subject.certificate, next.address) else {
             return Ok(());
         };
+        let cost = subject.call_cost(next, &callee);
         let rows = subject.certificate.rows_of(callee.number);
         for id in rows.start..rows.end {
             if let Some(exit) = subject.exit_at(id) {
-                let way = subject.return_way(next, &callee, &exit);
-                self.add_rows(subject, first, way.address, &way.state, way.cost)?;
+                let state = next.state.after_call(&exit);
+                self.add_rows(subject, subject.behind, &state, cost, known)?;
             }
         }
         Ok(())
@@ -136,27 +173,23 @@ impl Links {
     fn add_rows(
         &mut self,
         subject: &Subject,
-        first: RowId,
         address: u16,
         state: &AbsState,
         cost: u32,
+        known: &KnownLoops,
     ) -> Result<(), AllocError> {
         let certificate = subject.certificate;
         let rows = certificate.rows_at(subject.row.proc, address);
         let lone = is_lone(certificate, subject.row.proc, address);
         for id in rows.start..rows.end {
+            let to = id.saturating_sub(self.first);
+            if known.is_passed_over(to) {
+                continue;
+            }
             if let Some(row) = certificate.row(id) {
                 if lone || row.overlaps(state) {
-                    let own = row.state();
-                    let entered = Entered {
-                        own: &own,
-                        arriving: state,
-                    };
-                    self.add_link(Link {
-                        to: id.saturating_sub(first),
-                        cost,
-                        worth: greatest(&potential_of(&row), &entered),
-                    })?;
+                    let worth = worth_of(&row, state, known.is_in_loop(to));
+                    self.add_link(Link { to, cost, worth })?;
                 }
             }
         }
@@ -165,39 +198,62 @@ impl Links {
 
     /// Adds a link. Of two to one row the dearer stays; the first if they cost the same.
     fn add_link(&mut self, link: Link) -> Result<(), AllocError> {
-        for other in self.to.iter_mut() {
-            if other.to == link.to {
-                if other.cost < link.cost {
-                    *other = link;
+        let count = u32::try_from(self.to.len()).unwrap_or(u32::MAX);
+        let Some(place) = self.places.get_mut(link.to as usize) else {
+            return Ok(());
+        };
+        match *place {
+            Some(at) => {
+                if let Some(other) = self.to.get_mut(at as usize) {
+                    if other.cost < link.cost {
+                        *other = link;
+                    }
                 }
-                return Ok(());
+            }
+            None => {
+                *place = Some(count);
+                self.to.push(link)?;
             }
         }
-        self.to.push(link)?;
         Ok(())
-    }
-
-    /// The rows to which the links lead, as requests.
-    pub(crate) fn requests(&self, alloc: Global) -> Result<Requests, AllocError> {
-        let mut of_rows = Vec::new(alloc);
-        for link in &self.to {
-            add_request(&mut of_rows, link.request())?;
-        }
-        Ok(Requests {
-            of_rows,
-            leaving: None,
-        })
     }
 }
 
-/// Adds a request. One that begins where the last one ends is joined with it, and the greater cost stays.
-fn add_request(requests: &mut Vec<Request>, next: Request) -> Result<(), AllocError> {
-    match requests.last_mut() {
-        Some(last) if last.end == next.start => {
-            last.end = next.end;
-            last.cost = last.cost.max(next.cost);
-        }
-        _ => requests.push(next)?,
+/// What the potential of a row in a loop comes to where this state arrives; 0 for any other row.
+fn worth_of(row: &RowRef, state: &AbsState, is_in_loop: bool) -> i64 {
+    if !is_in_loop {
+        return 0;
     }
-    Ok(())
+    let own = row.state();
+    let entered = Entered {
+        own: &own,
+        arriving: state,
+    };
+    greatest(&potential_of(row), &entered)
+}
+
+/// The rows that may come next after each row of a procedure, in the order of the rows. Those of one row are in the
+/// order of its links.
+pub(crate) fn rows_after_each(
+    alloc: Global,
+    rom: &Rom,
+    map: &Map,
+    certificate: &Certificate,
+    proc: ProcId,
+    links: &mut Links,
+) -> Result<Vec<RowRuns>, AllocError>
+    requires map { map.now ≡ map_of_board certificate.now }
+    requires len { map.now.rom_len ≡ length rom.now }
+{
+    let rows = certificate.rows_of(proc);
+    let mut all = Vec::new(alloc);
+    for row in 0..rows.end.saturating_sub(rows.start) {
+        links.take(alloc, rom, map, certificate, row, &KnownLoops::none())?;
+        let mut runs = RowRuns::new(alloc);
+        for link in links.as_slice() {
+            runs.add(link.to, link.to.saturating_add(1))?;
+        }
+        all.push(runs)?;
+    }
+    Ok(all)
 }

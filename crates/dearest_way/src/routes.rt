@@ -3,7 +3,6 @@
 ghost use Rattle.std.specs.Prelude.{◌≡◌, length};
 
 use crate::entered::Entered;
-use crate::links::links_of;
 use crate::parts::UntimedPart;
 use crate::values::Values;
 use crate::worth::greatest;
@@ -30,15 +29,15 @@ pub(crate) fn route_of(
 ) -> Result<Route, AllocError>
     requires { certificate.now.rom_len ≡ length rom.now }
 {
-    let all = links_of(alloc, rom, certificate, proc)?;
-    let values = Values::of(alloc, &all)?;
-    let first = certificate.rows_of(proc).start;
+    let values = Values::of(alloc, rom, certificate, proc)?;
+    let rows = certificate.rows_of(proc);
+    let first = rows.start;
     let mut route = Route {
         stages: Vec::new(alloc),
         loops: Vec::new(alloc),
     };
     let mut row = dearest_entry(certificate, proc, entry, &values);
-    for _ in 0..all.len() {
+    for _ in rows.start..rows.end {
         let Some(at) = row else {
             break;
         };

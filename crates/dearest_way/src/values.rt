@@ -1,8 +1,15 @@
 // The T-states of the dearest ways from each row, from the exits up.
 
-use crate::links::{Link, Links};
+ghost use Rattle.std.specs.Prelude.{◌≡◌, length};
+ghost use Rattle.cert_form.specs.Contents.{map_of_board};
+
+use crate::links::{KnownLoops, Link, Links, rows_after_each};
+use address_map::{Map, Rom};
+use call_graph::ProcId;
+use cert_contents::Certificate;
+use check_walks::cost_of_leaving;
 use std::alloc::{AllocError, Global};
-use write_requests::{Placed, placed_rows, rows_on_cycles};
+use write_requests::{Placed, RowRuns, placed_rows, rows_on_cycles};
 
 /// The dearest way from a row outside of loops: its T-states, and the next row (None: the row's exit).
 #[derive(Clone, Copy)]
@@ -11,11 +18,13 @@ pub(crate) struct Ahead {
     pub(crate) next: Option<u32>,
 }
 
-/// Where a loop is left: the row from which a link leads out of it, and the row to which it leads.
+/// Where a loop is left: the row from which a link leads out of it, the row to which it leads, and the T-states from
+/// there.
 #[derive(Clone, Copy)]
 pub(crate) struct Leaving {
     pub(crate) from: u32,
     pub(crate) to: u32,
+    value: i64,
 }
 
 /// The dearest ways of a procedure. Rows are counted from its first row.
@@ -33,14 +42,29 @@ pub(crate) struct Values {
 }
 
 impl Values {
-    /// The dearest ways along these links.
-    pub(crate) fn of(alloc: Global, all: &[Links]) -> Result<Values, AllocError> {
-        let mut requests = Vec::new(alloc);
-        for links in all {
-            requests.push(links.requests(alloc)?)?;
+    /// The dearest ways of a procedure.
+    pub(crate) fn of(
+        alloc: Global,
+        rom: &Rom,
+        certificate: &Certificate,
+        proc: ProcId,
+    ) -> Result<Values, AllocError>
+        requires { certificate.now.rom_len ≡ length rom.now }
+    {
+        let map = certificate.board().map(rom.len());
+        let mut links = Links::new(alloc, certificate, proc)?;
+        let runs = rows_after_each(alloc, rom, &map, certificate, proc, &mut links)?;
+        let mut values = Values::grouped(alloc, &runs)?;
+        for place in 0..values.placed.len() {
+            values.take_place(alloc, rom, &map, certificate, place, &mut links)?;
         }
-        let placed = placed_rows(alloc, &requests, &[])?;
-        let loops = rows_on_cycles(alloc, &requests, &placed)?;
+        Ok(values)
+    }
+
+    /// The groups and loops of rows, by the rows that may come next after each. No way is known yet.
+    fn grouped(alloc: Global, runs: &[RowRuns]) -> Result<Values, AllocError> {
+        let placed = placed_rows(alloc, runs, &[])?;
+        let loops = rows_on_cycles(alloc, runs, &placed)?;
         let mut groups = Vec::new(alloc);
         for row in &placed {
             groups.push(row.group)?;
@@ -49,45 +73,66 @@ impl Values {
             placed,
             groups,
             loops,
-            ahead: vec![in alloc; None; all.len()]?,
-            leavings: vec![in alloc; None; all.len()]?,
+            ahead: vec![in alloc; None; runs.len()]?,
+            leavings: vec![in alloc; None; runs.len()]?,
         };
         values
             .placed
             .sort_by_key(|placed| (placed.group, placed.row))?;
-        values.fill(all);
         Ok(values)
     }
 
-    /// Goes through the groups, each after those to which it leads.
-    fn fill(&mut self, all: &[Links]) {
-        let mut open: Option<(u16, Option<(i64, Leaving)>)> = None;
-        for place in 0..self.placed.len() {
-            let Some(placed) = self.placed.get(place).copied() else {
-                continue;
-            };
-            let row = u32::from(placed.row);
-            let Some(links) = all.get(usize::from(placed.row)) else {
-                continue;
-            };
-            if !self.is_in_loop(row) {
-                let ahead = self.dearest_from(links);
-                if let Some(entry) = self.ahead.get_mut(usize::from(placed.row)) {
-                    *entry = ahead;
-                }
-                continue;
+    /// Takes the row at a place of the groups. Those of the groups to which it leads have to be taken before.
+    fn take_place(
+        &mut self,
+        alloc: Global,
+        rom: &Rom,
+        map: &Map,
+        certificate: &Certificate,
+        place: usize,
+        links: &mut Links,
+    ) -> Result<(), AllocError>
+        requires map { map.now ≡ map_of_board certificate.now }
+        requires len { map.now.rom_len ≡ length rom.now }
+    {
+        let Some(placed) = self.placed.get(place).copied() else {
+            return Ok(());
+        };
+        let row = u32::from(placed.row);
+        links.take(alloc, rom, map, certificate, row, &self.known_at(placed))?;
+        if self.is_in_loop(row) {
+            self.leave_loop(placed, links.as_slice());
+        } else {
+            let id = links.first().saturating_add(row);
+            let exit = cost_of_leaving(alloc, rom, map, certificate, id);
+            let ahead = self.dearest_from(exit, links.as_slice());
+            if let Some(entry) = self.ahead.get_mut(usize::from(placed.row)) {
+                *entry = ahead;
             }
-            let before = match open {
-                Some((group, best)) if group == placed.group => best,
-                _ => None,
-            };
-            let best = self.dearest_out(row, placed.group, links, before);
-            open = Some((placed.group, best));
-            if let Some((_, leaving)) = best {
-                if let Some(entry) = self.leavings.get_mut(usize::from(placed.group)) {
-                    *entry = Some(leaving);
-                }
-            }
+        }
+        Ok(())
+    }
+
+    /// What is known of loops for the links from a row.
+    fn known_at(&self, placed: Placed) -> KnownLoops<'_> {
+        KnownLoops {
+            loops: self.loops.as_slice(),
+            groups: self.groups.as_slice(),
+            own: if self.is_in_loop(u32::from(placed.row)) {
+                Some(placed.group)
+            } else {
+                None
+            },
+        }
+    }
+
+    /// Compares the links out of the loop of a row with those of the rows before it.
+    fn leave_loop(&mut self, placed: Placed, links: &[Link]) {
+        let place = usize::from(placed.group);
+        let before = self.leavings.get(place).copied().unwrap_or(None);
+        let best = self.dearest_out(u32::from(placed.row), links, before);
+        if let Some(entry) = self.leavings.get_mut(place) {
+            *entry = best;
         }
     }
 
@@ -111,15 +156,15 @@ impl Values {
     }
 
     /// The dearest of the exit and the links of a row outside of loops: the exit if it costs as much, else the first.
-    fn dearest_from(&self, links: &Links) -> Option<Ahead> {
-        let mut best = match links.exit {
+    fn dearest_from(&self, exit: Option<u32>, links: &[Link]) -> Option<Ahead> {
+        let mut best = match exit {
             Some(cost) => Some(Ahead {
                 sum: i64::from(cost),
                 next: None,
             }),
             None => None,
         };
-        for link in &links.to {
+        for link in links {
             if let Some(value) = self.value_of(link) {
                 let sum = value.saturating_add(i64::from(link.cost));
                 if is_dearer(sum, best) {
@@ -134,26 +179,20 @@ impl Values {
     }
 
     /// The dearest link out of a loop, among those before and those of one more row.
-    fn dearest_out(
-        &self,
-        row: u32,
-        group: u16,
-        links: &Links,
-        before: Option<(i64, Leaving)>,
-    ) -> Option<(i64, Leaving)> {
+    fn dearest_out(&self, row: u32, links: &[Link], before: Option<Leaving>) -> Option<Leaving> {
         let mut best = before;
-        for link in &links.to {
-            if self.group_of(link.to) == Some(group) {
-                continue;
-            }
+        for link in links {
             if let Some(value) = self.value_of(link) {
                 let is_better = match best {
-                    Some((most, _)) => value > most,
+                    Some(leaving) => value > leaving.value,
                     None => true,
                 };
                 if is_better {
-                    let to = link.to;
-                    best = Some((value, Leaving { from: row, to }));
+                    best = Some(Leaving {
+                        from: row,
+                        to: link.to,
+                        value,
+                    });
                 }
             }
         }

@@ -16,6 +16,8 @@ pub enum ItemKind {
     Call(ProcId, u32, u32),
     /// A loop, by its number among the loops of the way.
     Loop(usize),
+    /// The whole procedure with what it calls, as one loop: its way takes too many comparisons.
+    Whole(usize),
 }
 
 /// An item of a way: rows that follow one another, a call, or a loop.
@@ -39,12 +41,15 @@ impl Item {
             (ItemKind::Call(callee, _, _), ItemKind::Call(other_callee, _, _)) => {
                 callee == other_callee
             }
-            (ItemKind::Loop(_), ItemKind::Loop(_)) => true,
+            (ItemKind::Loop(_), ItemKind::Loop(_)) | (ItemKind::Whole(_), ItemKind::Whole(_)) => {
+                true
+            }
             (
                 ItemKind::Accepted
                 | ItemKind::Run(_, _)
                 | ItemKind::Call(_, _, _)
-                | ItemKind::Loop(_),
+                | ItemKind::Loop(_)
+                | ItemKind::Whole(_),
                 _,
             ) => false,
         };
@@ -52,7 +57,7 @@ impl Item {
     }
 }
 
-/// A loop of a way.
+/// A loop of a way, or a whole procedure.
 #[derive(Drop)]
 pub struct LoopItem {
     /// The row at which the way enters it.

@@ -5,21 +5,30 @@ use crate::items::{Item, ItemKind, LoopItem, ProcWalk};
 use abs_step::NextKind;
 use call_graph::ProcId;
 use cert_checker::Accepted;
-use certificate::RowId;
+use certificate::{Proc, RowId};
 use check_cover::callee_at;
 use check_ways::{Subject, cost_before};
-use dearest_way::{DearestWay, WayFault, WayPart, dearest};
+use dearest_way::{DearestWay, WayFault, WayPart, comparisons, dearest};
 use listing::View;
 use std::alloc::{AllocError, Global};
 
-/// The dearest way of a procedure; None if it has no time.
+/// The most comparisons for the ways of a procedure and of those that it calls.
+pub(crate) const COMPARISONS: u64 = 100_000_000;
+
+/// The dearest way of a procedure; None if it has no time. `left` is how many comparisons it may take, less what it
+/// takes afterwards. If it would take more, the way is the whole procedure.
 pub(crate) fn walk_of(
     alloc: Global,
     view: &View,
     proc: ProcId,
+    left: &mut u64,
 ) -> Result<Option<ProcWalk>, AllocError> {
     let accepted = view.accepted();
-    let Some(procedure) = accepted.certificate().proc(proc) else {
+    let (rom, certificate) = (accepted.rom(), accepted.certificate());
+    let Some(procedure) = certificate.proc(proc) else {
+        return Ok(None);
+    };
+    let Some(time) = procedure.time else {
         return Ok(None);
     };
     let mut walk = ProcWalk {
@@ -30,22 +39,25 @@ pub(crate) fn walk_of(
         loops: Vec::new(alloc),
         segments: Vec::new(alloc),
     };
-    match dearest(alloc, accepted.rom(), accepted.certificate(), proc) {
-        Ok(way) => {
-            walk.sum = way.sum;
-            let before = cost_before(procedure.kind);
-            if before > 0 {
-                walk.add(Item {
-                    kind: ItemKind::Accepted,
-                    address: procedure.entry,
-                    cost: before,
-                })?;
+    match comparisons(alloc, rom, certificate, proc, *left) {
+        Some(count) => {
+            *left = left.saturating_sub(count);
+            match dearest(alloc, rom, certificate, proc) {
+                Ok(way) => {
+                    walk.add_acceptance(&procedure)?;
+                    walk.add_way(alloc, view, &way)?;
+                    walk.sum = way.sum;
+                }
+                Err(WayFault::NoWay) => {}
+                Err(WayFault::Untimed) => return Ok(None),
+                Err(WayFault::NoMemory) => return Err(AllocError),
             }
-            walk.add_way(alloc, view, &way)?;
         }
-        Err(WayFault::NoWay) => {}
-        Err(WayFault::Untimed) => return Ok(None),
-        Err(WayFault::NoMemory) => return Err(AllocError),
+        None => {
+            let before = walk.add_acceptance(&procedure)?;
+            walk.add_whole(alloc, view, &procedure, time.saturating_sub(before))?;
+            walk.sum = time;
+        }
     }
     walk.segments = folded(alloc, &walk.items)?;
     Ok(Some(walk))
@@ -57,6 +69,51 @@ impl ProcWalk {
         self.steps.push(item)?;
         self.items.push(item)?;
         Ok(())
+    }
+
+    /// Adds the acceptance of an NMI before its routine. The result is its T-states.
+    fn add_acceptance(&mut self, procedure: &Proc) -> Result<u32, AllocError> {
+        let before = cost_before(procedure.kind);
+        if before > 0 {
+            self.add(Item {
+                kind: ItemKind::Accepted,
+                address: procedure.entry,
+                cost: before,
+            })?;
+        }
+        Ok(before)
+    }
+
+    /// Adds the whole procedure as one item.
+    fn add_whole(
+        &mut self,
+        alloc: Global,
+        view: &View,
+        procedure: &Proc,
+        cost: u32,
+    ) -> Result<(), AllocError> {
+        let certificate = view.accepted().certificate();
+        let rows = certificate.rows_of(self.proc);
+        let mut found = LoopItem {
+            row: certificate.rows_at(self.proc, procedure.entry).start,
+            addresses: Vec::new(alloc),
+            turns: None,
+            callees: callees_of(alloc, view, self.proc)?,
+        };
+        for row in rows.start..rows.end {
+            if let Some(at) = certificate.address(row) {
+                if found.addresses.last() != Some(&at) {
+                    found.addresses.push(at)?;
+                }
+            }
+        }
+        let number = self.loops.len();
+        self.loops.push(found)?;
+        self.add(Item {
+            kind: ItemKind::Whole(number),
+            address: procedure.entry,
+            cost,
+        })
     }
 
     /// Adds the items of a way.
@@ -154,6 +211,20 @@ impl ProcWalk {
             cost: part.cost,
         })
     }
+}
+
+/// The procedures that a procedure calls, rising.
+fn callees_of(alloc: Global, view: &View, proc: ProcId) -> Result<Vec<ProcId>, AllocError> {
+    let mut callees = Vec::new(alloc);
+    let mut number: ProcId = 0;
+    for _ in view.accepted().certificate().procs() {
+        let places = view.survey().calls().of(number);
+        if places.iter().any(|place| place.caller == proc) {
+            callees.push(number)?;
+        }
+        number = number.saturating_add(1);
+    }
+    Ok(callees)
 }
 
 /// The address after the instruction at an address.

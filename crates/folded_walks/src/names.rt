@@ -1,6 +1,7 @@
 // The texts of items.
 
 use crate::items::{Item, ItemKind, LoopItem, ProcWalk};
+use crate::made::COMPARISONS;
 use call_graph::ProcId;
 use disassembly::spelled;
 use listing::View;
@@ -14,7 +15,10 @@ pub fn address_text(alloc: Global, item: &Item, walk: &ProcWalk) -> Result<Strin
         ItemKind::Accepted => return Ok(String::new(alloc)),
         ItemKind::Run(last, _) => (item.address, last),
         ItemKind::Call(_, _, _) => (item.address, item.address),
-        ItemKind::Loop(number) => ends_of(walk.loops.get(number), item.address),
+        ItemKind::Loop(number) | ItemKind::Whole(number) => ends_of(
+            walk.loops.get(number),
+            item.address,
+        ),
     };
     if first == last {
         format!(in alloc; "{first:04X}")
@@ -54,6 +58,7 @@ pub fn item_text(
             Some(found) => loop_text(alloc, view, found),
             None => String::from_str(alloc, "loop"),
         },
+        ItemKind::Whole(number) => whole_text(alloc, view, walk.loops.get(number)),
     }
 }
 
@@ -78,7 +83,7 @@ fn named_proc(alloc: Global, view: &View, proc: ProcId) -> Result<String, AllocE
 
 /// The text of a loop: its turns, or the potential that bounds it, and the procedures that it calls.
 fn loop_text(alloc: Global, view: &View, found: &LoopItem) -> Result<String, AllocError> {
-    let mut text = match found.turns {
+    let text = match found.turns {
         Some(turns) => {
             let counter = counter_text(alloc, view, found)?;
             format!(in alloc;
@@ -91,6 +96,22 @@ fn loop_text(alloc: Global, view: &View, found: &LoopItem) -> Result<String, All
             format!(in alloc; "loop, bounded by {bound}")?
         }
     };
+    with_callees(view, text, found)
+}
+
+/// The text of a whole procedure: why its way is not shown, and the procedures that it calls.
+fn whole_text(alloc: Global, view: &View, found: Option<&LoopItem>) -> Result<String, AllocError> {
+    let most = COMPARISONS;
+    let text = format!(in alloc; "as a whole: its way takes over {most} comparisons")?;
+    match found {
+        Some(found) => with_callees(view, text, found),
+        None => Ok(text),
+    }
+}
+
+/// A text with the procedures that a loop calls behind it.
+fn with_callees(view: &View, text: String, found: &LoopItem) -> Result<String, AllocError> {
+    let mut text = text;
     let mut is_first = true;
     for callee in &found.callees {
         if let Some(procedure) = view.accepted().certificate().proc(*callee) {

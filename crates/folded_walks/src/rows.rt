@@ -20,13 +20,13 @@ pub(crate) fn write_step<W: Sink>(
 ) -> Result<(), ListFault> {
     let place = match step.kind {
         ItemKind::Accepted => String::new(alloc),
-        ItemKind::Run(_, _) | ItemKind::Call(_, _, _) | ItemKind::Loop(_) => {
+        ItemKind::Run(_, _) | ItemKind::Call(_, _, _) | ItemKind::Loop(_) | ItemKind::Whole(_) => {
             format!(in alloc; "{:04X}", step.address)?
         }
     };
     let text = match step.kind {
         ItemKind::Run(_, _) => instr_text(alloc, view, step.address)?,
-        ItemKind::Accepted | ItemKind::Call(_, _, _) | ItemKind::Loop(_) => {
+        ItemKind::Accepted | ItemKind::Call(_, _, _) | ItemKind::Loop(_) | ItemKind::Whole(_) => {
             item_text(alloc, view, step, walk)?
         }
     };

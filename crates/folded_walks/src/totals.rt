@@ -1,7 +1,7 @@
 // The dearest ways of a procedure and of those that it calls, added up by procedure.
 
 use crate::items::{ItemKind, ProcWalk};
-use crate::made::walk_of;
+use crate::made::{COMPARISONS, walk_of};
 use call_graph::ProcId;
 use listing::View;
 use std::alloc::{AllocError, Global};
@@ -14,7 +14,7 @@ pub struct Total {
     pub times: u64,
     /// The T-states of its own instructions, all times together.
     pub own: u64,
-    /// The T-states of its loops, with what they call.
+    /// The T-states of its loops, or of all of it where it is given as a whole, with what they call.
     pub loops: u64,
 }
 
@@ -31,7 +31,8 @@ pub struct Walks {
 }
 
 impl Walks {
-    /// The dearest way of a procedure; None if it has no time.
+    /// The dearest way of a procedure; None if it has no time. Where it takes too many comparisons, callers first, a
+    /// procedure is given as a whole.
     pub fn of(alloc: Global, view: &View, root: ProcId) -> Result<Option<Walks>, AllocError> {
         let procs = view.accepted().certificate().procs();
         let mut walks = Walks {
@@ -53,10 +54,11 @@ impl Walks {
         if let Some(first) = times.get_mut(usize::from(root)) {
             *first = 1;
         }
+        let mut left = COMPARISONS;
         for (_, proc) in &order {
             let count = times.get(usize::from(*proc)).copied().unwrap_or(0);
             if count > 0 {
-                if let Some(walk) = walk_of(alloc, view, *proc)? {
+                if let Some(walk) = walk_of(alloc, view, *proc, &mut left)? {
                     walks.add(walk, count, &mut times)?;
                 }
             }
@@ -88,7 +90,7 @@ impl Walks {
                         *place = place.saturating_add(count);
                     }
                 }
-                ItemKind::Loop(_) => {
+                ItemKind::Loop(_) | ItemKind::Whole(_) => {
                     loops = loops.saturating_add(u64::from(item.cost));
                 }
             }

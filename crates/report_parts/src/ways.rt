@@ -33,7 +33,7 @@ impl Ways {
     fn take(&mut self, walk: &ProcWalk, times: u64) {
         for step in &walk.steps {
             match step.kind {
-                ItemKind::Accepted => {}
+                ItemKind::Accepted | ItemKind::Whole(_) => {}
                 ItemKind::Run(_, _) | ItemKind::Call(_, _, _) => self.add(step.address, times),
                 ItemKind::Loop(number) => {
                     if let Some(found) = walk.loops.get(number) {

@@ -202,7 +202,7 @@ fn add_item(
             page.raw("</span>");
             Ok(())
         }
-        ItemKind::Accepted | ItemKind::Run(_, _) | ItemKind::Loop(_) => {
+        ItemKind::Accepted | ItemKind::Run(_, _) | ItemKind::Loop(_) | ItemKind::Whole(_) => {
             page.made(item_text(report.alloc, &report.view, item, walk));
             Ok(())
         }

@@ -165,7 +165,7 @@ fn inner_of(
     let mut inner: Vec<(u64, Block)> = Vec::new(report.alloc);
     for item in &walk.items {
         match item.kind {
-            ItemKind::Accepted | ItemKind::Run(_, _) => {}
+            ItemKind::Accepted | ItemKind::Run(_, _) | ItemKind::Whole(_) => {}
             ItemKind::Call(callee, _, time) => {
                 add_call(&mut inner, callee, u64::from(time), sum, depth)?;
             }

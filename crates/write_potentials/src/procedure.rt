@@ -12,7 +12,9 @@ use cert_contents::Certificate;
 use loop_bounds::Linear;
 use std::alloc::Global;
 use write_payments::Choice;
-use write_requests::{Placed, Requests, Turns, placed_rows, requests_of, rows_on_cycles};
+use write_requests::{
+    Placed, Requests, RowRuns, Turns, placed_rows, requests_of, rows_on_cycles, runs_of,
+};
 
 /// A potential for each row of a procedure, in the order of the rows (docs/ANALYSIS.md, "Potentials"). `times` has the
 /// T-states of procedures by their numbers. `nesting` says whether loops within loops are bounded (docs/INFERENCE.md,
@@ -38,9 +40,9 @@ pub fn potentials(
     let all = requests_of(alloc, rom, certificate, proc, times)?;
     let counters = counters_of(alloc, certificate, rows, notes)?;
     let named = named_of(alloc, &counters)?;
-    let apart = apart_from_loops(alloc, certificate, first, &all, &named)?;
+    let searched = searched(alloc, certificate, first, &all, &named)?;
     let mut solving = Solving::new(alloc, certificate, first, &all, nesting)?;
-    solve_all(alloc, &mut solving, &all, &counters, &named, &apart)?;
+    solve_all(alloc, &mut solving, &all, &counters, &named, &searched)?;
     let mut list = Vec::new(alloc);
     for row in 0..all.len() {
         list.push(solving.potential(row))?;
@@ -57,16 +59,45 @@ fn named_of(alloc: Global, counters: &[Option<Counter>]) -> Result<Vec<bool>, Po
     Ok(named)
 }
 
-/// The search through the rows of a procedure without those that have a counter. A cycle of these is a fault.
-fn apart_from_loops(
+/// What searches through the rows of a procedure find.
+#[derive(Drop)]
+struct Searched {
+    placed: Vec<Placed>,
+    on_cycles: Vec<bool>,
+    /// By the search that leaves out the rows with a counter.
+    apart: Vec<Placed>,
+}
+
+/// What searches through the rows of a procedure find. A cycle of rows without a counter is a fault.
+fn searched(
     alloc: Global,
     certificate: &Certificate,
     first: u32,
     all: &[Requests],
     named: &[bool],
+) -> Result<Searched, PotentialFault> {
+    let runs = runs_of(alloc, all)?;
+    let apart = apart_from_loops(alloc, certificate, first, &runs, named)?;
+    let none = vec![in alloc; false; all.len()]?;
+    let placed = placed_rows(alloc, &runs, &none)?;
+    let on_cycles = rows_on_cycles(alloc, &runs, &placed)?;
+    Ok(Searched {
+        placed,
+        on_cycles,
+        apart,
+    })
+}
+
+/// The search through the rows of a procedure without those that have a counter. A cycle of these is a fault.
+fn apart_from_loops(
+    alloc: Global,
+    certificate: &Certificate,
+    first: u32,
+    runs: &[RowRuns],
+    named: &[bool],
 ) -> Result<Vec<Placed>, PotentialFault> {
-    let apart = placed_rows(alloc, all, named)?;
-    let on_cycles = rows_on_cycles(alloc, all, &apart)?;
+    let apart = placed_rows(alloc, runs, named)?;
+    let on_cycles = rows_on_cycles(alloc, runs, &apart)?;
     match on_cycles.iter().position(|on_one| *on_one) {
         None => Ok(apart),
         Some(row) => {
@@ -84,20 +115,15 @@ fn solve_all(
     all: &[Requests],
     counters: &[Option<Counter>],
     named: &[bool],
-    apart: &[Placed],
+    searched: &Searched,
 ) -> Result<(), PotentialFault> {
-    let none = vec![in alloc; false; all.len()]?;
-    let placed = placed_rows(alloc, all, &none)?;
-    let on_cycles = rows_on_cycles(alloc, all, &placed)?;
-    let sorted = by_groups(alloc, &placed)?;
-    let mut turns = Turns::new(alloc, all, &placed, named)?;
+    let sorted = by_groups(alloc, &searched.placed)?;
+    let mut turns = Turns::new(alloc, all, &searched.placed, named)?;
     let mut rest = sorted.as_slice();
     for _ in 0..sorted.len() {
         let (rows, behind) = first_group(rest);
         rest = behind;
-        solve(
-            alloc, solving, &mut turns, rows, &on_cycles, counters, apart,
-        )?;
+        solve(alloc, solving, &mut turns, rows, counters, searched)?;
     }
     Ok(())
 }
@@ -124,15 +150,15 @@ fn solve(
     solving: &mut Solving,
     turns: &mut Turns,
     rows: &[Placed],
-    on_cycles: &[bool],
     counters: &[Option<Counter>],
-    apart: &[Placed],
+    searched: &Searched,
 ) -> Result<(), PotentialFault> {
     let Some(first) = rows.first().copied() else {
         return Ok(());
     };
+    let on_cycles = searched.on_cycles.as_slice();
     if on_cycles.get(usize::from(first.row)).copied() == Some(true) {
-        let mut group = group_of(alloc, turns, rows, counters, apart)?;
+        let mut group = group_of(alloc, turns, rows, counters, &searched.apart)?;
         return solving.solve(&mut group);
     }
     solving

@@ -1,6 +1,7 @@
 // The potentials of rows, by those of the rows that come next.
 
 use crate::fault::PotentialFault;
+use crate::heads::{exchange_turns, give_first_up, restore_turns, set_zero, share_turns};
 use cert_contents::Certificate;
 use loop_bounds::{GREATEST_CONSTANT, Linear};
 use std::alloc::Global;
@@ -24,6 +25,8 @@ pub(crate) struct Head {
     pub(crate) turn: Linear,
     /// The same without the turns of loops within it.
     pub(crate) bare_turn: Linear,
+    /// The multiple for the turns that rows at its address share: paths from one of them to one of them.
+    pub(crate) shared_turn: Linear,
     /// The multiple for the longest turn of the group, which may pass other loops' rows.
     pub(crate) longest_turn: Linear,
     /// Whether it has own turns, which pass no other loop's row.
@@ -149,11 +152,18 @@ impl<'a> Solving<'a> {
         })
     }
 
-    /// Makes the potentials of a group (docs/ANALYSIS.md, "Loops"). If the rounds do not come to rest, each turn counts
-    /// as the longest. If they still do not, one loop's row after another gets the constant 0.
+    /// Makes the potentials of a group (docs/ANALYSIS.md, "Loops"). If the rounds do not come to rest, rows at one
+    /// address share their turns, and then each turn counts as the longest. If they still do not, one loop's row after
+    /// another gets the constant 0.
     pub(crate) fn solve(&mut self, group: &mut Group) -> Result<(), PotentialFault> {
         if self.comes_to_rest(group) {
             return self.refine(group);
+        }
+        if share_turns(&mut group.heads) {
+            if self.comes_to_rest(group) {
+                return self.refine(group);
+            }
+            restore_turns(&mut group.heads);
         }
         if self.nesting == Nesting::Carried {
             self.carries = true;
@@ -365,43 +375,6 @@ fn turn_costing(head: &Head, needed: i32) -> Option<Linear> {
         cost
     };
     multiple_of(term.variable, signed)
-}
-
-fn set_zero(heads: &mut [Head], place: usize) {
-    if let Some(head) = heads.get_mut(place) {
-        head.is_zero = true;
-    }
-}
-
-/// Gives the constant 0 to the first loop's row without it that has no own turns, or else to the first without it.
-fn give_first_up(heads: &mut [Head]) {
-    let outer = heads
-        .iter()
-        .position(|head| !head.is_zero && !head.has_own_turns);
-    let first = match outer {
-        Some(place) => Some(place),
-        None => heads.iter().position(|head| !head.is_zero),
-    };
-    if let Some(place) = first {
-        set_zero(heads, place);
-    }
-}
-
-/// Gives each of these rows the turn without those of loops within it.
-fn restore_turns(heads: &mut [Head]) {
-    for head in heads {
-        head.turn = head.bare_turn;
-        head.waits = false;
-    }
-}
-
-/// Exchanges the own turn and the longest turn of each of these rows.
-fn exchange_turns(heads: &mut [Head]) {
-    for head in heads {
-        let turn = head.turn;
-        head.turn = head.longest_turn;
-        head.longest_turn = turn;
-    }
 }
 
 /// A constant as a linear, if a certificate has room for it.

@@ -1,7 +1,7 @@
 // Which rows are on a cycle of links.
 
 use crate::groups::Placed;
-use crate::requests::Requests;
+use crate::runs::RowRuns;
 use std::alloc::{AllocError, Global};
 
 /// The number of rows of each group, by the groups' numbers.
@@ -15,16 +15,17 @@ fn sizes_of(alloc: Global, placed: &[Placed]) -> Result<Vec<u32>, AllocError> {
     Ok(sizes)
 }
 
-/// Whether a row with these requests may come next after itself.
-fn leads_to_itself(requests: &Requests, row: u16) -> bool {
-    requests.of_rows.iter().any(|request| request.start <= u32::from(row)
-        && u32::from(row) < request.end)
+/// Whether a row may come next after itself.
+fn leads_to_itself(runs: &RowRuns, row: u16) -> bool {
+    runs.as_slice()
+        .iter()
+        .any(|run| run.start <= row && row < run.end)
 }
 
 /// Which rows are on a cycle, by their numbers: those in a group with other rows, and those that lead to themselves.
 pub fn rows_on_cycles(
     alloc: Global,
-    all: &[Requests],
+    all: &[RowRuns],
     placed: &[Placed],
 ) -> Result<Vec<bool>, AllocError> {
     let sizes = sizes_of(alloc, placed)?;
@@ -32,7 +33,7 @@ pub fn rows_on_cycles(
     for row in placed {
         let is_one_of_more = sizes.get(usize::from(row.group)).copied() > Some(1);
         let leads_back = match all.get(usize::from(row.row)) {
-            Some(requests) => leads_to_itself(requests, row.row),
+            Some(runs) => leads_to_itself(runs, row.row),
             None => false,
         };
         on_cycles.push(row.is_in_group() && (is_one_of_more || leads_back))?;

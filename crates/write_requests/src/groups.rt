@@ -1,6 +1,6 @@
 // The groups of a procedure's rows: its strongly connected components. The depth-first search keeps a stack of rows.
 
-use crate::requests::Requests;
+use crate::runs::RowRuns;
 use std::alloc::{AllocError, Global};
 
 /// What the search knows of a row.
@@ -14,14 +14,14 @@ enum Mark {
 }
 
 /// A row on the search's path: its place on the stack, the lowest place to which it is known to lead, and the next link
-/// to follow.
+/// to follow: the place of its run, and of its row in the run.
 #[derive(Clone, Copy)]
 struct Visit {
     row: u16,
     place: usize,
     low: usize,
-    request: usize,
-    next: u32,
+    run: usize,
+    next: u16,
 }
 
 /// The number of no group: a procedure has at most 65,535 rows, so no group has it.
@@ -46,7 +46,7 @@ impl Placed {
 /// A depth-first search along the links.
 #[derive(Drop)]
 struct Walk<'a> {
-    all: &'a [Requests],
+    all: &'a [RowRuns],
     marks: Vec<Mark>,
     met: Vec<u16>,
     path: Vec<Visit>,
@@ -56,11 +56,11 @@ struct Walk<'a> {
     left: u16,
 }
 
-/// The rows of a procedure, by their numbers, each with its group. Rows of `left_out` get none. The error is refused
-/// memory.
+/// The rows of a procedure, by their numbers, each with its group, by the rows that may come next after each. Rows of
+/// `left_out` get none. The error is refused memory.
 pub fn placed_rows(
     alloc: Global,
-    all: &[Requests],
+    all: &[RowRuns],
     left_out: &[bool],
 ) -> Result<Vec<Placed>, AllocError> {
     let mut walk = Walk::new(alloc, all, left_out)?;
@@ -70,20 +70,20 @@ pub fn placed_rows(
     Ok(walk.placed)
 }
 
-/// The most steps of a search: two for each row, and for each request one more than it has rows.
-fn steps_through(all: &[Requests]) -> u64 {
+/// The most steps of a search: two for each row, and for each run one more than it has rows.
+fn steps_through(all: &[RowRuns]) -> u64 {
     let mut steps = 0u64;
-    for requests in all {
-        steps = steps.saturating_add(steps_from(requests));
+    for runs in all {
+        steps = steps.saturating_add(steps_from(runs));
     }
     steps
 }
 
 /// The most steps of a search at a row.
-fn steps_from(requests: &Requests) -> u64 {
+fn steps_from(runs: &RowRuns) -> u64 {
     let mut steps = 2u64;
-    for request in requests.of_rows.as_slice() {
-        let rows = request.end.saturating_sub(request.start);
+    for run in runs.as_slice() {
+        let rows = run.end.saturating_sub(run.start);
         steps = steps.saturating_add(u64::from(rows)).saturating_add(1);
     }
     steps
@@ -95,7 +95,7 @@ fn row_number(row: usize) -> u16 {
 }
 
 impl<'a> Walk<'a> {
-    fn new(alloc: Global, all: &'a [Requests], left_out: &[bool]) -> Result<Walk<'a>, AllocError> {
+    fn new(alloc: Global, all: &'a [RowRuns], left_out: &[bool]) -> Result<Walk<'a>, AllocError> {
         let mut marks = Vec::new(alloc);
         let mut placed = Vec::new(alloc);
         for row in 0..all.len() {
@@ -135,21 +135,21 @@ impl<'a> Walk<'a> {
     fn follow(&mut self, frame: Visit) -> Result<(), AllocError> {
         let mut frame = frame;
         let all = self.all;
-        let Some(requests) = all.get(usize::from(frame.row)) else {
+        let Some(runs) = all.get(usize::from(frame.row)) else {
             return Ok(());
         };
-        let Some(request) = requests.of_rows.as_slice().get(frame.request) else {
+        let Some(run) = runs.as_slice().get(frame.run) else {
             return self.leave(frame);
         };
-        let to = request.start.saturating_add(frame.next);
-        if to >= request.end {
-            frame.request = frame.request.saturating_add(1);
+        let to = run.start.saturating_add(frame.next);
+        if to >= run.end {
+            frame.run = frame.run.saturating_add(1);
             frame.next = 0;
             self.path.push(frame)?;
             return Ok(());
         }
         frame.next = frame.next.saturating_add(1);
-        self.arrive(frame, row_number(to as usize))
+        self.arrive(frame, to)
     }
 
     /// Follows the link to a row.
@@ -175,7 +175,7 @@ impl<'a> Walk<'a> {
                 row,
                 place,
                 low: place,
-                request: 0,
+                run: 0,
                 next: 0,
             })?;
         }

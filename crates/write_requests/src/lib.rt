@@ -5,9 +5,11 @@
 mod cycles;
 mod groups;
 mod requests;
+mod runs;
 mod turns;
 
 pub use cycles::rows_on_cycles;
 pub use groups::{Placed, placed_rows};
 pub use requests::{Request, Requests, requests_of};
+pub use runs::{RowRuns, runs_of};
 pub use turns::Turns;

@@ -49,6 +49,32 @@ impl<'a> Turns<'a> {
         self.cost_by(group, head, true)
     }
 
+    /// The greatest cost of a path from one of these loops' rows to one of them that passes no loop's row; None if there
+    /// is none. `others` are the rows of the group that are no loops' rows, each after those others to which it links.
+    pub fn cost_among(&mut self, group: &[Placed], others: &[u16], heads: &[u16]) -> Option<u64> {
+        self.forget(group);
+        swap(&mut self.before, &mut self.ways);
+        self.forget(group);
+        for head in heads {
+            self.set_both(*head, Some(0));
+        }
+        for row in others {
+            let way = self.way_from(*row);
+            self.set_both(*row, way);
+        }
+        let mut most = None;
+        for head in heads {
+            most = most.max(self.way_from(*head));
+        }
+        most
+    }
+
+    /// Sets the path from a row, however many back links it has.
+    fn set_both(&mut self, row: u16, way: Option<u64>) {
+        set(&mut self.ways, row, way);
+        set(&mut self.before, row, way);
+    }
+
     /// The greatest cost of a path from a loop's row back to it, among those with the fewest back links. `passes` says
     /// whether it may pass other loops' rows.
     fn cost_by(&mut self, group: &[Placed], head: u16, passes: bool) -> Option<u64> {
