@@ -78,12 +78,12 @@ after_covers caller w e h =
     }
 
 -- by a row without claims, or by one whose claims are known back from each exit
-one_wide : (cert : CertificateView) (s : SubjectView) (next : Next) (callee : Callee) (wide exit : AbsState) → Widens wide exit → WideCovered cert s next wide → ReturnCovered cert s next callee exit
+one_wide : (cert : CertificateView) (s : SubjectView) (next : Next) (callee : Callee) (wide exit : AbsState) → Widens wide (bare exit) → WideCovered cert s next wide → ReturnCovered cert s next callee exit
 one_wide cert s next callee wide exit over (inl plain) =
-    covered_plain cert (return_way s next callee exit).arrival (after_call next.state wide) (after_call next.state exit) plain (after_covers next.state wide exit over)
+    covered_plain cert (return_way s next callee exit).arrival (after_call next.state wide) (after_call next.state exit) plain (after_covers next.state wide (bare exit) over)
 one_wide cert s next callee wide exit over (inr whole) =
     covered_whole cert (bare_arrival s next wide) (return_way s next callee exit).arrival (after_call next.state wide) (after_call next.state exit)
-    (hands_back s next callee wide exit whole.version over.1) whole.whole (after_covers next.state wide exit over)
+    (hands_back s next callee wide exit whole.version over.1) whole.whole (after_covers next.state wide (bare exit) over)
 
 wide_each : (cert : CertificateView) (s : SubjectView) (next : Next) (callee : Callee) (lefts : List Left) (wides : List AbsState) →
     IsInForm s.cert → AreLeft s.rom s.cert callee.number lefts → WidensEach lefts wides → WidesCovered cert s next wides → OnEachExit s callee.number (ReturnCovered cert s next callee)
@@ -91,7 +91,7 @@ wide_each cert s next callee lefts wides form left widens covered = record {
   each = λ exit leaves.
       let listed = left.each (left_of exit) (is_left s.rom s.cert callee.number exit form leaves) in
       let widened : IsWidened wides (bare exit) = subst (λ (e : AbsState). IsWidened wides e) (left_bare exit) (widens.each (left_of exit) listed) in
-      one_wide cert s next callee widened.wide (bare exit) widened.over (covered.each widened.wide widened.listed);
+      one_wide cert s next callee widened.wide exit widened.over (covered.each widened.wide widened.listed);
 }
 
 by_wides : (cert : CertificateView) (s : SubjectView) (next : Next) (callee : Callee) (lefts : List Left) (wides : List AbsState) →
