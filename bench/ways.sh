@@ -4,10 +4,9 @@
 # usage: bench/ways.sh [PROGRAM [ROWS]..]      PROGRAM is ./galcert where none is named; ROWS are 4000 16000 65000
 #
 # It makes ROMs with certificates that are accepted, of about so many rows: an NMI routine of two addresses where each row meets each; procedures where
-# each meets every other one, and where each meets one; calls of a procedure with many exits, each at its address or all at one; a
-# loop of rows that lead to one another; straight-line code; and rows told apart at each address. `PROGRAM verify`,
-# `longest`, `longest --rows`, `list` and `report` are each run once. What is told are the processor time and the greatest memory of each, and the first
-# item of the way (docs/LONGEST.md).
+# each meets every other one, and where each meets one; calls of a procedure with many exits, each at its address or all at one; a loop of rows that lead
+# to one another; straight-line code; and rows told apart at each address. `PROGRAM verify`, `longest`, `longest --rows`, `list` and `report` are each run
+# once. What is told are the processor time and the greatest memory of each, and the first item of the way (docs/LONGEST.md).
 set -eu
 cd "$(dirname "$0")/.."
 program=${1:-./galcert}

@@ -2,7 +2,7 @@
 #![tactic(auto)]
 
 mod arrivals;
-mod comparisons;
+mod counting;
 mod entered;
 mod fault;
 mod links;
@@ -12,7 +12,7 @@ mod values;
 mod ways;
 mod worth;
 
-pub use comparisons::comparisons;
+pub use counting::comparisons;
 pub use fault::WayFault;
 pub use parts::{LoopTurns, WayPart};
 pub use ways::{DearestWay, dearest};

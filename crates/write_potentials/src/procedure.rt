@@ -40,9 +40,9 @@ pub fn potentials(
     let all = requests_of(alloc, rom, certificate, proc, times)?;
     let counters = counters_of(alloc, certificate, rows, notes)?;
     let named = named_of(alloc, &counters)?;
-    let searched = searched(alloc, certificate, first, &all, &named)?;
+    let searches = searches_of(alloc, certificate, first, &all, &named)?;
     let mut solving = Solving::new(alloc, certificate, first, &all, nesting)?;
-    solve_all(alloc, &mut solving, &all, &counters, &named, &searched)?;
+    solve_all(alloc, &mut solving, &all, &counters, &named, &searches)?;
     let mut list = Vec::new(alloc);
     for row in 0..all.len() {
         list.push(solving.potential(row))?;
@@ -61,7 +61,7 @@ fn named_of(alloc: Global, counters: &[Option<Counter>]) -> Result<Vec<bool>, Po
 
 /// What searches through the rows of a procedure find.
 #[derive(Drop)]
-struct Searched {
+struct Searches {
     placed: Vec<Placed>,
     on_cycles: Vec<bool>,
     /// By the search that leaves out the rows with a counter.
@@ -69,19 +69,19 @@ struct Searched {
 }
 
 /// What searches through the rows of a procedure find. A cycle of rows without a counter is a fault.
-fn searched(
+fn searches_of(
     alloc: Global,
     certificate: &Certificate,
     first: u32,
     all: &[Requests],
     named: &[bool],
-) -> Result<Searched, PotentialFault> {
+) -> Result<Searches, PotentialFault> {
     let runs = runs_of(alloc, all)?;
     let apart = apart_from_loops(alloc, certificate, first, &runs, named)?;
     let none = vec![in alloc; false; all.len()]?;
     let placed = placed_rows(alloc, &runs, &none)?;
     let on_cycles = rows_on_cycles(alloc, &runs, &placed)?;
-    Ok(Searched {
+    Ok(Searches {
         placed,
         on_cycles,
         apart,
@@ -115,15 +115,15 @@ fn solve_all(
     all: &[Requests],
     counters: &[Option<Counter>],
     named: &[bool],
-    searched: &Searched,
+    searches: &Searches,
 ) -> Result<(), PotentialFault> {
-    let sorted = by_groups(alloc, &searched.placed)?;
-    let mut turns = Turns::new(alloc, all, &searched.placed, named)?;
+    let sorted = by_groups(alloc, &searches.placed)?;
+    let mut turns = Turns::new(alloc, all, &searches.placed, named)?;
     let mut rest = sorted.as_slice();
     for _ in 0..sorted.len() {
         let (rows, behind) = first_group(rest);
         rest = behind;
-        solve(alloc, solving, &mut turns, rows, counters, searched)?;
+        solve(alloc, solving, &mut turns, rows, counters, searches)?;
     }
     Ok(())
 }
@@ -151,14 +151,14 @@ fn solve(
     turns: &mut Turns,
     rows: &[Placed],
     counters: &[Option<Counter>],
-    searched: &Searched,
+    searches: &Searches,
 ) -> Result<(), PotentialFault> {
     let Some(first) = rows.first().copied() else {
         return Ok(());
     };
-    let on_cycles = searched.on_cycles.as_slice();
+    let on_cycles = searches.on_cycles.as_slice();
     if on_cycles.get(usize::from(first.row)).copied() == Some(true) {
-        let mut group = group_of(alloc, turns, rows, counters, &searched.apart)?;
+        let mut group = group_of(alloc, turns, rows, counters, &searches.apart)?;
         return solving.solve(&mut group);
     }
     solving
