@@ -34,23 +34,32 @@ same_pair p q h k =
     ∙ ap (λ b. pair_of q.word q.high b p.origin) (same_range p.low q.low h.low k.low)
     ∙ ap (pair_of q.word q.high q.low) (same_origin p.origin q.origin h.origin k.origin)
 
+abbrev pairs_of : Pair → Pair → Pair → Pair → Pair → Pair → Pair → Pair → Pair → Pair → Pairs
+pairs_of a b d h x y e f g i = record {
+  af = a;
+  bc = b;
+  de = d;
+  hl = h;
+  ix = x;
+  iy = y;
+  alternate_af = e;
+  alternate_bc = f;
+  alternate_de = g;
+  alternate_hl = i;
+}
+
 pub same_pairs : (p q : Pairs) → CoversPairs p q → CoversPairs q p → p ≡ q
 same_pairs p q h k =
-    let af = same_pair p.af q.af h.0.af k.0.af in
-    let bc = same_pair p.bc q.bc h.0.bc k.0.bc in
-    let de = same_pair p.de q.de h.0.de k.0.de in
-    let hl = same_pair p.hl q.hl h.0.hl k.0.hl in
-    let ix = same_pair p.ix q.ix h.0.ix k.0.ix in
-    let iy = same_pair p.iy q.iy h.0.iy k.0.iy in
-    let alternate_af = same_pair p.alternate_af q.alternate_af h.1.alternate_af k.1.alternate_af in
-    let alternate_bc = same_pair p.alternate_bc q.alternate_bc h.1.alternate_bc k.1.alternate_bc in
-    let alternate_de = same_pair p.alternate_de q.alternate_de h.1.alternate_de k.1.alternate_de in
-    let alternate_hl = same_pair p.alternate_hl q.alternate_hl h.1.alternate_hl k.1.alternate_hl in
-    all_same p q af bc de hl ix iy alternate_af alternate_bc alternate_de alternate_hl
-  where
-    all_same : (p q : Pairs) → p.af ≡ q.af → p.bc ≡ q.bc → p.de ≡ q.de → p.hl ≡ q.hl → p.ix ≡ q.ix → p.iy ≡ q.iy → p.alternate_af ≡ q.alternate_af → p.alternate_bc ≡ q.alternate_bc
-        → p.alternate_de ≡ q.alternate_de → p.alternate_hl ≡ q.alternate_hl → p ≡ q
-    all_same p q a b d h x y e f g i = cc
+    ap (λ (z : Pair). pairs_of z p.bc p.de p.hl p.ix p.iy p.alternate_af p.alternate_bc p.alternate_de p.alternate_hl) (same_pair p.af q.af h.0.af k.0.af)
+    ∙ ap (λ (z : Pair). pairs_of q.af z p.de p.hl p.ix p.iy p.alternate_af p.alternate_bc p.alternate_de p.alternate_hl) (same_pair p.bc q.bc h.0.bc k.0.bc)
+    ∙ ap (λ (z : Pair). pairs_of q.af q.bc z p.hl p.ix p.iy p.alternate_af p.alternate_bc p.alternate_de p.alternate_hl) (same_pair p.de q.de h.0.de k.0.de)
+    ∙ ap (λ (z : Pair). pairs_of q.af q.bc q.de z p.ix p.iy p.alternate_af p.alternate_bc p.alternate_de p.alternate_hl) (same_pair p.hl q.hl h.0.hl k.0.hl)
+    ∙ ap (λ (z : Pair). pairs_of q.af q.bc q.de q.hl z p.iy p.alternate_af p.alternate_bc p.alternate_de p.alternate_hl) (same_pair p.ix q.ix h.0.ix k.0.ix)
+    ∙ ap (λ (z : Pair). pairs_of q.af q.bc q.de q.hl q.ix z p.alternate_af p.alternate_bc p.alternate_de p.alternate_hl) (same_pair p.iy q.iy h.0.iy k.0.iy)
+    ∙ ap (λ (z : Pair). pairs_of q.af q.bc q.de q.hl q.ix q.iy z p.alternate_bc p.alternate_de p.alternate_hl) (same_pair p.alternate_af q.alternate_af h.1.alternate_af k.1.alternate_af)
+    ∙ ap (λ (z : Pair). pairs_of q.af q.bc q.de q.hl q.ix q.iy q.alternate_af z p.alternate_de p.alternate_hl) (same_pair p.alternate_bc q.alternate_bc h.1.alternate_bc k.1.alternate_bc)
+    ∙ ap (λ (z : Pair). pairs_of q.af q.bc q.de q.hl q.ix q.iy q.alternate_af q.alternate_bc z p.alternate_hl) (same_pair p.alternate_de q.alternate_de h.1.alternate_de k.1.alternate_de)
+    ∙ ap (λ (z : Pair). pairs_of q.af q.bc q.de q.hl q.ix q.iy q.alternate_af q.alternate_bc q.alternate_de z) (same_pair p.alternate_hl q.alternate_hl h.1.alternate_hl k.1.alternate_hl)
 
 -- a row that is equal to the one before it is consistent where that one is
 pub one_more_repeated : (rom : List ℕ) (cert : CertificateView) (id : ℕ) → AreConsistent rom cert id → 0 < id → slice_get cert.rows (id - 1) ≡ slice_get cert.rows id → AreConsistent rom cert (id + 1)

@@ -2,7 +2,7 @@
 
 ghost use Rattle.std.specs.Prelude.{◌≡◌, ◌-◌, ◌<◌, IsTrue, slice_get};
 
-use abs_state::Mode;
+use abs_state::{Mode, Pairs};
 use cert_contents::{Certificate, RowId};
 use cert_lines::RowRef;
 use check_cover::{are_same, have_same_claims};
@@ -44,8 +44,14 @@ fn have_same_states(row: &RowRef, other: &RowRef) -> bool
         && other.flag.is_none()
         && row.shape.is_empty()
         && other.shape.is_empty()
-        && row.pairs.covers(other.pairs)
-        && other.pairs.covers(row.pairs)
+        && are_same_pairs(row.pairs, other.pairs)
+}
+
+/// Whether pairs are found to be equal: they cover each other.
+fn are_same_pairs(pairs: &Pairs, other: &Pairs) -> bool
+    ensures { IsTrue result → pairs.now ≡ other.now }
+{
+    pairs.covers(other) && other.covers(pairs)
 }
 
 fn is_same_mode(mode: Mode, other: Mode) -> bool

@@ -29,7 +29,7 @@ pub struct Comparisons {
 /// the index is made, and those are counted that it leaves. It takes about as long as judging a certificate of as many
 /// rows in which each address has one row. Where memory is refused, more may be counted. A ROM for which the
 /// certificate is refused before its rows are judged counts as 0.
-pub fn comparisons(
+pub fn count_comparisons(
     alloc: Global,
     rom: &[u8],
     certificate: &Certificate,
@@ -59,12 +59,12 @@ pub fn comparisons(
 }
 
 /// The comparisons for all rows.
-fn of_rows(
+fn of_rows<'x>(
     alloc: Global,
-    rom: &Rom,
-    map: &Map,
-    certificate: &Certificate,
-    tables: &Tables,
+    rom: &'x Rom<'x>,
+    map: &'x Map,
+    certificate: &'x Certificate,
+    tables: &'x Tables<'x>,
     search: &mut Search,
 ) -> Comparisons
     requires map { map.now ≡ map_of_board certificate.now }

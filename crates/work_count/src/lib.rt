@@ -6,4 +6,4 @@ mod counting;
 mod plain;
 mod ways;
 
-pub use counting::{Comparisons, DEFAULT_WORK, comparisons};
+pub use counting::{Comparisons, DEFAULT_WORK, count_comparisons};
