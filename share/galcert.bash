@@ -9,6 +9,10 @@ _galcert() {
     fi
     case $before in
         --trials | --max | --max-stack | --max-nmi | --until-nmi) return ;;
+        --work)
+            mapfile -t COMPREPLY < <(compgen -W "unlimited" -- "$word")
+            return
+            ;;
         --to | --version-at-most)
             mapfile -t COMPREPLY < <(compgen -W "2 3" -- "$word")
             return
@@ -26,13 +30,13 @@ _galcert() {
                 options="$options --version-at-most --quiet --json"
                 ;;
             suggest) options="--trials --version-at-most --output --symbols --listing --quiet --json" ;;
-            explain) options="--infer --trials --max --symbols --listing --json" ;;
-            verify) options="--symbols --listing --max-stack --max-nmi --quiet --json" ;;
-            run) options="--trace --until-nmi --dump --symbols --listing --json" ;;
-            list) options="--symbols --listing --json" ;;
-            report) options="--symbols --listing" ;;
+            explain) options="--infer --trials --max --symbols --listing --work --json" ;;
+            verify) options="--symbols --listing --max-stack --max-nmi --work --quiet --json" ;;
+            run) options="--trace --until-nmi --dump --symbols --listing --work --json" ;;
+            list) options="--symbols --listing --work --json" ;;
+            report) options="--symbols --listing --work" ;;
             migrate) options="--to" ;;
-            longest) options="--rows --symbols --listing --json" ;;
+            longest) options="--rows --symbols --listing --work --json" ;;
             diff) options="--old-symbols --symbols" ;;
         esac
         mapfile -t COMPREPLY < <(compgen -W "$options --color --help --version" -- "$word")

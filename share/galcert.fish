@@ -28,6 +28,7 @@ complete -c galcert -n "__fish_seen_subcommand_from longest" -l rows -d "Print a
 complete -c galcert -n "__fish_seen_subcommand_from explain" -l max -x -d "Explain at most N refusals"
 complete -c galcert -n "__fish_seen_subcommand_from check verify" -l max-stack -x -d "End with status 1 above N bytes of stack"
 complete -c galcert -n "__fish_seen_subcommand_from check verify" -l max-nmi -x -d "End with status 1 above N T-states of the NMI routine"
+complete -c galcert -n "__fish_seen_subcommand_from explain verify run list longest report" -l work -x -a "unlimited" -d "Judge a certificate only by at most N comparisons"
 complete -c galcert -n "__fish_seen_subcommand_from diff" -l old-symbols -r -d "Read names for the addresses of the old program"
 complete -c galcert -l color -x -a "auto always never" -d "Color standard error"
 complete -c galcert -n "__fish_seen_subcommand_from check suggest explain verify run list longest" -l json -d "Print one JSON document"

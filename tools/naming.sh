@@ -79,7 +79,7 @@ raid.asm:$at: 0287 fillac+1: warning: the loop is amid the instruction at 0286 f
 sed '/^\[\[loop\]\]/{n;s/"nldir"/"nldri"/}' raid.toml > typo.toml
 at=$(grep -n '"nldri"' typo.toml | cut -d: -f1)
 judge 1 'bad annotation loop' "galcert: no symbol nldri; did you mean nldir, nmi or nleft?
-typo.toml:$at: [[loop]] at \\\"nldri\\\": 'at' has to be an address of 0 to 0xFFFF" check raid.rom typo.toml -s raid.sym
+typo.toml:$at: [[loop]] at \"nldri\": 'at' has to be an address of 0 to 0xFFFF" check raid.rom typo.toml -s raid.sym
 sed 's/^top = .*/top = -1/' raid.toml > below.toml
 judge 1 'bad annotation top' "below.toml:3: 'top' has to be an address of 0 to 0xFFFF" check raid.rom below.toml -s raid.sym
 

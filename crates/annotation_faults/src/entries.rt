@@ -127,7 +127,7 @@ impl<'t> ListAt<'t> {
         if at.is_empty() {
             format!(in alloc; "[[{name}]]")
         } else {
-            format!(in alloc; "[[{name}]] at {}", at.escape_debug())
+            format!(in alloc; "[[{name}]] at {at}")
         }
     }
 
@@ -180,7 +180,7 @@ impl<'t> ListAt<'t> {
         if self.form.inner.iter().any(|form| form.key == key) {
             return Ok(None);
         }
-        let name = str::from_utf8(key).unwrap_or("").escape_debug();
+        let name = str::from_utf8(key).unwrap_or("");
         let start = node.key.start;
         if is_key(key) {
             let line = self.places.line_of(self.span(entry).start);

@@ -87,7 +87,6 @@ fn place_of_key(
     places: &Places,
     key: &str,
 ) -> Result<Option<AnnotationPlace>, AllocError> {
-    let name = key.escape_debug();
     let line = match places.child(None, key.as_bytes()) {
         Some(number) => places
             .node(number)
@@ -95,7 +94,7 @@ fn place_of_key(
         None => None,
     };
     if FOR_INFER.contains(&key.as_bytes()) {
-        let why = format!(in alloc; "'{name}' is read with --infer alone")?;
+        let why = format!(in alloc; "'{key}' is read with --infer alone")?;
         return Ok(Some(AnnotationPlace {
             line,
             column: None,
@@ -103,7 +102,7 @@ fn place_of_key(
         }));
     }
     if !is_key(key.as_bytes()) {
-        let why = format!(in alloc; "annotations have no key '{name}'")?;
+        let why = format!(in alloc; "annotations have no key '{key}'")?;
         return Ok(Some(AnnotationPlace {
             line,
             column: None,
@@ -114,8 +113,8 @@ fn place_of_key(
         return Ok(None);
     };
     let why = match line {
-        Some(_) => format!(in alloc; "'{name}' has to be {}", form.words)?,
-        None => format!(in alloc; "'{name}' is missing; it is {}", form.words)?,
+        Some(_) => format!(in alloc; "'{key}' has to be {}", form.words)?,
+        None => format!(in alloc; "'{key}' is missing; it is {}", form.words)?,
     };
     Ok(Some(AnnotationPlace {
         line,

@@ -9,6 +9,8 @@ use Rattle.cert_form.specs.Contents.{CertificateView}
 use Rattle.cert_form.specs.Text.{HasTooMany, IsFirstBadLine}
 use Rattle.certificate.specs.Pieces.{OfBytes}
 use Rattle.texts.specs.Device.{DeviceState, GivesBytes}
+use Rattle.command_parts.specs.Limits.{HoldWithin, UsesMore, UsesAtMost, TellsAbove}
+use Rattle.command_parts.specs.declared.limits.Usage.{Usage}
 use Rattle.command_parts.specs.Judging.{HoldAccepted, IsAccepted, IsCertificateText, OnAccepted, TellsAccepted, TellsRefusal, WritesRefusalOf, WritesUnread}
 use Rattle.command_parts.specs.Reading.{FirstBytes, ROM_READ_LEN}
 use Rattle.command_verdicts.specs.Verdict.{Refused, accepted_text, bad_line_text, refused_text}
@@ -118,3 +120,19 @@ pub tells_accepted : {X : Type 0} (Writes : DeviceState → List ℕ → DeviceS
 tells_accepted {X} Writes state rom text new bytes certificate shown before same first accepted is kept takes =
     on_accepted rom text bytes certificate (λ _ c. Writes (state same) (accepted_text c) new) first accepted
     (subst (λ (x : X). Writes (state x) (accepted_text certificate) new) kept (subst (λ (c : CertificateView). Writes (state before) (accepted_text c) new) is takes))
+
+-- a certificate that is accepted for the ROM is within limits
+pub holds_within : (most : Usage) (rom text : Option (List ℕ)) (bytes : List ℕ) (certificate shown : CertificateView) →
+    FirstBytes ROM_READ_LEN rom bytes → OfBytes text (λ lines. IsAccepted bytes lines certificate) → shown ≡ certificate → UsesAtMost most shown → HoldWithin most rom text
+holds_within most rom text bytes certificate shown first accepted is within =
+    on_accepted rom text bytes certificate (λ _ c. UsesAtMost most c) first accepted (subst (λ (c : CertificateView). UsesAtMost most c) is within)
+
+-- one that is above a limit has its table written, to an unchanged sink
+pub tells_above : {X : Type 0} (most : Usage) (Writes : DeviceState → List ℕ → DeviceState → Type 0) (state : X → DeviceState) (rom text : Option (List ℕ)) (new : DeviceState) (bytes : List ℕ) (certificate shown : CertificateView) (before same : X) →
+    FirstBytes ROM_READ_LEN rom bytes → OfBytes text (λ lines. IsAccepted bytes lines certificate) → shown ≡ certificate → before ≡ same → UsesMore most shown → Writes (state before) (accepted_text shown) new →
+    TellsAbove most Writes rom text (state same) new
+tells_above {X} most Writes state rom text new bytes certificate shown before same first accepted is kept above takes =
+    on_accepted rom text bytes certificate (λ _ c. UsesMore most c × Writes (state same) (accepted_text c) new) first accepted (
+      subst (λ (c : CertificateView). UsesMore most c) is above,
+      subst (λ (x : X). Writes (state x) (accepted_text certificate) new) kept (subst (λ (c : CertificateView). Writes (state before) (accepted_text c) new) is takes),
+    )

@@ -14,7 +14,7 @@ pub enum ExitStatus {
     Usage,
     /// A device failed.
     Device,
-    /// Memory ran out.
+    /// Memory ran out, or judging would take more work than it may.
     OutOfMemory,
 }
 

@@ -6,6 +6,7 @@ ghost use Rattle.command_parts.specs.Judging.{IsAccepted, IsCertificateText, Wri
 ghost use Rattle.texts.specs.Device.{FailsAmid, HasFailed, CountsNoFailure, Takes};
 
 use crate::stop::Stop;
+use crate::work::Work;
 use certificate::{Certificate, ReadFault, read_from};
 use command_verdicts::{bad_line, refused_line};
 use runner::cert_checker::{Accepted, CheckFault, check};
@@ -55,16 +56,18 @@ pub fn read_certificate<B: Source, W: Sink>(
     }
 }
 
-/// Reads a certificate and checks it for a ROM. If it is not accepted, the line that reports it is written.
+/// Reads a certificate and checks it for a ROM. If it is not accepted, the line that reports it is written. The check
+/// is made only if it takes no more work than `work` allows.
 ///
 /// # Errors
 ///
 /// `Refused` where the text is no certificate, or it is not accepted, `Device` where a device failed, and `OutOfMemory`
-/// where memory was refused.
+/// where memory was refused, or where the check would take too much work; then `work` says how much.
 pub fn judge<'r, B: Source, W: Sink>(
     alloc: Global,
     rom: &'r [u8],
     cert: &mut B,
+    work: &mut Work,
     out: &mut W,
 ) -> Result<Accepted<'r>, Stop>
     ensures accepted { IfOk result (λ accepted. (accepted.rom ≡ rom.now)
@@ -89,6 +92,9 @@ pub fn judge<'r, B: Source, W: Sink>(
         Ok(certificate) => certificate,
         Err(stop) => return Err(stop),
     };
+    if !work.allows(&certificate) {
+        return Err(Stop::OutOfMemory);
+    }
     match check(alloc, rom, certificate) {
         Ok(accepted) => Ok(accepted),
         Err(CheckFault::Refused(refused)) => {

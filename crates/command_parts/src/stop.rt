@@ -15,7 +15,7 @@ pub enum Stop {
     Refused,
     /// A device failed.
     Device,
-    /// Memory was refused.
+    /// Memory was refused, or judging would take more work than it may.
     OutOfMemory,
 }
 

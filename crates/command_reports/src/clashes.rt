@@ -1,8 +1,8 @@
 // Inputs and outputs that do not go together.
 
-use crate::reported::report;
 use clap::ArgMatches;
 use command_parts::ExitStatus;
+use command_streams::report;
 use command_words::{LISTING, SYMBOLS};
 use file_devices::is_same_file;
 use std::alloc::Global;
@@ -134,24 +134,24 @@ pub fn report_clash<N: Sink>(notes: &mut N, clash: &Clash) -> u8 {
             report(notes, "galcert: FILE is an empty word");
         }
         Clash::Printed(path, stream) => {
-            let path = path.escape_debug();
+            let path = path;
             report(
                 notes,
                 format_args!("FILE {path} and {stream} are the same file"),
             );
         }
         Clash::Overwritten(path, argument, input) => {
-            let path = path.escape_debug();
+            let path = path;
             let argument = shown(argument);
-            let input = input.escape_debug();
+            let input = input;
             report(
                 notes,
                 format_args!("FILE {path} and {argument} {input} are the same file"),
             );
         }
         Clash::TwiceWritten(first, second) => {
-            let first = first.escape_debug();
-            let second = second.escape_debug();
+            let first = first;
+            let second = second;
             report(
                 notes,
                 format_args!("FILE {first} and FILE {second} are the same file"),

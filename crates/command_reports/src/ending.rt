@@ -1,7 +1,7 @@
 // How a command ends: what standard error says beside the status.
 
-use crate::reported::report;
 use command_parts::ExitStatus;
+use command_streams::report;
 use file_devices::{Failure, FileSource, Output};
 use std::cell::RefCell;
 use std::io::ErrorKind;
@@ -16,6 +16,8 @@ pub struct UsedDevice<'a> {
     failure: Option<Failure>,
     /// Whether it was read, and not to its end.
     is_amid: bool,
+    /// Whether it has more bytes than may be read.
+    is_too_long: bool,
 }
 
 impl<'a> UsedDevice<'a> {
@@ -29,6 +31,7 @@ impl<'a> UsedDevice<'a> {
             name,
             failure: input.failure(),
             is_amid: input.is_amid(),
+            is_too_long: input.is_too_long(),
         }
     }
 
@@ -48,21 +51,31 @@ impl<'a> UsedDevice<'a> {
             name,
             failure,
             is_amid: false,
+            is_too_long: false,
         }
     }
 }
 
-/// Says why a command ended with this status, if a device failed or memory ran out. The result is the status.
+/// Says why a command ended with this status, if a device failed or memory ran out. Nothing is said of a closed pipe, as
+/// in `galcert list .. | head`. The result is the status; it is that of a bad command line where annotations are too
+/// long.
 pub fn end<N: Sink>(notes: &mut N, status: u8, used: &[UsedDevice]) -> u8 {
     if status == ExitStatus::Device.code() {
-        report(notes, "device error");
-        for device in used {
-            report_failure(notes, device);
+        if let Some(device) = used.iter().find(|device| device.is_too_long) {
+            let name = device.name;
+            report(notes, format_args!("{name}: more than 4 MB of annotations"));
+            return ExitStatus::Usage.code();
+        }
+        if !used.iter().any(|device| is_closed_pipe(device.failure)) {
+            report(notes, "device error");
+            for device in used {
+                report_failure(notes, device);
+            }
         }
     } else if status == ExitStatus::OutOfMemory.code() {
         report(notes, "out of memory");
         if let Some(device) = used.iter().rev().find(|device| device.is_amid) {
-            let name = device.name.escape_debug();
+            let name = device.name;
             report(
                 notes,
                 format_args!("galcert: memory ran out while {name} was read"),
@@ -73,7 +86,7 @@ pub fn end<N: Sink>(notes: &mut N, status: u8, used: &[UsedDevice]) -> u8 {
 }
 
 fn report_failure<N: Sink>(notes: &mut N, device: &UsedDevice) {
-    let name = device.name.escape_debug();
+    let name = device.name;
     if let Some(Failure { call, error }) = device.failure {
         match error {
             Some(error) => report(
@@ -101,7 +114,7 @@ pub fn finish_all<R: Files>(status: u8, outputs: &mut [Output<'_, R>]) -> u8 {
     ended
 }
 
-/// Finishes the file that a command kept, or removes it where the status is neither 0 nor 1. The result is the status,
+/// Finishes the file that `suggest` wrote, or removes it where the status is neither 0 nor 1. The result is the status,
 /// which is 3 if the file cannot get its name, and why the file failed.
 pub fn finish_kept<R: Files>(status: u8, kept: &RefCell<Output<'_, R>>) -> (u8, Option<Failure>) {
     match kept.try_borrow_mut() {
@@ -118,9 +131,8 @@ pub fn finish_kept<R: Files>(status: u8, kept: &RefCell<Output<'_, R>>) -> (u8, 
     }
 }
 
-/// Whether an output failed because nobody reads it any more, as in `galcert list .. | head`. Then standard error says
-/// nothing.
-pub fn is_closed_pipe(failure: Option<Failure>) -> bool {
+/// Whether an output failed because nobody reads it any more.
+fn is_closed_pipe(failure: Option<Failure>) -> bool {
     match failure {
         Some(failure) => match failure.error {
             Some(error) => error.kind() == ErrorKind::BrokenPipe,

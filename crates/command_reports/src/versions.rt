@@ -1,8 +1,8 @@
 // Versions of certificates in words of the command line.
 
-use crate::reported::report;
 use certificate::Version;
 use clap::ArgMatches;
+use command_streams::report;
 use texts::Sink;
 
 /// The version, 2 or 3, that the word of an option says, or `unsaid` where there is no word. If the word is out of
@@ -19,7 +19,7 @@ pub fn version_of<N: Sink>(
         Some("3") => Some(Version::Three),
         Some(text) => {
             report(notes, format_args!("bad {option}"));
-            let text = text.escape_debug();
+            let text = text;
             report(
                 notes,
                 format_args!("galcert: N is \"{text}\", and not a version, 2 or 3"),

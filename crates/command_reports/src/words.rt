@@ -1,8 +1,8 @@
 // Words that cannot be read.
 
 use crate::ending::end;
-use crate::reported::report;
 use command_parts::ExitStatus;
+use command_streams::report;
 use command_words::WordFault;
 use texts::Sink;
 

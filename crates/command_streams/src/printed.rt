@@ -70,6 +70,14 @@ impl<W: Sink> Printed<W> {
         }
     }
 
+    /// Whether memory was refused for some of what is captured.
+    pub fn is_cut(&self) -> bool {
+        match &self.target.captured {
+            Some(captured) => captured.failures() > 0,
+            None => false,
+        }
+    }
+
     /// What was captured. From now on all is passed on.
     pub fn take(&mut self) -> Option<Captured> {
         self.target.captured.take()

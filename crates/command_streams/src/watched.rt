@@ -5,7 +5,7 @@ use texts::{DeviceFault, Sink};
 /// How many of the first bytes are remembered. The line of every refusal but a long recursion has room.
 const FIRST: usize = 256;
 
-/// How many of the last bytes are remembered. The last two lines of a table have room.
+/// How many of the last bytes are remembered. The line of a bad input line has room.
 const LAST: usize = 64;
 
 /// The first bytes of a text, 256 at most.
@@ -93,28 +93,14 @@ impl<W: Sink> Watched<W> {
         }
     }
 
-    /// The bytes of stack that a program uses, if its table was written last (docs/PROGRAM.md, "Accepted").
-    pub fn stack(&self) -> Option<u32> {
-        self.total("stack")
-    }
-
-    /// The T-states of a program's NMI routine, if its table was written last; None if it has none.
-    pub fn nmi(&self) -> Option<u32> {
-        self.total("nmi")
-    }
-
-    /// The number after a word, in a line of the form `stack 6 of 6`.
-    fn total(&self, word: &str) -> Option<u32> {
-        for line in self.last.text().split('\n') {
-            let mut words = line.split(' ');
-            if words.next() == Some(word) {
-                let total = words.next()?.parse().ok();
-                if words.next() == Some("of") {
-                    return total;
-                }
-            }
+    /// The last line that was written, without its line feed, at most 64 bytes of it.
+    pub fn last_line(&self) -> &str {
+        let text = self.last.text();
+        let text = text.strip_suffix('\n').unwrap_or(text);
+        match text.rsplit_once('\n') {
+            Some((_, line)) => line,
+            None => text,
         }
-        None
     }
 }
 

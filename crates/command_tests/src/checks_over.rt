@@ -1,5 +1,6 @@
 // Runs of `check` on devices in memory, and what they leave.
 
+use command_parts::{Limits, Usage};
 use commands::check_on;
 use memory_devices::{Bytes, Taken};
 use std::alloc::Global;
@@ -24,10 +25,25 @@ impl Checked {
     }
 }
 
+/// Limits that nothing exceeds.
+pub fn no_limits() -> Limits {
+    Limits::at_most(Usage {
+        stack: u32::MAX,
+        nmi: u32::MAX,
+    })
+}
+
 /// Runs `check` on these devices.
 pub fn check_devices(alloc: Global, rom: Bytes, annot: Bytes, keep: Taken, out: Taken) -> Checked {
     let (mut rom, mut annot, mut keep, mut out) = (rom, annot, keep, out);
-    let status = check_on(alloc, &mut rom, &mut annot, &mut keep, &mut out);
+    let status = check_on(
+        alloc,
+        &mut rom,
+        &mut annot,
+        &mut no_limits(),
+        &mut keep,
+        &mut out,
+    );
     Checked {
         status,
         annot_asked: annot.asked(),

@@ -1,6 +1,8 @@
 // Runs of the commands on devices in memory, and what they leave.
 
+use crate::checks_over::no_limits;
 use crate::samples::JUMP_CERTIFICATE;
+use command_parts::Work;
 use commands::{run_on, verify_on};
 use memory_devices::{Bytes, Taken};
 use std::alloc::Global;
@@ -32,7 +34,8 @@ pub fn accepted() -> Bytes<'static> {
 /// Runs `verify` on these devices. It has no input.
 pub fn verify(alloc: Global, rom: Bytes, cert: Bytes, out: Taken) -> Outcome {
     let (mut rom, mut cert, mut out) = (rom, cert, out);
-    let status = verify_on(alloc, &mut rom, &mut cert, &mut out);
+    let work = &mut Work::at_most(u64::MAX);
+    let status = verify_on(alloc, &mut rom, &mut cert, &mut no_limits(), work, &mut out);
     Outcome {
         status,
         rom_left: rom.left(),
@@ -54,7 +57,10 @@ pub fn run(
     out: Taken,
 ) -> Outcome {
     let (mut rom, mut cert, mut input, mut out) = (rom, cert, input, out);
-    let status = run_on(alloc, &mut rom, &mut cert, &mut input, steps, &mut out);
+    let work = &mut Work::at_most(u64::MAX);
+    let status = run_on(
+        alloc, &mut rom, &mut cert, &mut input, steps, work, &mut out,
+    );
     Outcome {
         status,
         rom_left: rom.left(),

@@ -187,6 +187,7 @@ const EXPLAIN_ARGUMENTS: &[Argument] = &[
     Argument::Max,
     Argument::Symbols,
     Argument::Listing,
+    Argument::Work,
     Argument::Json,
 ];
 
@@ -197,6 +198,7 @@ const VERIFY_ARGUMENTS: &[Argument] = &[
     Argument::Listing,
     Argument::MaxStack,
     Argument::MaxNmi,
+    Argument::Work,
     Argument::Quiet,
     Argument::Json,
 ];
@@ -211,6 +213,7 @@ const RUN_ARGUMENTS: &[Argument] = &[
     Argument::Trace,
     Argument::UntilNmi,
     Argument::Dump,
+    Argument::Work,
     Argument::Json,
 ];
 
@@ -219,6 +222,7 @@ const LIST_ARGUMENTS: &[Argument] = &[
     Argument::Cert,
     Argument::Symbols,
     Argument::Listing,
+    Argument::Work,
     Argument::Json,
 ];
 
@@ -229,6 +233,7 @@ const LONGEST_ARGUMENTS: &[Argument] = &[
     Argument::Rows,
     Argument::Symbols,
     Argument::Listing,
+    Argument::Work,
     Argument::Json,
 ];
 
@@ -237,6 +242,7 @@ const REPORT_ARGUMENTS: &[Argument] = &[
     Argument::Cert,
     Argument::Symbols,
     Argument::Listing,
+    Argument::Work,
 ];
 
 const DIFF_ARGUMENTS: &[Argument] = &[

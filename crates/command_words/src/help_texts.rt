@@ -6,7 +6,7 @@ pub(crate) const STATUSES: &str = "Statuses:
   1  refused; standard output says why in one line
   2  the command line is out of form
   3  a device failed; standard error says which and why
-  4  memory ran out
+  4  memory ran out, or judging would take too much work (--work)
 
 ROM, ANNOT, CERT and INPUT may be `-`, which is standard input; one of them at most.";
 

@@ -74,6 +74,9 @@ pub const VERSION_AT_MOST: &str = "version-at-most";
 /// `--warn-unneeded`: annotations are reported that are not needed. A flag.
 pub const WARN_UNNEEDED: &str = "warn-unneeded";
 
+/// `--work N` or `--work unlimited`: the most comparisons that judging a certificate may take.
+pub const WORK: &str = "work";
+
 /// The word of an argument that the command line requires; an empty text if there is none.
 pub fn word<'a>(matches: &ArgMatches<'a>, name: &str) -> &'a str {
     matches.get_str(name).unwrap_or("")

@@ -4,7 +4,7 @@ use crate::help_texts::CERT_HELP;
 use crate::names::{
     CERT_FILE, COLOR, COMMAND, DUMP, ENTRY, INFER, JSON, LISTING, MAX, MAX_NMI, MAX_STACK,
     OLD_SYMBOLS, OUTPUT, QUIET, ROWS, SECOND, SYMBOLS, TO, TRACE, TRIALS, UNTIL_NMI,
-    VERSION_AT_MOST, WARN_UNNEEDED,
+    VERSION_AT_MOST, WARN_UNNEEDED, WORK,
 };
 use clap::builder::ValueParser;
 use clap::{Arg, ArgAction};
@@ -57,6 +57,8 @@ pub(crate) enum Argument {
     MaxStack,
     /// The option that bounds the NMI routine below its budget.
     MaxNmi,
+    /// The option that bounds the work of judging a certificate.
+    Work,
     /// The option by which nothing is printed.
     Quiet,
     /// The option by which a command answers with a document.
@@ -122,6 +124,7 @@ impl Argument {
             Argument::WarnUnneeded => WARN_UNNEEDED,
             Argument::MaxStack => MAX_STACK,
             Argument::MaxNmi => MAX_NMI,
+            Argument::Work => WORK,
             Argument::Quiet => QUIET,
             Argument::Json => JSON,
             Argument::Max => MAX,
@@ -168,6 +171,9 @@ impl Argument {
             Argument::WarnUnneeded => "Warns of annotations without which the ROM is accepted too",
             Argument::MaxStack => "Ends with status 1 if the stack takes more than N bytes",
             Argument::MaxNmi => "Ends with status 1 if the NMI routine takes more than N T-states",
+            Argument::Work => {
+                "Judges a certificate only if that takes at most N comparisons, or `unlimited`; about a minute's work if not said"
+            }
             Argument::Quiet => "Prints nothing on standard output; the status alone answers",
             Argument::Json => "Prints one JSON document in the place of the text",
             Argument::Max => "Explains at most N refusals; 20 if not said",
@@ -207,6 +213,7 @@ impl Argument {
             | Argument::MaxNmi
             | Argument::Max
             | Argument::UntilNmi => Form::Valued("N"),
+            Argument::Work => Form::Valued("N|unlimited"),
             Argument::Output
             | Argument::CertFile
             | Argument::Symbols

@@ -10,8 +10,10 @@ use Rattle.toml.specs.Parse.{parse_document}
 use Rattle.command_parts.proofs.FileLemmas.{of_bytes, of_whole}
 use Rattle.command_parts.specs.Unmade.{WritesUnmade}
 use Rattle.commands.specs.Annotating.{SaysOfWhole, WritesBadAnnotation}
-use Rattle.commands.specs.Checking.{IsMade, KeepsText, KeepsAndTells, OnMade, TellsUnmade, said_by}
+use Rattle.commands.specs.Checking.{IsMade, IsMadeWithin, KeepsText, KeepsAndTells, OnMade, TellsMadeAbove, TellsUnmade, said_by}
 use Rattle.command_parts.specs.Judging.{IsAccepted}
+use Rattle.command_parts.specs.Limits.{UsesMore, UsesAtMost}
+use Rattle.command_parts.specs.declared.limits.Usage.{Usage}
 use Rattle.command_parts.specs.Reading.{FirstBytes, ROM_READ_LEN}
 use Rattle.command_verdicts.specs.Verdict.{accepted_text}
 use Rattle.command_verdicts.specs.WriterRefusals.{bad_key_text}
@@ -79,3 +81,20 @@ pub keeps_and_tells : {X : Type 0} (Writes : DeviceState → List ℕ → Device
 keeps_and_tells {X} Writes state rom text keep_old keep_new new bytes certificate shown said before same first says accepted as_said is kept takes tells =
     on_made rom text bytes certificate said (λ c. Takes keep_old (text_of c) keep_new × Writes (state same) (accepted_text c) new) first says accepted as_said
     (subst (λ (c : CertificateView). Takes keep_old (text_of c) keep_new) is takes, subst (λ (x : X). Writes (state x) (accepted_text certificate) new) kept (subst (λ (c : CertificateView). Writes (state before) (accepted_text c) new) is tells))
+
+-- a certificate that was made is within limits
+pub made_within : (most : Usage) (rom text : Option (List ℕ)) (bytes : List ℕ) (certificate shown : CertificateView) (said : AnnotationsView) →
+    FirstBytes ROM_READ_LEN rom bytes → OfBytes text (λ lines. SaysOfWhole lines said) → IsAccepted bytes (text_of certificate) certificate → said_by certificate ≡ said → shown ≡ certificate →
+    UsesAtMost most shown → IsMadeWithin most rom text
+made_within most rom text bytes certificate shown said first says accepted same is within =
+    on_made rom text bytes certificate said (λ c. UsesAtMost most c) first says accepted same (subst (λ (c : CertificateView). UsesAtMost most c) is within)
+
+-- one that is above a limit has its table written, to an unchanged sink
+pub tells_made_above : {X : Type 0} (most : Usage) (Writes : DeviceState → List ℕ → DeviceState → Type 0) (state : X → DeviceState) (rom text : Option (List ℕ)) (new : DeviceState) (bytes : List ℕ) (certificate shown : CertificateView) (said : AnnotationsView) (before same : X) →
+    FirstBytes ROM_READ_LEN rom bytes → OfBytes text (λ lines. SaysOfWhole lines said) → IsAccepted bytes (text_of certificate) certificate → said_by certificate ≡ said → shown ≡ certificate → before ≡ same →
+    UsesMore most shown → Writes (state before) (accepted_text shown) new → TellsMadeAbove most Writes rom text (state same) new
+tells_made_above {X} most Writes state rom text new bytes certificate shown said before same first says accepted as_said is kept above tells =
+    on_made rom text bytes certificate said (λ c. UsesMore most c × Writes (state same) (accepted_text c) new) first says accepted as_said (
+      subst (λ (c : CertificateView). UsesMore most c) is above,
+      subst (λ (x : X). Writes (state x) (accepted_text certificate) new) kept (subst (λ (c : CertificateView). Writes (state before) (accepted_text c) new) is tells),
+    )

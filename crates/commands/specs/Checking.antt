@@ -7,8 +7,10 @@ use Rattle.certificate.specs.Pieces.{OfBytes}
 use Rattle.texts.specs.Device.{DeviceState, Takes}
 use Rattle.commands.specs.Annotating.{IsAnnotations, PrintsBadAnnotation, SaysOfWhole}
 use Rattle.command_parts.specs.Judging.{IsAccepted}
+use Rattle.command_parts.specs.Limits.{UsesMore, UsesAtMost}
 use Rattle.command_parts.specs.Reading.{OfFiles}
 use Rattle.command_parts.specs.Unmade.{PrintsUnmade}
+use Rattle.command_parts.specs.declared.limits.Usage.{Usage}
 use Rattle.command_verdicts.specs.Verdict.{accepted_text}
 
 -- the annotations about the whole ROM that a certificate carries: the region, the budget, the board and the cells
@@ -37,3 +39,11 @@ KeepsText Writes rom text old new = OnMade rom text (λ certificate. Writes old 
 abbrev pub KeepsAndTells : (DeviceState → List ℕ → DeviceState → Type 0) → Option (List ℕ) → Option (List ℕ) → DeviceState → DeviceState → DeviceState → DeviceState → Type 0
 KeepsAndTells Writes rom text keep_old keep_new old new =
     OnMade rom text (λ certificate. Takes keep_old (text_of certificate) keep_new × Writes old (accepted_text certificate) new)
+
+-- a certificate was made that is within limits
+abbrev pub IsMadeWithin : Usage → Option (List ℕ) → Option (List ℕ) → Type 0
+IsMadeWithin most rom text = OnMade rom text (UsesAtMost most)
+
+-- a certificate was made that is above a limit, and its table was written
+abbrev pub TellsMadeAbove : Usage → (DeviceState → List ℕ → DeviceState → Type 0) → Option (List ℕ) → Option (List ℕ) → DeviceState → DeviceState → Type 0
+TellsMadeAbove most Writes rom text old new = OnMade rom text (λ certificate. UsesMore most certificate × Writes old (accepted_text certificate) new)

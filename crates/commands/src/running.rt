@@ -8,7 +8,7 @@ ghost use Rattle.commands.specs.Running.{PlaysPart, PlaysTo, PlaysToBadLine, Tel
 ghost use Rattle.command_parts.specs.Status.{IsStatus};
 ghost use Rattle.texts.specs.Device.{FailsAmid, HasFailed, CountsNoFailure, Takes};
 
-use command_parts::{ExitStatus, Stop, judge, read_rom};
+use command_parts::{ExitStatus, Stop, Work, judge, read_rom};
 use command_verdicts::bad_line;
 use runner::cert_checker::Accepted;
 use runner::{PlayFault, play};
@@ -17,16 +17,18 @@ use texts::{Sink, Source, put};
 
 /// `galcert run ROM CERT INPUT STEPS`: checks a certificate for a ROM. Then it writes the refusal, or plays the input
 /// for at most `steps` events and writes the run's lines as they come (docs/PROGRAM.md). The ROM is read first, up to
-/// its 16,385th byte, then the certificate; the input is read only for an accepted certificate.
+/// its 16,385th byte, then the certificate; the input is read only for an accepted certificate. The check is made only
+/// if it takes no more work than `work` allows.
 ///
-/// The result is the exit status: 0 run, 1 refused or a bad line of the input, 3 a device failed, 4 memory was refused.
-/// What was written before a device failed stays.
+/// The result is the exit status: 0 run, 1 refused or a bad line of the input, 3 a device failed, 4 memory was refused
+/// or the check would take too much work. What was written before a device failed stays.
 pub fn run_on<A: Source, B: Source, C: Source, W: Sink>(
     alloc: Global,
     rom: &mut A,
     cert: &mut B,
     input: &mut C,
     steps: u32,
+    work: &mut Work,
     out: &mut W,
 ) -> u8
     // What each status means, and for which bytes.
@@ -79,7 +81,7 @@ pub fn run_on<A: Source, B: Source, C: Source, W: Sink>(
         Ok(bytes) => bytes,
         Err(stop) => return stop.status(),
     };
-    let accepted = match judge(alloc, bytes.as_slice(), cert, out) {
+    let accepted = match judge(alloc, bytes.as_slice(), cert, work, out) {
         Ok(accepted) => accepted,
         Err(stop) => return stop.status(),
     };

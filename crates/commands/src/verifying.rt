@@ -2,24 +2,28 @@
 
 ghost use Rattle.std.specs.Prelude.{◌≡◌, ◌≢◌, ◌⊎◌};
 ghost use Rattle.command_parts.specs.Judging.{TellsAccepted, TellsRefusal};
+ghost use Rattle.command_parts.specs.Limits.{HoldWithin, TellsAbove};
 ghost use Rattle.command_parts.specs.Reading.{GivesUpTo};
 ghost use Rattle.command_parts.specs.Status.{IsStatus};
 ghost use Rattle.texts.specs.Device.{FailsAmid, HasFailed, CountsNoFailure, Takes};
 
-use command_parts::{ExitStatus, Stop, judge, read_rom};
+use command_parts::{ExitStatus, Limits, Stop, Work, judge, read_rom, tell_above};
 use command_verdicts::write_table;
 use std::alloc::Global;
 use texts::{DeviceFault, Sink, Source};
 
 /// `galcert verify ROM CERT`: checks a certificate for a ROM, and writes the table or the refusal (docs/PROGRAM.md).
-/// The ROM is read first, up to its 16,385th byte, then the certificate; both are read before anything is written.
+/// The ROM is read first, up to its 16,385th byte, then the certificate; both are read before anything is written. The
+/// check is made only if it takes no more work than `work` allows.
 ///
-/// The result is the exit status: 0 accepted, 1 refused, 3 a device failed, 4 memory was refused. What was written
-/// before a device failed stays.
+/// The result is the exit status: 0 accepted, 1 refused or accepted above a limit of `limits`, 3 a device failed, 4
+/// memory was refused or the check would take too much work. What was written before a device failed stays.
 pub fn verify_on<A: Source, B: Source, W: Sink>(
     alloc: Global,
     rom: &mut A,
     cert: &mut B,
+    limits: &mut Limits,
+    work: &mut Work,
     out: &mut W,
 ) -> u8
     // What each status means, and for which bytes.
@@ -27,9 +31,13 @@ pub fn verify_on<A: Source, B: Source, W: Sink>(
     ensures accepted { result ≡ 0
         → TellsAccepted Takes (A.state rom.old).bytes (B.state cert.old).bytes (W.state out.old)
         (W.state out.new) }
+    ensures within { result ≡ 0
+        → HoldWithin limits.old.most (A.state rom.old).bytes (B.state cert.old).bytes }
     ensures refused { result ≡ 1
         → TellsRefusal Takes (A.state rom.old).bytes (B.state cert.old).bytes (W.state out.old)
-        (W.state out.new) }
+        (W.state out.new)
+        ⊎ TellsAbove limits.old.most Takes (A.state rom.old).bytes (B.state cert.old).bytes
+        (W.state out.old) (W.state out.new) }
     ensures device { result ≡ 3
         → HasFailed (A.state rom.old) (A.state rom.new)
         ⊎ (HasFailed (B.state cert.old) (B.state cert.new)
@@ -57,11 +65,15 @@ pub fn verify_on<A: Source, B: Source, W: Sink>(
         Ok(bytes) => bytes,
         Err(stop) => return stop.status(),
     };
-    let accepted = match judge(alloc, bytes.as_slice(), cert, out) {
+    let accepted = match judge(alloc, bytes.as_slice(), cert, work, out) {
         Ok(accepted) => accepted,
         Err(stop) => return stop.status(),
     };
-    match write_table(accepted.certificate(), out) {
+    let certificate = accepted.certificate();
+    if !limits.judge(certificate) {
+        return tell_above(certificate, out);
+    }
+    match write_table(certificate, out) {
         Ok(()) => ExitStatus::Done.code(),
         Err(DeviceFault) => ExitStatus::Device.code(),
     }

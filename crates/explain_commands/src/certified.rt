@@ -9,6 +9,7 @@ use analysis::{FlowFault, MAIN, NMI, ProgramPoint, Task, sub_of};
 use annotations::{Annotations, Notes};
 use certificate::{CertFault, Certificate, ProcKind, read};
 use check_rules::{Refused, main_depth, nmi_depth, nmi_of};
+use command_parts::Work;
 use explanation_parts::{add_callee_depth, add_not_covered, add_rank, add_unpaid, is_of_bounds};
 use explanation_texts::{add_head, add_what};
 use explanations::{Refusal, Situation};
@@ -16,12 +17,14 @@ use refusal_texts::{Bounds, Wording, add_entry, add_region, add_rom_lengths, add
 use runner::cert_checker::{Accepted, CheckFault, check};
 use std::alloc::Global;
 
-/// What `verify` answers: the text of the explanation, and what was accepted.
+/// What `verify` answers: the text of the explanation, and what was accepted. `NoMemory` also stands for a check that
+/// would take too much work.
 pub(crate) fn verified<'r>(
     alloc: Global,
     bytes: &'r [u8],
     text: &[u8],
     question: Question,
+    work: &mut Work,
 ) -> Result<(String, Option<Accepted<'r>>), FlowFault>
     ensures rom { IfOk result (λ both. IfSome both.1 (λ accepted. accepted.rom ≡ bytes.now)) }
 {
@@ -29,6 +32,9 @@ pub(crate) fn verified<'r>(
         Ok(certificate) => certificate,
         Err(fault) => return Ok((unread(alloc, fault)?, None)),
     };
+    if !work.allows(&certificate) {
+        return Err(FlowFault::NoMemory);
+    }
     match check(alloc, bytes, certificate) {
         Ok(accepted) => Ok((String::from_str(alloc, "accepted\n")?, Some(accepted))),
         Err(CheckFault::NoMemory) => Err(FlowFault::NoMemory),

@@ -13,7 +13,7 @@ use crate::certified::verified;
 use crate::searching::searched;
 use analysis::FlowFault;
 use annotations::{AnnotationFault, Annotations, Given};
-use command_parts::{ExitStatus, read_all, read_rom};
+use command_parts::{ExitStatus, Work, read_all, read_rom};
 use explored_plans::Progress;
 use named_annotations::{NamedFault, NamedText, UnknownName, named_text};
 use runner::cert_checker::Accepted;
@@ -42,15 +42,16 @@ const CERTIFICATE: &[u8] = b"galcert ";
 
 /// `galcert explain ROM [ANNOT | CERT]`: writes to `out` why `check` or `verify` refuses a ROM (docs/EXPLAIN.md), or
 /// that it is accepted. `second` has annotations, or a certificate where it begins with `galcert `. In annotations
-/// names may stand for addresses.
+/// names may stand for addresses. A certificate is checked only if that takes no more work than `work` allows.
 ///
 /// The result is the exit status: 0 accepted, 1 refused, bad annotations or a bad note, 3 a device failed, 4 memory was
-/// refused. What was written before a device failed stays.
+/// refused or the check would take too much work. What was written before a device failed stays.
 pub fn explain_on<A: Source, B: Source, W: Sink, P: Progress>(
     alloc: Global,
     rom: &mut A,
     second: &mut B,
     asked: Asked<'_>,
+    work: &mut Work,
     out: &mut W,
     progress: &mut P,
 ) -> u8
@@ -80,6 +81,7 @@ pub fn explain_on<A: Source, B: Source, W: Sink, P: Progress>(
         bytes.as_slice(),
         text.as_slice(),
         asked,
+        work,
         out,
         progress,
     )
@@ -91,6 +93,7 @@ fn explain<W: Sink, P: Progress>(
     rom: &[u8],
     second: &[u8],
     asked: Asked<'_>,
+    work: &mut Work,
     out: &mut W,
     progress: &mut P,
 ) -> u8
@@ -102,7 +105,7 @@ fn explain<W: Sink, P: Progress>(
     ensures told { result ≢ 3 → CountsNoFailure (W.state out.old) (W.state out.new) }
     ensures memory { result ≡ 4 → out.new ≡ out.old }
 {
-    match answered(alloc, rom, second, asked, progress) {
+    match answered(alloc, rom, second, asked, work, progress) {
         Ok((text, accepted)) => match put(out, text.as_bytes()) {
             Ok(()) => status_of(accepted, rom),
             Err(DeviceFault) => ExitStatus::Device.code(),
@@ -133,6 +136,7 @@ fn answered<'r, P: Progress>(
     bytes: &'r [u8],
     text: &[u8],
     asked: Asked<'_>,
+    work: &mut Work,
     progress: &mut P,
 ) -> Result<(String, Option<Accepted<'r>>), FlowFault>
     ensures rom { IfOk result (λ both. IfSome both.1 (λ accepted. accepted.rom ≡ bytes.now)) }
@@ -142,7 +146,7 @@ fn answered<'r, P: Progress>(
         most: asked.most,
     };
     if text.starts_with(CERTIFICATE) {
-        return verified(alloc, bytes, text, question);
+        return verified(alloc, bytes, text, question, work);
     }
     let NamedText {
         bytes: numbered,

@@ -4,6 +4,7 @@
 mod limits;
 mod outdated;
 mod pages;
+mod unclaimed;
 mod uncovered;
 
 pub use limits::{add_too_large, bounds_of, first_of, is_about_whole, is_of_bounds};

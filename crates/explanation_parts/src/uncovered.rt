@@ -1,12 +1,14 @@
 // What is wrong between a row of a certificate and where it leads: reasons 11, 12, 13 and 17.
 
+use crate::unclaimed::{Claimed, add_lacking_part, claimed_at, part_behind, told_by};
 use abs_step::NextKind;
 use analysis::FlowFault;
-use certificate::Certificate;
+use certificate::{Certificate, Version};
 use check_cover::callee_at;
 use explanations::Situation;
 use loop_bounds::Linear;
 use named_annotations::variable_name;
+use refined_step::StepTold;
 use refusal_texts::{TargetRow, Wording, add_computed, add_line, add_uncovered, jump_pair};
 
 /// Adds the first successor of a row that no row covers, with what is not met there.
@@ -36,6 +38,7 @@ pub fn add_not_covered(
         Some(facts) => Vec::from_slice(alloc, facts.as_slice())?,
         None => Vec::new(alloc),
     };
+    let told = told_by(with, situation);
     for next in nexts.as_slice() {
         let proc = match next.kind {
             NextKind::Exit => continue,
@@ -54,6 +57,15 @@ pub fn add_not_covered(
         let Some(proc) = proc else {
             continue;
         };
+        if certificate.version() == Version::Three {
+            match claimed_at(certificate, proc, situation, &own, next, &told) {
+                Claimed::Covered => continue,
+                Claimed::Lacks(part) => {
+                    return add_lacking_part(text, with, next.address, &part, &told);
+                }
+                Claimed::Uncovered => {}
+            }
+        }
         let mut rows: Vec<TargetRow> = Vec::new(alloc);
         for id in certificate.rows_at(proc, next.address) {
             if let (Some(state), Some(facts)) = (certificate.state(id), certificate.facts(id)) {
@@ -67,7 +79,35 @@ pub fn add_not_covered(
             return Ok(());
         }
     }
-    add_line(text, "the state after the call is covered by no row")
+    add_behind(text, with, certificate, situation, row)
+}
+
+/// Adds that no row covers the state behind a call, or behind another instruction.
+fn add_behind(
+    text: &mut String,
+    with: &Wording,
+    certificate: &Certificate,
+    situation: &Situation,
+    row: u32,
+) -> Result<(), FlowFault> {
+    let address = situation.place.address;
+    let behind = match board_fetch::fetch(with.rom, address) {
+        Ok((_, len)) => address.saturating_add(u16::from(len)),
+        Err(_) => address,
+    };
+    let is_call = match &situation.judged.nexts {
+        Some(nexts) => nexts.iter().any(|next| next.kind == NextKind::Call),
+        None => false,
+    };
+    let part = match certificate.proc_of(row) {
+        Some(proc) => part_behind(certificate, proc, behind),
+        None => None,
+    };
+    match part {
+        Some(part) if is_call => add_lacking_part(text, with, behind, &part, &StepTold::none()),
+        _ if is_call => add_line(text, "the state after the call is covered by no row"),
+        _ => add_line(text, "the state after it is covered by no row"),
+    }
 }
 
 /// Adds the ranks of a caller and a callee.

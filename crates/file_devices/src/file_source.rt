@@ -1,8 +1,10 @@
 // A file or standard input that is read.
 
-ghost use Rattle.std.specs.Prelude.{◌<◌, ◌-◌, None};
+ghost use Rattle.std.specs.Prelude.{◌≡◌, ◌≤◌, ◌<◌, ◌-◌, IfOk, None, OnErr, OnOk, length};
+ghost use Rattle.texts.specs.Device.{HasGrown};
 
 use crate::failure::{DeviceCall, Failure, Failures};
+use crate::kept::Kept;
 use arrayvec::ArrayVec;
 use std::alloc::Global;
 use std::fs;
@@ -31,8 +33,15 @@ pub struct FileSource<'a, R: Files> {
     path: &'a str,
     stream: Stream<R::File>,
     head: ArrayVec<u8, HEAD_LEN>,
-    /// All that was read, where that is wanted and memory was not refused.
-    text: Option<Vec<u8>>,
+    /// The bytes that were looked at and not read yet.
+    ahead: ArrayVec<u8, HEAD_LEN>,
+    /// Whether the stream is at its end.
+    ended: bool,
+    /// What is remembered, where that is wanted and memory was not refused.
+    kept: Option<Kept>,
+    /// The most bytes that may be read.
+    most: u64,
+    is_too_long: bool,
     len: u64,
     was_read: bool,
     is_amid: bool,
@@ -47,7 +56,11 @@ impl<'a, R: Files> FileSource<'a, R> {
             path,
             stream: Stream::Unopened,
             head: ArrayVec::new(),
-            text: None,
+            ahead: ArrayVec::new(),
+            ended: false,
+            kept: None,
+            most: u64::MAX,
+            is_too_long: false,
             len: 0,
             was_read: false,
             is_amid: false,
@@ -74,15 +87,40 @@ impl<'a, R: Files> FileSource<'a, R> {
     /// The same source, which remembers all that is read, as long as memory is not refused.
     pub fn remembering(self, alloc: Global) -> FileSource<'a, R> {
         let mut source = self;
-        source.text = Some(Vec::new(alloc));
+        source.kept = Some(Kept::all(alloc));
         source
     }
 
-    /// All that was read; None where it is not remembered.
+    /// The same source, which remembers at least the last 16,384 bytes that are read, as long as memory is not refused.
+    pub fn remembering_last(self, alloc: Global) -> FileSource<'a, R> {
+        let mut source = self;
+        source.kept = Some(Kept::last(alloc));
+        source
+    }
+
+    /// From now on reading fails once there are more than `most` bytes.
+    pub fn limit(&mut self, most: u64) {
+        self.most = most;
+    }
+
+    /// Whether reading failed since there are more bytes than may be read.
+    pub fn is_too_long(&self) -> bool {
+        self.is_too_long
+    }
+
+    /// What is remembered of what was read; None where nothing is.
     pub fn text(&self) -> Option<&[u8]> {
-        match &self.text {
-            Some(text) => Some(text.as_slice()),
+        match &self.kept {
+            Some(kept) => Some(kept.bytes()),
             None => None,
+        }
+    }
+
+    /// How many lines ended before what is remembered.
+    pub fn lines_before(&self) -> u64 {
+        match &self.kept {
+            Some(kept) => kept.lines_before(),
+            None => 0,
         }
     }
 
@@ -91,9 +129,27 @@ impl<'a, R: Files> FileSource<'a, R> {
         self.path
     }
 
-    /// The first bytes that were read, 64 at most.
+    /// The first bytes that were read or looked at, 64 at most.
     pub fn head(&self) -> &[u8] {
         self.head.as_slice()
+    }
+
+    /// Looks at the first bytes, 64 at most, before anything is read. They are read later. The result is whether the
+    /// source did not fail.
+    pub fn look(&mut self) -> bool {
+        // Each but the last gives a byte at least.
+        for _ in 0..HEAD_LEN {
+            let mut buffer = [0; HEAD_LEN];
+            let room = HEAD_LEN.saturating_sub(self.head.len());
+            if room == 0 || self.ended {
+                return true;
+            }
+            match self.fetch(&mut buffer[..room]) {
+                Ok(count) => remember(&mut self.ahead, &buffer[..count]),
+                Err(_) => return false,
+            }
+        }
+        true
     }
 
     /// How many bytes were read.
@@ -115,19 +171,31 @@ impl<'a, R: Files> FileSource<'a, R> {
     pub fn is_amid(&self) -> bool {
         self.is_amid
     }
-}
 
-impl<'a, R: Files> Source for FileSource<'a, R> {
-    ghost state = { λ s. record { bytes = None; failures = s.failures.count } };
-
-    fn read(&mut self, buffer: &mut [u8]) -> Result<usize, DeviceFault> {
-        self.was_read = true;
+    /// Opens the file if it is not open yet.
+    fn open(&mut self) -> Result<(), DeviceFault>
+        ensures kept { OnOk result (self.new.failures.count ≡ self.old.failures.count) }
+        ensures failed { OnErr result (HasGrown self.old.failures.count self.new.failures.count) }
+    {
         if let Stream::Unopened = &self.stream {
             match fs::open(self.files, self.path) {
                 Ok(file) => self.stream = Stream::File(file),
                 Err(error) => return Err(self.failures.fail(DeviceCall::Open, Some(error))),
             }
         }
+        Ok(())
+    }
+
+    /// Reads from the stream, but never after its end.
+    fn fetch(&mut self, buffer: &mut [u8]) -> Result<usize, DeviceFault>
+        ensures within { IfOk result (λ n. n ≤ length buffer.old) }
+        ensures kept { OnOk result (self.new.failures.count ≡ self.old.failures.count) }
+        ensures failed { OnErr result (HasGrown self.old.failures.count self.new.failures.count) }
+    {
+        if self.ended {
+            return Ok(0);
+        }
+        self.open()?;
         let read = match &mut self.stream {
             Stream::File(file) => file.read(buffer),
             Stream::Standard(stdin) => stdin.read(buffer),
@@ -136,23 +204,65 @@ impl<'a, R: Files> Source for FileSource<'a, R> {
         };
         match read {
             Ok(count) => {
-                self.is_amid = count > 0;
-                self.len = self.len.saturating_add(count as u64);
+                self.ended = count == 0 && !buffer.is_empty();
                 remember(&mut self.head, &buffer[..count]);
-                let is_kept = match &mut self.text {
-                    Some(text) => text.extend_from_slice(&buffer[..count]).is_ok(),
-                    None => true,
-                };
-                if !is_kept {
-                    self.text = None;
-                }
                 Ok(count)
             }
-            Err(error) => {
-                self.is_amid = false;
-                Err(self.failures.fail(DeviceCall::Read, Some(error)))
-            }
+            Err(error) => Err(self.failures.fail(DeviceCall::Read, Some(error))),
         }
+    }
+
+    /// Reads the bytes that were looked at.
+    fn take_ahead(&mut self, buffer: &mut [u8]) -> usize
+        ensures within { result ≤ length buffer.old }
+        ensures kept { self.new.failures.count ≡ self.old.failures.count }
+    {
+        let count = buffer.len().min(self.ahead.len());
+        let (given, left) = self.ahead.as_slice().split_at(count);
+        buffer[..count].copy_from_slice(given);
+        let mut rest = ArrayVec::new();
+        remember(&mut rest, left);
+        self.ahead = rest;
+        count
+    }
+
+    /// Counts bytes that were read, and remembers them if that is wanted.
+    fn note(&mut self, bytes: &[u8])
+        ensures { self.new.failures.count ≡ self.old.failures.count }
+    {
+        self.is_amid = !bytes.is_empty();
+        self.len = self.len.saturating_add(bytes.len() as u64);
+        let is_kept = match &mut self.kept {
+            Some(kept) => kept.add(bytes).is_ok(),
+            None => true,
+        };
+        if !is_kept {
+            self.kept = None;
+        }
+    }
+}
+
+impl<'a, R: Files> Source for FileSource<'a, R> {
+    ghost state = { λ s. record { bytes = None; failures = s.failures.count } };
+
+    fn read(&mut self, buffer: &mut [u8]) -> Result<usize, DeviceFault> {
+        self.was_read = true;
+        let count = if self.ahead.is_empty() {
+            let Ok(count) = self.fetch(buffer) else {
+                self.is_amid = false;
+                return Err(DeviceFault);
+            };
+            count
+        } else {
+            self.take_ahead(buffer)
+        };
+        self.note(&buffer[..count]);
+        if self.len > self.most {
+            self.is_too_long = true;
+            self.is_amid = false;
+            return Err(self.failures.fail(DeviceCall::Read, None));
+        }
+        Ok(count)
     }
 
     fn failures(&self) -> u64 {

@@ -4,6 +4,7 @@
 mod failure;
 mod file_sink;
 mod file_source;
+mod kept;
 mod likeness;
 mod output;
 mod same_file;

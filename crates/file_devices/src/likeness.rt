@@ -15,6 +15,8 @@ pub enum Likeness {
     Zip,
     /// A text in TOML: its first line that is not blank or a comment is a key with a value, or a table.
     Toml,
+    /// A file with bytes that no text has, as a ROM is.
+    Rom,
 }
 
 impl Likeness {
@@ -32,6 +34,8 @@ impl Likeness {
             Some(Likeness::Motorola)
         } else if is_toml(head) {
             Some(Likeness::Toml)
+        } else if head.iter().any(|byte| !is_of_text(*byte)) {
+            Some(Likeness::Rom)
         } else {
             None
         }
@@ -46,6 +50,7 @@ impl Likeness {
             Likeness::Elf => "an ELF file",
             Likeness::Zip => "a ZIP archive",
             Likeness::Toml => "a TOML text",
+            Likeness::Rom => "a ROM",
         }
     }
 }

@@ -6,8 +6,9 @@ use crate::streams::Remarks;
 use clap::ArgMatches;
 use command_parts::ExitStatus;
 use command_reports::{UsedDevice, clash_of, end, report_clash};
+use command_streams::Watched;
 use command_words::{OLD_SYMBOLS, SYMBOLS};
-use named_reports::{NameFiles, ProgramNames, hint_last_read};
+use named_reports::{NameFiles, ProgramNames, Wanted, hint_last_read, look_at};
 use view_commands::{EntryNames, diff_on};
 
 /// `galcert diff`. The result is the exit status.
@@ -27,13 +28,16 @@ pub fn diff_files<'a>(rt: &'a HostRuntime, matches: &ArgMatches<'a>, notes: &mut
         old: &old.names.symbols,
         new: &new.names.symbols,
     };
-    let mut earlier = input(rt, matches, "OLD");
-    let mut later = input(rt, matches, "NEW");
-    let mut out = stdout(rt);
+    let mut earlier = input(rt, matches, "OLD").remembering_last(rt.alloc());
+    let mut later = input(rt, matches, "NEW").remembering_last(rt.alloc());
+    let (old, new) = (Wanted::Certificate("OLD"), Wanted::Certificate("NEW"));
+    look_at(&mut earlier, old, &mut later, new, notes);
+    let mut out = Watched::new(stdout(rt));
     let status = diff_on(rt.alloc(), &mut earlier, &mut later, names, &mut out);
     if status == ExitStatus::Refused.code() {
-        hint_last_read(rt.alloc(), &earlier, &later, notes);
+        hint_last_read(&earlier, &later, out.line(), notes);
     }
+    let out = out.into_inner();
     let used = [
         UsedDevice::input(&earlier),
         UsedDevice::input(&later),

@@ -4,6 +4,7 @@ use clap::ArgMatches;
 use command_reports::Reporter;
 use command_words::word;
 use file_devices::{FileSource, Output};
+use symbols::MAX_TEXT;
 
 /// A file or standard input.
 pub type InputFile<'a> = FileSource<'a, HostRuntime>;
@@ -11,12 +12,25 @@ pub type InputFile<'a> = FileSource<'a, HostRuntime>;
 /// A file, a standard stream, or nothing.
 pub type Out<'a> = Output<'a, HostRuntime>;
 
+/// The most bytes of annotations: as many as a symbol file and a listing may have.
+pub const MOST_ANNOTATIONS: u64 = MAX_TEXT as u64;
+
 /// The word for a standard stream in the place of a file.
 const STANDARD: &str = "-";
 
 /// The input that an argument names; `-` is standard input.
 pub fn input<'a>(rt: &'a HostRuntime, matches: &ArgMatches<'a>, argument: &str) -> InputFile<'a> {
     input_of(rt, word(matches, argument))
+}
+
+/// The ROM, which is remembered for hints.
+pub fn rom_input<'a>(rt: &'a HostRuntime, matches: &ArgMatches<'a>) -> InputFile<'a> {
+    input(rt, matches, "ROM").remembering(rt.alloc())
+}
+
+/// The certificate, whose last lines are remembered for hints.
+pub fn cert_input<'a>(rt: &'a HostRuntime, matches: &ArgMatches<'a>) -> InputFile<'a> {
+    input(rt, matches, "CERT").remembering_last(rt.alloc())
 }
 
 /// The input with this name; `-` is standard input.

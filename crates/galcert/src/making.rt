@@ -1,15 +1,18 @@
 // The commands that make a certificate, and find annotations for one.
 
-use crate::devices::{InputFile, Out, input, optional, output, searching, stderr, stdout};
+use crate::devices::{
+    InputFile, MOST_ANNOTATIONS, Out, optional, output, rom_input, searching, stderr, stdout,
+};
 use crate::naming::{has_names, has_reports, names, symbols_of, tell_refused};
 use crate::streams::{Remarks, answer};
 use certificate::Version;
 use clap::ArgMatches;
-use command_parts::ExitStatus;
+use command_parts::{ExitStatus, Limits};
 use command_reports::{
-    Limits, UsedDevice, clash_of, end, finish_kept, report, report_clash, trials_of, version_of,
+    UsedDevice, clash_of, end, finish_kept, limits_of, report_above, report_clash, trials_of,
+    version_of,
 };
-use command_streams::{Printed, Watched};
+use command_streams::{Printed, Watched, report};
 use command_words::{
     CERT_FILE, INFER, JSON, LISTING, OUTPUT, QUIET, SYMBOLS, VERSION_AT_MOST, WARN_UNNEEDED, word,
 };
@@ -18,7 +21,7 @@ use file_devices::{AfterOutput, Output, SharedOutput};
 use inference_commands::{infer_on, suggest_on};
 use json_documents::{Command, conclude, conclude_file};
 use named_commands::{NamedCheck, check_named_on, suggest_named_on};
-use named_reports::{ProgramNames, hint_annotations, hint_named, hint_rom};
+use named_reports::{ProgramNames, Wanted, hint_annotations, hint_rom, look_at};
 use std::cell::RefCell;
 use texts::Sink;
 
@@ -34,7 +37,6 @@ struct MakeRequest<'r, 'm> {
     trials: u32,
     /// The greatest version of a certificate that a search finds.
     most: Version,
-    limits: Limits,
 }
 
 impl<'r, 'm> MakeRequest<'r, 'm> {
@@ -46,13 +48,11 @@ impl<'r, 'm> MakeRequest<'r, 'm> {
     ) -> Option<MakeRequest<'r, 'm>> {
         let trials = trials_of(notes, matches);
         let most = version_of(notes, matches, VERSION_AT_MOST, Version::Three);
-        let limits = Limits::of(matches, notes);
         Some(MakeRequest {
             rt,
             matches,
             trials: trials?,
             most: most?,
-            limits: limits?,
         })
     }
 }
@@ -67,19 +67,30 @@ pub fn check_files<'a>(rt: &'a HostRuntime, matches: &ArgMatches<'a>, notes: &mu
         );
         return ExitStatus::Usage.code();
     }
-    let Some(asked) = MakeRequest::of(rt, matches, notes) else {
+    let asked = MakeRequest::of(rt, matches, notes);
+    let limits = limits_of(matches, notes);
+    let (Some(asked), Some(mut limits)) = (asked, limits) else {
         return ExitStatus::Usage.code();
     };
     if let Some(clash) = clash_of(rt, matches, &INPUTS, matches.get_str(CERT_FILE)) {
         return report_clash(notes, &clash);
     }
-    let mut rom = input(rt, matches, "ROM");
+    let mut rom = rom_input(rt, matches);
     let mut annot = annotations(rt, matches);
     let kept = RefCell::new(output(rt, matches, CERT_FILE));
     let mut keep = SharedOutput::new(&kept);
     let table = AfterOutput::new(&kept, table_output(rt, matches));
     let out = answer(rt, matches.get_flag(JSON), table);
-    let (status, out) = match judge_files(asked, &mut rom, &mut annot, &mut keep, out, notes) {
+    let judged = judge_files(
+        asked,
+        &mut limits,
+        &mut rom,
+        &mut annot,
+        &mut keep,
+        out,
+        notes,
+    );
+    let (status, out) = match judged {
         Ok(judged) => judged,
         Err(status) => return status,
     };
@@ -107,29 +118,28 @@ pub fn check_files<'a>(rt: &'a HostRuntime, matches: &ArgMatches<'a>, notes: &mu
 /// The status where a symbol file or a listing cannot be read; standard error says why.
 fn judge_files<K: Sink, W: Sink + Drop>(
     asked: MakeRequest<'_, '_>,
+    limits: &mut Limits,
     rom: &mut InputFile<'_>,
     annot: &mut InputFile<'_>,
     keep: &mut K,
     out: Printed<W>,
     notes: &mut Remarks,
 ) -> Result<(u8, Printed<W>), u8> {
-    let (rt, matches, limits) = (asked.rt, asked.matches, asked.limits);
+    let (rt, matches) = (asked.rt, asked.matches);
     let infers = matches.get_flag(INFER);
     let names = names(rt, matches, notes, has_reports(matches))?;
+    look_at(rom, Wanted::Rom, annot, Wanted::Annotations, notes);
     let mut out = Watched::new(out);
     let status = match &names {
-        Some(names) => check_by_names(asked, names, rom, annot, keep, &mut out, notes),
-        None => check_plain(asked, rom, annot, keep, &mut out, notes),
+        Some(names) => check_by_names(asked, names, limits, rom, annot, keep, &mut out, notes),
+        None => check_plain(asked, limits, rom, annot, keep, &mut out, notes),
     };
-    tell_refused(rt, names.as_ref(), status, &out, notes);
-    if status == ExitStatus::Refused.code() {
-        hint_rom(rt, rt.alloc(), rom, notes);
-        match &names {
-            Some(names) => hint_named(rt.alloc(), annot, names, infers, notes),
-            None => hint_annotations(rt.alloc(), annot, infers, notes),
-        }
+    tell_refused(names.as_ref(), status, &out, notes);
+    if status == ExitStatus::Refused.code() && limits.used().is_none() {
+        hint_rom(rt, rom, notes);
+        hint_annotations(rt.alloc(), rom, annot, names.as_ref(), infers, notes);
     }
-    let status = limits.judge(notes, status, &out);
+    report_above(notes, limits);
     let mut out = out.into_inner();
     let symbols = symbols_of(names.as_ref());
     let status = conclude(rt.alloc(), Command::Check, status, &mut out, notes, symbols);
@@ -140,6 +150,7 @@ fn judge_files<K: Sink, W: Sink + Drop>(
 fn check_by_names<K: Sink, W: Sink>(
     asked: MakeRequest<'_, '_>,
     names: &ProgramNames<'_>,
+    limits: &mut Limits,
     rom: &mut InputFile<'_>,
     annot: &mut InputFile<'_>,
     keep: &mut K,
@@ -158,6 +169,7 @@ fn check_by_names<K: Sink, W: Sink>(
         rom,
         annot,
         how,
+        limits,
         keep,
         out,
         notes,
@@ -168,6 +180,7 @@ fn check_by_names<K: Sink, W: Sink>(
 /// Checks without names for addresses. The result is the exit status.
 fn check_plain<K: Sink, W: Sink>(
     asked: MakeRequest<'_, '_>,
+    limits: &mut Limits,
     rom: &mut InputFile<'_>,
     annot: &mut InputFile<'_>,
     keep: &mut K,
@@ -176,16 +189,20 @@ fn check_plain<K: Sink, W: Sink>(
 ) -> u8 {
     let alloc = asked.rt.alloc();
     if !asked.matches.get_flag(INFER) {
-        return check_on(alloc, rom, annot, keep, out);
+        return check_on(alloc, rom, annot, limits, keep, out);
     }
     let (trials, most) = (asked.trials, asked.most);
     let progress = &mut searching(asked.rt);
-    infer_on(alloc, rom, annot, trials, most, keep, out, notes, progress)
+    infer_on(
+        alloc, rom, annot, trials, most, limits, keep, out, notes, progress,
+    )
 }
 
 /// The annotations; none if they are not named. Their text is remembered for hints.
 fn annotations<'a>(rt: &'a HostRuntime, matches: &ArgMatches<'a>) -> InputFile<'a> {
-    optional(rt, matches.get_str("ANNOT")).remembering(rt.alloc())
+    let mut annot = optional(rt, matches.get_str("ANNOT")).remembering(rt.alloc());
+    annot.limit(MOST_ANNOTATIONS);
+    annot
 }
 
 /// Where the table goes: nowhere if it is not wanted, to standard error if the certificate goes to standard output.
@@ -207,7 +224,7 @@ pub fn suggest_files<'a>(rt: &'a HostRuntime, matches: &ArgMatches<'a>, notes: &
     if let Some(clash) = clash_of(rt, matches, &INPUTS, matches.get_str(OUTPUT)) {
         return report_clash(notes, &clash);
     }
-    let mut rom = input(rt, matches, "ROM");
+    let mut rom = rom_input(rt, matches);
     let mut annot = annotations(rt, matches);
     let kept = RefCell::new(output(rt, matches, OUTPUT));
     let mut keep = SharedOutput::new(&kept);
@@ -238,14 +255,12 @@ fn find_files<K: Sink, W: Sink + Drop>(
 ) -> Result<(u8, Printed<W>), u8> {
     let (rt, matches, alloc) = (asked.rt, asked.matches, asked.rt.alloc());
     let names = names(rt, matches, notes, has_names(matches))?;
+    look_at(rom, Wanted::Rom, annot, Wanted::Annotations, notes);
     let mut out = out;
     let status = suggest(asked, names.as_ref(), rom, annot, &mut out, notes);
     if status == ExitStatus::Refused.code() {
-        hint_rom(rt, alloc, rom, notes);
-        match &names {
-            Some(names) => hint_named(alloc, annot, names, true, notes),
-            None => hint_annotations(alloc, annot, true, notes),
-        }
+        hint_rom(rt, rom, notes);
+        hint_annotations(alloc, rom, annot, names.as_ref(), true, notes);
     }
     let symbols = symbols_of(names.as_ref());
     let status = if has_file(matches) {

@@ -71,7 +71,6 @@ pub fn symbols_of<'n>(names: Option<&'n ProgramNames>) -> Option<&'n Symbols> {
 
 /// Says where the refused address is, if something was refused and names are known.
 pub fn tell_refused<W: Sink>(
-    rt: &HostRuntime,
     names: Option<&ProgramNames>,
     status: u8,
     out: &Watched<W>,
@@ -79,7 +78,7 @@ pub fn tell_refused<W: Sink>(
 ) {
     if status == ExitStatus::Refused.code() {
         if let Some(names) = names {
-            tell_refusal(rt.alloc(), &names.names, out.line(), notes);
+            tell_refusal(&names.names, out.line(), notes);
         }
     }
 }

@@ -1,20 +1,20 @@
 // `galcert run`.
 
-use crate::devices::{InputFile, Out, input, output_to};
+use crate::devices::{InputFile, Out, cert_input, input, output_to, rom_input};
 use crate::naming::{has_names, names, symbols_of, tell_refused};
 use crate::streams::{Remarks, answer};
 use clap::ArgMatches;
-use command_parts::ExitStatus;
+use command_parts::{ExitStatus, Work};
 use command_reports::{
-    Clash, Reporter, UsedDevice, clash_of, end, finish_all, number_of, report, report_clash,
-    twice_written,
+    Clash, Reporter, UsedDevice, clash_of, end, finish_all, number_of, report_clash, report_work,
+    tell_work, twice_written, work_of,
 };
-use command_streams::{MeteredSource, Printed, Watched};
+use command_streams::{MeteredSource, Printed, Watched, report};
 use command_words::{DUMP, JSON, LISTING, SYMBOLS, TRACE, UNTIL_NMI, word};
 use commands::{run_on, steps_of};
 use file_devices::{Output, WriterSink};
 use json_documents::{Command, conclude};
-use named_reports::{ProgramNames, hint_certificate, hint_rom};
+use named_reports::{ProgramNames, Wanted, hint_certificate, hint_input, hint_rom, look_at};
 use run_traces::{DumpNames, RamParts, Watching, dump_names, watch_on};
 use std::io;
 use std::io::Printer;
@@ -43,6 +43,10 @@ pub fn run_files<'a>(rt: &'a HostRuntime, matches: &ArgMatches<'a>, notes: &mut 
         Some(asked) => asked,
         None => return ExitStatus::Usage.code(),
     };
+    let mut work = match work_of(notes, matches) {
+        Some(work) => work,
+        None => return ExitStatus::Usage.code(),
+    };
     if let Some(clash) = clash_of_dumps(rt, matches, asked.dumps) {
         return report_clash(notes, &clash);
     }
@@ -51,10 +55,12 @@ pub fn run_files<'a>(rt: &'a HostRuntime, matches: &ArgMatches<'a>, notes: &mut 
         Err(status) => return status,
     };
     if asked.until_nmi.is_some() || !asked.dumps.work.is_empty() || matches.get_flag(TRACE) {
-        return watch_files(rt, matches, asked, names.as_ref(), notes);
+        return watch_files(rt, matches, asked, &mut work, names.as_ref(), notes);
     }
-    let mut rom = input(rt, matches, "ROM");
-    let mut cert = input(rt, matches, "CERT");
+    let mut rom = rom_input(rt, matches);
+    let mut cert = cert_input(rt, matches);
+    let is_cert = Wanted::Certificate("CERT");
+    look_at(&mut rom, Wanted::Rom, &mut cert, is_cert, notes);
     let mut played = played_input(rt, matches);
     let mut out = lines_of(rt, matches);
     let status = run_on(
@@ -63,13 +69,19 @@ pub fn run_files<'a>(rt: &'a HostRuntime, matches: &ArgMatches<'a>, notes: &mut 
         &mut cert,
         &mut played,
         asked.steps,
+        &mut work,
         &mut out,
     );
-    tell_refused(rt, names.as_ref(), status, &out, notes);
-    hint_refused(rt, status, &rom, &cert, notes);
+    tell_refused(names.as_ref(), status, &out, notes);
+    hint_refused(rt, status, &rom, &cert, out.line(), notes);
+    hint_bad_input(status, played.source(), &out, notes);
+    tell_work(&mut out, status, &work);
     let mut out = out.into_inner();
     let symbols = symbols_of(names.as_ref());
     let status = conclude(rt.alloc(), Command::Run, status, &mut out, notes, symbols);
+    if report_work(notes, status, &work, cert.path()) {
+        return status;
+    }
     let used = [
         UsedDevice::input(&rom),
         UsedDevice::input(&cert),
@@ -84,20 +96,23 @@ fn watch_files<'a>(
     rt: &'a HostRuntime,
     matches: &ArgMatches<'a>,
     asked: RunRequest<'a>,
+    work: &mut Work,
     names: Option<&ProgramNames>,
     notes: &mut Remarks,
 ) -> u8 {
-    let mut rom = input(rt, matches, "ROM");
-    let mut cert = input(rt, matches, "CERT");
+    let mut rom = rom_input(rt, matches);
+    let mut cert = cert_input(rt, matches);
+    let is_cert = Wanted::Certificate("CERT");
+    look_at(&mut rom, Wanted::Rom, &mut cert, is_cert, notes);
     let mut played = played_input(rt, matches);
     let mut out = lines_of(rt, matches);
     let DumpNames {
-        work,
+        work: work_path,
         video,
         object,
     } = asked.dumps;
     let mut ram = RamParts::new(
-        dump_output(rt, work),
+        dump_output(rt, work_path),
         dump_output(rt, video),
         dump_output(rt, object),
     );
@@ -112,22 +127,28 @@ fn watch_files<'a>(
         &mut cert,
         &mut played,
         how,
+        work,
         &mut ram,
         &mut out,
     );
-    tell_refused(rt, names, status, &out, notes);
-    hint_refused(rt, status, &rom, &cert, notes);
+    tell_refused(names, status, &out, notes);
+    hint_refused(rt, status, &rom, &cert, out.line(), notes);
+    hint_bad_input(status, played.source(), &out, notes);
+    tell_work(&mut out, status, work);
     let mut out = out.into_inner();
     let symbols = symbols_of(names);
     let status = conclude(rt.alloc(), Command::Run, status, &mut out, notes, symbols);
     let mut ram = ram.into_parts();
     let status = finish_all(status, &mut ram);
+    if report_work(notes, status, work, cert.path()) {
+        return status;
+    }
     let [work_out, video_out, object_out] = &ram;
     let used = [
         UsedDevice::input(&rom),
         UsedDevice::input(&cert),
         UsedDevice::input(played.source()),
-        UsedDevice::output(work, work_out),
+        UsedDevice::output(work_path, work_out),
         UsedDevice::output(video, video_out),
         UsedDevice::output(object, object_out),
         UsedDevice::failed("standard output", out.device().failure()),
@@ -139,7 +160,7 @@ fn watch_files<'a>(
 fn asked_of<'a>(matches: &ArgMatches<'a>, notes: &mut Remarks) -> Option<RunRequest<'a>> {
     let Some(steps) = steps_of(word(matches, "STEPS")) else {
         report(notes, "bad steps");
-        let steps = word(matches, "STEPS").escape_debug();
+        let steps = word(matches, "STEPS");
         report(
             notes,
             format_args!("galcert: STEPS is \"{steps}\", and not a decimal of at most 4294967295"),
@@ -152,7 +173,7 @@ fn asked_of<'a>(matches: &ArgMatches<'a>, notes: &mut Remarks) -> Option<RunRequ
     };
     let Some(dumps) = dump_names(matches.get_str(DUMP)) else {
         report(notes, "bad dump");
-        let dumps = word(matches, DUMP).escape_debug();
+        let dumps = word(matches, DUMP);
         report(
             notes,
             format_args!("galcert: FILE is \"{dumps}\", and not one file or three, with commas"),
@@ -202,16 +223,24 @@ fn lines_of<'a>(rt: &'a HostRuntime, matches: &ArgMatches<'a>) -> Lines<'a> {
     Watched::new(answer(rt, matches.get_flag(JSON), writer))
 }
 
-/// After a refusal, says what the files look like.
+/// After a refusal, says what is wrong with the files. `line` is the first line that was written.
 pub fn hint_refused(
     rt: &HostRuntime,
     status: u8,
     rom: &InputFile,
     cert: &InputFile,
+    line: &[u8],
     notes: &mut Remarks,
 ) {
     if status == ExitStatus::Refused.code() {
-        hint_rom(rt, rt.alloc(), rom, notes);
-        hint_certificate(rt.alloc(), rom, cert, notes);
+        hint_rom(rt, rom, notes);
+        hint_certificate(rom, cert, line, notes);
+    }
+}
+
+/// After a bad line of the input, says what form it ought to have.
+fn hint_bad_input(status: u8, played: &InputFile, out: &Lines, notes: &mut Remarks) {
+    if status == ExitStatus::Refused.code() {
+        hint_input(played, out.last_line(), notes);
     }
 }

@@ -1,15 +1,19 @@
 // The commands that show an accepted program: `list`, `longest` and `report`.
 
-use crate::devices::input;
+use crate::devices::{cert_input, rom_input};
 use crate::naming::read;
 use crate::running::hint_refused;
 use crate::streams::{Remarks, answer};
 use clap::ArgMatches;
-use command_reports::{Reporter, UsedDevice, clash_of, end, is_closed_pipe, report_clash};
-use command_streams::MeteredSink;
+use command_parts::ExitStatus;
+use command_reports::{
+    Reporter, UsedDevice, clash_of, end, report_clash, report_work, tell_work, work_of,
+};
+use command_streams::{MeteredSink, Watched};
 use command_words::{ENTRY, JSON, LISTING, ROWS, SYMBOLS, word};
 use file_devices::WriterSink;
 use json_documents::{Command, conclude};
+use named_reports::{Wanted, look_at};
 use std::io;
 use view_commands::{FileNames, list_on, longest_on, report_on};
 
@@ -50,6 +54,9 @@ fn view_files<'a>(
     shows: Shows,
     notes: &mut Remarks,
 ) -> u8 {
+    let Some(mut work) = work_of(notes, matches) else {
+        return ExitStatus::Usage.code();
+    };
     if let Some(clash) = clash_of(rt, matches, &["ROM", "CERT", SYMBOLS, LISTING], None) {
         return report_clash(notes, &clash);
     }
@@ -58,42 +65,47 @@ fn view_files<'a>(
         Err(status) => return status,
     };
     let symbols = &names.names.symbols;
-    let mut rom = input(rt, matches, "ROM");
-    let mut cert = input(rt, matches, "CERT");
+    let mut rom = rom_input(rt, matches);
+    let mut cert = cert_input(rt, matches);
+    let is_cert = Wanted::Certificate("CERT");
+    look_at(&mut rom, Wanted::Rom, &mut cert, is_cert, notes);
     let printed = MeteredSink::new(
         WriterSink::new(io::writer(rt)),
         Reporter::passing(rt, rt.stderr(), "written"),
     );
-    let mut out = answer(rt, matches.get_flag(JSON), printed);
+    let mut out = Watched::new(answer(rt, matches.get_flag(JSON), printed));
     let alloc = rt.alloc();
+    let work = &mut work;
     let status = match shows {
-        Shows::List => list_on(alloc, &mut rom, &mut cert, symbols, &mut out),
+        Shows::List => list_on(alloc, &mut rom, &mut cert, symbols, work, &mut out),
         Shows::Report => {
             let files = FileNames {
                 rom: file_name(word(matches, "ROM")),
                 cert: file_name(word(matches, "CERT")),
                 symbols: matches.get_str(SYMBOLS).map(file_name),
             };
-            report_on(alloc, &mut rom, &mut cert, symbols, files, &mut out)
+            report_on(alloc, &mut rom, &mut cert, symbols, files, work, &mut out)
         }
         Shows::Longest => {
             let entry = matches.get_str(ENTRY);
             let by_rows = matches.get_flag(ROWS);
             longest_on(
-                alloc, &mut rom, &mut cert, symbols, entry, by_rows, &mut out, notes,
+                alloc, &mut rom, &mut cert, symbols, entry, by_rows, work, &mut out, notes,
             )
         }
     };
-    hint_refused(rt, status, &rom, &cert, notes);
+    hint_refused(rt, status, &rom, &cert, out.line(), notes);
+    tell_work(&mut out, status, work);
+    let mut out = out.into_inner();
     let command = match shows {
         Shows::Longest => Command::Longest,
         Shows::List | Shows::Report => Command::List,
     };
     let status = conclude(alloc, command, status, &mut out, notes, Some(symbols));
-    let failure = out.device().sink().failure();
-    if is_closed_pipe(failure) {
+    if report_work(notes, status, work, cert.path()) {
         return status;
     }
+    let failure = out.device().sink().failure();
     let used = [
         UsedDevice::input(&rom),
         UsedDevice::input(&cert),

@@ -5,8 +5,10 @@ use Rattle.cert_form.specs.Text.{text_of}
 use Rattle.texts.specs.Device.{DeviceState, Takes}
 use Rattle.command_parts.proofs.FileLemmas.{of_whole}
 use Rattle.command_parts.specs.Judging.{IsAccepted}
+use Rattle.command_parts.specs.Limits.{UsesAtMost}
+use Rattle.command_parts.specs.declared.limits.Usage.{Usage}
 use Rattle.command_parts.specs.Reading.{FirstBytes, ROM_READ_LEN}
-use Rattle.inference_commands.specs.Inferring.{InfersAndTells, IsAcceptable}
+use Rattle.inference_commands.specs.Inferring.{InfersAndTells, IsAcceptable, OnInferred}
 use Rattle.command_verdicts.specs.Verdict.{accepted_text}
 
 -- the text of an inferred certificate was kept, and its table was written from an unchanged sink
@@ -27,3 +29,10 @@ infers_and_tells {X} Writes state rom keep_old keep_new new bytes certificate sh
 pub is_acceptable : (rom : Option (List ℕ)) (bytes : List ℕ) (certificate : CertificateView) → FirstBytes ROM_READ_LEN rom bytes → IsAccepted bytes (text_of certificate) certificate → IsAcceptable rom
 is_acceptable rom bytes certificate first accepted =
     of_whole rom bytes (λ b. (c : CertificateView) × IsAccepted b (text_of c) c × Unit {0}) first (omega (arith, accepted.accepts.fits_rom.fits)) (certificate, accepted, tt)
+
+-- an inferred certificate is within limits
+pub infers_within : (most : Usage) (rom : Option (List ℕ)) (bytes : List ℕ) (certificate shown : CertificateView) → FirstBytes ROM_READ_LEN rom bytes → IsAccepted bytes (text_of certificate) certificate →
+    shown ≡ certificate → UsesAtMost most shown → OnInferred rom (UsesAtMost most)
+infers_within most rom bytes certificate shown first accepted is within =
+    of_whole rom bytes (λ b. (c : CertificateView) × IsAccepted b (text_of c) c × UsesAtMost most c) first (omega (arith, accepted.accepts.fits_rom.fits))
+    (certificate, accepted, subst (λ (c : CertificateView). UsesAtMost most c) is within)

@@ -45,22 +45,19 @@ pub fn read_given<W: Sink>(alloc: Global, text: &[u8], out: &mut W) -> Result<Gi
 }
 
 /// Finds annotations for a ROM beside those given, for a certificate of version `most` at most: 3, or less for 2. If
-/// the search has no answer, the line that reports it is written to `out`. A line on `notes` says what was found, with
-/// labels beside addresses.
+/// the search has no answer, the line that reports it is written to `out`.
 ///
 /// # Errors
 ///
 /// `Refused` where the search has no answer, `Device` where a device failed, and `OutOfMemory` where memory was
 /// refused.
-pub fn find<'r, 'g, W: Sink, N: Sink, P: Progress>(
+pub fn find<'r, 'g, W: Sink, P: Progress>(
     alloc: Global,
     rom: &'r [u8],
     given: &'g Given,
     trials: u32,
     most: Version,
-    symbols: &Symbols,
     out: &mut W,
-    notes: &mut N,
     progress: &mut P,
 ) -> Result<Inference<'r, 'g>, Stop>
     ensures rom { IfOk result (λ found. found.judged ≡ rom.now) }
@@ -70,10 +67,7 @@ pub fn find<'r, 'g, W: Sink, N: Sink, P: Progress>(
     ensures memory { result ≡ Err Stop.OutOfMemory → out.new ≡ out.old }
 {
     match inferred(alloc, rom, given, trials, most, progress) {
-        Ok(Some(found)) => {
-            tell_found(alloc, &found, symbols, notes);
-            Ok(found)
-        }
+        Ok(Some(found)) => Ok(found),
         Ok(None) => {
             put(out, refused_line(&of_rom()).bytes())?;
             Err(Stop::Refused)
@@ -88,7 +82,7 @@ pub fn find<'r, 'g, W: Sink, N: Sink, P: Progress>(
 
 /// Finds annotations for a ROM beside those of a text, and makes a certificate by them. If none is accepted, the line
 /// that reports it is written to `out`. A line on `notes` says what was found, with labels of `symbols` beside
-/// addresses. The certificate is of version `most` at most: 3, or less for 2.
+/// addresses; what `notes` does not take is left out. The certificate is of version `most` at most: 3, or less for 2.
 ///
 /// # Errors
 ///
@@ -117,12 +111,12 @@ pub fn infer<'r, W: Sink, N: Sink, P: Progress>(
         Ok(given) => given,
         Err(stop) => return Err(stop),
     };
-    let found = match find(
-        alloc, rom, &given, trials, most, symbols, out, notes, progress,
-    ) {
+    let found = match find(alloc, rom, &given, trials, most, out, progress) {
         Ok(found) => found,
         Err(stop) => return Err(stop),
     };
+    let line = found_line(alloc, &found, symbols)?;
+    let _told = put(notes, line.as_bytes());
     match found.judged.into_answer() {
         Ok(accepted) => {
             accepted.certificate().is_in_form();
@@ -195,15 +189,12 @@ fn add(count: &mut u32, more: usize) {
     *count = count.saturating_add(more.min(1_000_000) as u32);
 }
 
-/// Tells what was found. What cannot be written, or made in memory, is left out.
-fn tell_found<N: Sink>(alloc: Global, found: &Inference, symbols: &Symbols, notes: &mut N) {
-    if let Ok(line) = found_line(alloc, found, symbols) {
-        let _told = put(notes, line.as_bytes());
-    }
-}
-
 /// The line that says what was found. The error is refused memory.
-fn found_line(alloc: Global, found: &Inference, symbols: &Symbols) -> Result<String, AllocError> {
+pub(crate) fn found_line(
+    alloc: Global,
+    found: &Inference,
+    symbols: &Symbols,
+) -> Result<String, AllocError> {
     let counts = count_of(found);
     let (facts, rows) = (counts.facts, counts.rows);
     let (inlines, splits, loops) = (counts.inlines, counts.splits, counts.loops);

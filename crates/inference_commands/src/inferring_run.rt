@@ -1,13 +1,14 @@
 // `galcert check --infer`.
 
 ghost use Rattle.std.specs.Prelude.{◌≡◌, ◌≢◌, ◌⊎◌};
-ghost use Rattle.inference_commands.specs.Inferring.{InfersAndTells};
+ghost use Rattle.command_parts.specs.Limits.{UsesAtMost};
+ghost use Rattle.inference_commands.specs.Inferring.{InfersAndTells, OnInferred};
 ghost use Rattle.command_parts.specs.Status.{IsStatus};
 ghost use Rattle.texts.specs.Device.{HasFailed, CountsNoFailure, Takes};
 
 use crate::finding::infer;
 use certificate::Version;
-use command_parts::{ExitStatus, keep_and_tell, read_all, read_rom};
+use command_parts::{ExitStatus, Limits, keep_and_tell, read_all, read_rom, tell_above};
 use explored_plans::Progress;
 use std::alloc::Global;
 use symbols::Symbols;
@@ -16,17 +17,19 @@ use texts::{DeviceFault, Sink, Source};
 /// `galcert check ROM [ANNOT] --infer [--cert FILE]`: finds annotations beside those in ANNOT, makes a certificate,
 /// writes its text to `keep` and then the table to `out`; or writes the refusal to `out` (docs/PROGRAM.md). The search
 /// takes at most `trials` trials, and the certificate is of version `most` at most: 3, or less for 2. One line on
-/// `notes` says what was found; the result does not depend on `notes`. Only an accepted certificate is written to
-/// `keep`, and the table follows once `keep` has the whole text. The search tells `progress` of each trial.
+/// `notes` says what was found; the result does not depend on `notes`. Only an accepted certificate within `limits` is
+/// written to `keep`, and the table follows once `keep` has the whole text. Above a limit the table alone is written.
+/// The search tells `progress` of each trial.
 ///
-/// The result is the exit status: 0 accepted, 1 refused or bad annotations, 3 a device failed, 4 memory was refused.
-/// What was written before a device failed stays.
+/// The result is the exit status: 0 accepted, 1 refused, bad annotations or accepted above a limit, 3 a device failed,
+/// 4 memory was refused. What was written before a device failed stays.
 pub fn infer_on<A: Source, B: Source, K: Sink, W: Sink, N: Sink, P: Progress>(
     alloc: Global,
     rom: &mut A,
     annot: &mut B,
     trials: u32,
     most: Version,
+    limits: &mut Limits,
     keep: &mut K,
     out: &mut W,
     notes: &mut N,
@@ -37,6 +40,8 @@ pub fn infer_on<A: Source, B: Source, K: Sink, W: Sink, N: Sink, P: Progress>(
     ensures accepted { result ≡ 0
         → InfersAndTells Takes (A.state rom.old).bytes (K.state keep.old) (K.state keep.new)
         (W.state out.old) (W.state out.new) }
+    ensures within { result ≡ 0
+        → OnInferred (A.state rom.old).bytes (UsesAtMost limits.old.most) }
     ensures refused { result ≡ 1 → keep.new ≡ keep.old }
     ensures device { result ≡ 3
         → HasFailed (A.state rom.old) (A.state rom.new)
@@ -76,7 +81,11 @@ pub fn infer_on<A: Source, B: Source, K: Sink, W: Sink, N: Sink, P: Progress>(
         Ok(accepted) => accepted,
         Err(stop) => return stop.status(),
     };
-    match keep_and_tell(accepted.certificate(), keep, out) {
+    let certificate = accepted.certificate();
+    if !limits.judge(certificate) {
+        return tell_above(certificate, out);
+    }
+    match keep_and_tell(certificate, keep, out) {
         Ok(()) => ExitStatus::Done.code(),
         Err(DeviceFault) => ExitStatus::Device.code(),
     }

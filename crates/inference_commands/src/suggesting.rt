@@ -8,7 +8,7 @@ ghost use Rattle.inference_commands.specs.Inferring.{IsAcceptable};
 ghost use Rattle.command_parts.specs.Status.{IsStatus};
 ghost use Rattle.texts.specs.Device.{HasFailed, CountsNoFailure};
 
-use crate::finding::{find, read_given};
+use crate::finding::{find, found_line, read_given};
 use address_map::Rom;
 use analysis::FlowFault;
 use annotations::Annotations;
@@ -105,17 +105,22 @@ pub fn suggest<W: Sink, N: Sink, P: Progress>(
         Ok(given) => given,
         Err(stop) => return stop.status(),
     };
-    let found = match find(
-        alloc, rom, &given, trials, most, symbols, out, notes, progress,
-    ) {
+    let found = match find(alloc, rom, &given, trials, most, out, progress) {
         Ok(found) => found,
         Err(stop) => return stop.status(),
+    };
+    // Both texts are made before anything is said.
+    let Ok(line) = found_line(alloc, &found, symbols) else {
+        return ExitStatus::OutOfMemory.code();
     };
     let Ok(file) = file_of(alloc, rom, &found, symbols, annot) else {
         return ExitStatus::OutOfMemory.code();
     };
     match put(out, file.as_bytes()) {
-        Ok(()) => status_of(found.judged),
+        Ok(()) => {
+            let _told = put(notes, line.as_bytes());
+            status_of(found.judged)
+        }
         Err(DeviceFault) => ExitStatus::Device.code(),
     }
 }

@@ -13,7 +13,8 @@ use texts::{Sink, put};
 /// captured is written to the sink of `out`. With another status than 0 and 1 there is no document, and what `notes`
 /// captured is passed on. From then on `notes` passes all on.
 ///
-/// The result is the exit status: the command's own; 3 if the sink failed, 4 if memory was refused.
+/// The result is the exit status: the command's own; 3 if the sink failed, 4 if memory was refused, also for what either
+/// was to capture.
 pub fn conclude<W: Sink, N: Sink>(
     alloc: Global,
     command: Command,
@@ -29,7 +30,7 @@ pub fn conclude<W: Sink, N: Sink>(
 {
     let concluded = match out.take() {
         None => return status,
-        Some(text) if text.failures() > 0 => ExitStatus::OutOfMemory.code(),
+        Some(text) if text.failures() > 0 || notes.is_cut() => ExitStatus::OutOfMemory.code(),
         Some(text) => {
             let told = Told {
                 command,
@@ -68,7 +69,7 @@ pub fn conclude_file<F: Sink, W: Sink, N: Sink>(
     };
     let line = first_line(text.bytes());
     let is_file = line.len() < text.bytes().len();
-    let concluded = if text.failures() > 0 {
+    let concluded = if text.failures() > 0 || notes.is_cut() {
         ExitStatus::OutOfMemory.code()
     } else if status > ExitStatus::Refused.code() {
         status
@@ -100,9 +101,10 @@ fn first_line(bytes: &[u8]) -> &[u8] {
     }
 }
 
-/// Passes on what `notes` captured, unless a document says it. From then on all is passed on.
+/// Passes on what `notes` captured, unless a document says it or memory was refused for a part of it. From then on all is
+/// passed on.
 fn pass_on<N: Sink>(status: u8, notes: &mut Printed<N>) {
-    if status < ExitStatus::Usage.code() {
+    if status < ExitStatus::Usage.code() || notes.is_cut() {
         notes.clear();
     }
     let _told = notes.release();

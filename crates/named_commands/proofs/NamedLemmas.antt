@@ -5,10 +5,12 @@ use Rattle.cert_form.specs.Text.{text_of}
 use Rattle.texts.specs.Device.{DeviceState, HasFailed, Takes}
 use Rattle.command_parts.proofs.FileLemmas.{of_whole}
 use Rattle.command_parts.specs.Judging.{IsAccepted}
+use Rattle.command_parts.specs.Limits.{UsesAtMost}
+use Rattle.command_parts.specs.declared.limits.Usage.{Usage}
 use Rattle.command_parts.specs.Reading.{FirstBytes, ROM_READ_LEN}
 use Rattle.command_verdicts.specs.Verdict.{accepted_text}
 use Rattle.inference_commands.proofs.InferLemmas.{is_acceptable}
-use Rattle.inference_commands.specs.Inferring.{InfersAndTells, IsAcceptable}
+use Rattle.inference_commands.specs.Inferring.{InfersAndTells, IsAcceptable, OnInferred}
 
 -- a ROM is acceptable if some certificate is accepted for what was read of it
 pub is_acceptable_read : (rom : Option (List ℕ)) (bytes : List ℕ) → FirstBytes ROM_READ_LEN rom bytes →
@@ -38,3 +40,14 @@ infers_and_tells_of rom keep_old keep_new old new bytes first (certificate, acce
 -- one of two devices failed, the second from an unchanged state
 pub failed_from : {X : Type 0} (state : X → DeviceState) (new : DeviceState) (before same : X) (First : Type 0) → before ≡ same → First ⊎ HasFailed (state before) new → First ⊎ HasFailed (state same) new
 failed_from {X} state new before same First kept failed = subst (λ (x : X). First ⊎ HasFailed (state x) new) kept failed
+
+-- an accepted certificate is within limits
+pub infers_within_read : (most : Usage) (bytes : List ℕ) (certificate shown : CertificateView) → IsAccepted bytes (text_of certificate) certificate → shown ≡ certificate → UsesAtMost most shown →
+    OnInferred (Some bytes) (UsesAtMost most)
+infers_within_read most bytes certificate shown accepted is within = (certificate, accepted, subst (λ (c : CertificateView). UsesAtMost most c) is within)
+
+-- what is within limits for the bytes that were read of a ROM is so for the ROM
+pub infers_within_of : (most : Usage) (rom : Option (List ℕ)) (bytes : List ℕ) → FirstBytes ROM_READ_LEN rom bytes → OnInferred (Some bytes) (UsesAtMost most) → OnInferred rom (UsesAtMost most)
+infers_within_of most rom bytes first (certificate, accepted, within) =
+    of_whole rom bytes (λ b. (c : CertificateView) × IsAccepted b (text_of c) c × UsesAtMost most c) first (omega (arith, accepted.accepts.fits_rom.fits))
+    (certificate, accepted, within)

@@ -3,15 +3,16 @@
 ghost use Rattle.std.specs.Prelude.{◌≡◌, ◌≢◌, ◌⊎◌, Some, IfOk, OnOk};
 ghost use Rattle.cert_form.specs.Text.{text_of};
 ghost use Rattle.command_parts.specs.Judging.{IsAccepted};
+ghost use Rattle.command_parts.specs.Limits.{UsesAtMost};
 ghost use Rattle.command_parts.specs.Status.{IsStatus};
 ghost use Rattle.command_verdicts.specs.Verdict.{accepted_text};
-ghost use Rattle.inference_commands.specs.Inferring.{InfersAndTells};
+ghost use Rattle.inference_commands.specs.Inferring.{InfersAndTells, OnInferred};
 ghost use Rattle.texts.specs.Device.{HasFailed, CountsNoFailure, Takes};
 
 use crate::bytes_source::BytesSource;
 use annotations::Given;
 use certificate::{Certificate, Version};
-use command_parts::{ExitStatus, Stop, keep_and_tell, read_all, read_rom};
+use command_parts::{ExitStatus, Limits, Stop, keep_and_tell, read_all, read_rom, tell_above};
 use command_verdicts::bad_line;
 use commands::{make, read_annotations};
 use inference_commands::{Progress, infer};
@@ -40,16 +41,17 @@ pub struct NamedCheck<'n> {
 /// `galcert check ROM [ANNOT] --symbols FILE --listing FILE [--infer] [--cert FILE]`: makes a certificate for a ROM by
 /// its annotations, in which names stand for addresses, and by the notes in its source; writes its text to `keep` and
 /// then the table to `out`; or writes the refusal to `out` (docs/PROGRAM.md, "Names for addresses"). `keep` is used
-/// only for an accepted certificate, and the table is written only after `keep` took the whole text. What `notes` does
-/// changes nothing. `progress` hears of each trial.
+/// only for an accepted certificate within `limits`, and the table is written only after `keep` took the whole text.
+/// Above a limit the table alone is written. What `notes` does changes nothing. `progress` hears of each trial.
 ///
-/// The result is the exit status: 0 accepted, 1 refused, bad annotations or a bad note, 3 a device failed, 4 memory was
-/// refused. What was written before a device failed stays.
+/// The result is the exit status: 0 accepted, 1 refused, bad annotations, a bad note or accepted above a limit, 3 a
+/// device failed, 4 memory was refused. What was written before a device failed stays.
 pub fn check_named_on<A: Source, B: Source, K: Sink, W: Sink, N: Sink, P: Progress>(
     alloc: Global,
     rom: &mut A,
     annot: &mut B,
     how: NamedCheck<'_>,
+    limits: &mut Limits,
     keep: &mut K,
     out: &mut W,
     notes: &mut N,
@@ -60,6 +62,8 @@ pub fn check_named_on<A: Source, B: Source, K: Sink, W: Sink, N: Sink, P: Progre
     ensures accepted { result ≡ 0
         → InfersAndTells Takes (A.state rom.old).bytes (K.state keep.old) (K.state keep.new)
         (W.state out.old) (W.state out.new) }
+    ensures within { result ≡ 0
+        → OnInferred (A.state rom.old).bytes (UsesAtMost limits.old.most) }
     ensures refused { result ≡ 1 → keep.new ≡ keep.old }
     ensures device { result ≡ 3
         → HasFailed (A.state rom.old) (A.state rom.new)
@@ -89,6 +93,7 @@ pub fn check_named_on<A: Source, B: Source, K: Sink, W: Sink, N: Sink, P: Progre
         bytes.as_slice(),
         text.as_slice(),
         how,
+        limits,
         keep,
         out,
         notes,
@@ -102,6 +107,7 @@ fn check_read<K: Sink, W: Sink, N: Sink, P: Progress>(
     rom: &[u8],
     text: &[u8],
     how: NamedCheck<'_>,
+    limits: &mut Limits,
     keep: &mut K,
     out: &mut W,
     notes: &mut N,
@@ -111,6 +117,7 @@ fn check_read<K: Sink, W: Sink, N: Sink, P: Progress>(
     ensures accepted { result ≡ 0
         → InfersAndTells Takes (Some rom.now) (K.state keep.old) (K.state keep.new)
         (W.state out.old) (W.state out.new) }
+    ensures within { result ≡ 0 → OnInferred (Some rom.now) (UsesAtMost limits.old.most) }
     ensures refused { result ≡ 1 → keep.new ≡ keep.old }
     ensures device { result ≡ 3
         → HasFailed (K.state keep.old) (K.state keep.new)
@@ -126,7 +133,17 @@ fn check_read<K: Sink, W: Sink, N: Sink, P: Progress>(
         Ok(said) => said,
         Err(stop) => return stop.status(),
     };
-    check_said(alloc, rom, said.as_slice(), how, keep, out, notes, progress)
+    check_said(
+        alloc,
+        rom,
+        said.as_slice(),
+        how,
+        limits,
+        keep,
+        out,
+        notes,
+        progress,
+    )
 }
 
 /// The same for annotations without names.
@@ -135,6 +152,7 @@ fn check_said<K: Sink, W: Sink, N: Sink, P: Progress>(
     rom: &[u8],
     said: &[u8],
     how: NamedCheck<'_>,
+    limits: &mut Limits,
     keep: &mut K,
     out: &mut W,
     notes: &mut N,
@@ -144,6 +162,7 @@ fn check_said<K: Sink, W: Sink, N: Sink, P: Progress>(
     ensures accepted { result ≡ 0
         → InfersAndTells Takes (Some rom.now) (K.state keep.old) (K.state keep.new)
         (W.state out.old) (W.state out.new) }
+    ensures within { result ≡ 0 → OnInferred (Some rom.now) (UsesAtMost limits.old.most) }
     ensures refused { result ≡ 1 → keep.new ≡ keep.old }
     ensures device { result ≡ 3
         → HasFailed (K.state keep.old) (K.state keep.new)
@@ -164,6 +183,11 @@ fn check_said<K: Sink, W: Sink, N: Sink, P: Progress>(
         }
     };
     let certificate = accepted.certificate();
+    if !limits.judge(certificate) {
+        let status = tell_above(certificate, out);
+        warn_of_idle(alloc, how, rom, said, &accepted, notes);
+        return status;
+    }
     keep_named(
         alloc,
         rom,
@@ -286,13 +310,12 @@ pub(crate) fn said_by<W: Sink, N: Sink>(
     let found = match &names.notes {
         Some(Ok(found)) => Some(found),
         Some(Err(fault)) => {
-            return refuse_note(out, tell_bad_note(alloc, notes, listing, fault));
+            return refuse_note(out, tell_bad_note(notes, listing, fault));
         }
         None => None,
     };
     if let Some(found) = found {
         tell_lines(
-            alloc,
             notes,
             listing,
             found.passed_over.as_slice(),
@@ -301,13 +324,13 @@ pub(crate) fn said_by<W: Sink, N: Sink>(
     }
     match named_text(alloc, rom, text, &names.names.symbols, found) {
         Ok(named) => {
-            tell_unknown_names(alloc, notes, named.unknown.as_slice());
+            tell_unknown_names(notes, named.unknown.as_slice());
             Ok(named.bytes)
         }
         Err(NamedFault::NoMemory) => Err(Stop::OutOfMemory),
         Err(fault) => {
             tell_unknown_texts(alloc, rom, text, names, notes);
-            refuse_note(out, tell_conflict(alloc, notes, listing, &fault))
+            refuse_note(out, tell_conflict(notes, listing, &fault))
         }
     }
 }
@@ -321,7 +344,7 @@ fn tell_unknown_texts<N: Sink>(
     notes: &mut N,
 ) {
     if let Ok(named) = named_text(alloc, rom, text, &names.names.symbols, None) {
-        tell_unknown_names(alloc, notes, named.unknown.as_slice());
+        tell_unknown_names(notes, named.unknown.as_slice());
     }
 }
 

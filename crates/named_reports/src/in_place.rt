@@ -55,6 +55,33 @@ fn address_of(alloc: Global, value: &[u8], symbols: &Symbols) -> Result<Option<u
     }
 }
 
+/// A name that stands for an address.
+#[derive(Drop)]
+pub(crate) struct NamedValue {
+    /// The line, counted from 1.
+    pub(crate) line: usize,
+    /// The value as the text has it, with its quotes.
+    pub(crate) text: String,
+}
+
+/// The first value of a text of annotations that is a name for an address.
+pub(crate) fn first_name(alloc: Global, text: &[u8]) -> Result<Option<NamedValue>, AllocError> {
+    let places = Places::of(alloc, text)?;
+    for node in places.nodes() {
+        if node.kind != NodeKind::Scalar || !ADDRESSES.contains(&places.bytes(node.key)) {
+            continue;
+        }
+        let value = str::from_utf8(places.bytes(node.value)).unwrap_or("");
+        if unquoted(value).is_some() {
+            return Ok(Some(NamedValue {
+                line: places.line_of(node.value.start),
+                text: String::from_str(alloc, value)?,
+            }));
+        }
+    }
+    Ok(None)
+}
+
 /// What stands between quotes.
 fn unquoted(value: &str) -> Option<&str> {
     for quotes in QUOTES {

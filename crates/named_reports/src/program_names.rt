@@ -1,7 +1,8 @@
 // Reads what names the addresses of a program: a symbol file and a listing.
 
-use crate::telling::{tell_lines, tell_note, tell_symbols};
+use crate::telling::{tell_lines, tell_symbols};
 use command_parts::{ExitStatus, Stop};
+use command_streams::report;
 use source_lines::{AddressNames, ListingFault, Locations, SourceLines};
 use source_notes::{NoteFault, SourceNotes};
 use std::alloc::Global;
@@ -32,6 +33,11 @@ pub struct ProgramNames<'a> {
 }
 
 impl ProgramNames<'_> {
+    /// Whether a file names addresses.
+    pub fn has_files(&self) -> bool {
+        self.files.symbols.is_some() || self.files.listing.is_some()
+    }
+
     /// Whether notes of a listing are added to annotations.
     pub fn has_notes(&self) -> bool {
         self.notes.is_some()
@@ -43,8 +49,8 @@ impl ProgramNames<'_> {
 ///
 /// # Errors
 ///
-/// The exit status: 2 for a file that is no symbol file or no listing, or has more than 4 MB, and `notes` says why; 3
-/// where a device failed; 4 where memory was refused.
+/// The exit status: 2 for a symbol file in which no line is a symbol or a name has two values, for a text that is no
+/// listing, and for a file of more than 4 MB, and `notes` says why; 3 where a device failed; 4 where memory was refused.
 pub fn read_names<'a, S: Source, L: Source, N: Sink>(
     alloc: Global,
     files: NameFiles<'a>,
@@ -66,7 +72,7 @@ pub fn read_names<'a, S: Source, L: Source, N: Sink>(
                 Ok(names) => Ok(names),
                 Err(ListingFault::NoMemory) => Err(ExitStatus::OutOfMemory.code()),
                 Err(fault) => {
-                    tell_note(alloc, notes, format_args!("{name}: {fault}"));
+                    report(notes, format_args!("{name}: {fault}"));
                     Err(ExitStatus::Usage.code())
                 }
             }
@@ -94,13 +100,17 @@ fn read_symbols<S: Source, N: Sink>(
         Err(stop) => return Err(stop.status()),
     };
     match Symbols::read(alloc, text.as_slice()) {
+        Ok(symbols) if symbols.names().is_empty() => {
+            report(notes, format_args!("{name}: no line is a symbol"));
+            Err(ExitStatus::Usage.code())
+        }
         Ok(symbols) => {
-            tell_lines(alloc, notes, name, symbols.other_lines(), "no symbol");
+            tell_lines(notes, name, symbols.other_lines(), "no symbol");
             Ok(symbols)
         }
         Err(SymbolFault::NoMemory) => Err(ExitStatus::OutOfMemory.code()),
         Err(fault) => {
-            tell_symbols(alloc, notes, name, &fault);
+            tell_symbols(notes, name, &fault);
             Err(ExitStatus::Usage.code())
         }
     }

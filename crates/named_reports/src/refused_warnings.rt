@@ -33,30 +33,39 @@ pub fn warn_of_refused<N: Sink>(
     let Some(rom) = Rom::of(rom) else {
         return Ok(());
     };
-    let base = Base::deduced(alloc, &rom, given)?;
-    let map = base.board.map(rom.len());
-    let context = SearchContext::of(&rom, &map, &base, VISITS);
-    let Some(explored) = ExploredPlan::of(alloc, &context, Plan::empty(alloc))? else {
+    let Some(explored) = explored_by(alloc, &rom, given)? else {
         return Ok(());
     };
     for of_code in of_code(alloc, given)? {
         if explored.rows_at(of_code.at).is_empty() {
             if let Some(begin) = begun_before(&rom, &explored, of_code.at) {
-                warn_of_amid(alloc, names, of_code, begin, notes);
+                warn_of_amid(names, of_code, begin, notes);
             }
         }
     }
     for split in &given.splits {
         if is_idle(&explored, split) {
-            warn_of_split(alloc, names, split.at, notes);
+            warn_of_split(names, split.at, notes);
         }
     }
     for cell in &given.cells {
         if !is_read(&rom, &explored, cell.at) {
-            warn_of_cell(alloc, names, cell.at, notes);
+            warn_of_cell(names, cell.at, notes);
         }
     }
     Ok(())
+}
+
+/// What an analysis finds that goes on after refusals; None if it takes too many rows.
+pub(crate) fn explored_by(
+    alloc: Global,
+    rom: &Rom,
+    given: &Given,
+) -> Result<Option<Box<ExploredPlan>>, FlowFault> {
+    let base = Base::deduced(alloc, rom, given)?;
+    let map = base.board.map(rom.len());
+    let context = SearchContext::of(rom, &map, &base, VISITS);
+    ExploredPlan::of(alloc, &context, Plan::empty(alloc))
 }
 
 /// The address of an instruction that is reached, begins before an address and has its byte.

@@ -1,10 +1,9 @@
 // What is told on standard error of names, notes and refusals.
 
-use crate::telling::tell_note;
+use command_streams::report;
 use named_annotations::{NamedFault, UnknownName};
 use source_lines::AddressNames;
 use source_notes::NoteFault;
-use std::alloc::Global;
 use std::fmt;
 use symbols::ResolveFault;
 use texts::Sink;
@@ -14,7 +13,7 @@ const TOLD: usize = 3;
 
 /// Tells of texts in annotations that name no address: of the first three each, and of the others how many they are.
 /// The same text is told once.
-pub fn tell_unknown_names<N: Sink>(alloc: Global, notes: &mut N, unknown: &[UnknownName]) {
+pub fn tell_unknown_names<N: Sink>(notes: &mut N, unknown: &[UnknownName]) {
     let mut told = 0usize;
     let mut others = 0usize;
     for (place, name) in unknown.iter().enumerate() {
@@ -27,15 +26,14 @@ pub fn tell_unknown_names<N: Sink>(alloc: Global, notes: &mut N, unknown: &[Unkn
             continue;
         }
         if told < TOLD {
-            tell_unknown(alloc, notes, name);
+            tell_unknown(notes, name);
             told = told.saturating_add(1);
         } else {
             others = others.saturating_add(1);
         }
     }
     if others > 0 {
-        tell_note(
-            alloc,
+        report(
             notes,
             format_args!("galcert: {others} more texts name no address"),
         );
@@ -43,38 +41,30 @@ pub fn tell_unknown_names<N: Sink>(alloc: Global, notes: &mut N, unknown: &[Unkn
 }
 
 /// Tells of a text in annotations that names no address.
-fn tell_unknown<N: Sink>(alloc: Global, notes: &mut N, unknown: &UnknownName) {
+fn tell_unknown<N: Sink>(notes: &mut N, unknown: &UnknownName) {
     let fault = &unknown.fault;
     match fault {
-        ResolveFault::Unknown { .. } => tell_note(alloc, notes, format_args!("galcert: {fault}")),
+        ResolveFault::Unknown { .. } => report(notes, format_args!("galcert: {fault}")),
         ResolveFault::Form | ResolveFault::Range | ResolveFault::NoMemory => {
-            let text = unknown.text.escape_debug();
-            tell_note(alloc, notes, format_args!("galcert: \"{text}\": {fault}"));
+            let text = unknown.text.as_str();
+            report(notes, format_args!("galcert: \"{text}\": {fault}"));
         }
     }
 }
 
 /// Tells why a note is refused. The result is its line in the listing.
-pub fn tell_bad_note<N: Sink>(alloc: Global, notes: &mut N, name: &str, fault: &NoteFault) -> u32 {
+pub fn tell_bad_note<N: Sink>(notes: &mut N, name: &str, fault: &NoteFault) -> u32 {
     match fault {
         NoteFault::Form { line, expected } => {
-            tell_note(
-                alloc,
-                notes,
-                format_args!("{name}:{line}: expected {expected}"),
-            );
+            report(notes, format_args!("{name}:{line}: expected {expected}"));
             *line
         }
         NoteFault::Address { line, fault } => {
-            tell_note(alloc, notes, format_args!("{name}:{line}: {fault}"));
+            report(notes, format_args!("{name}:{line}: {fault}"));
             *line
         }
         NoteFault::Twice { line, what } => {
-            tell_note(
-                alloc,
-                notes,
-                format_args!("{name}:{line}: {what} is said twice"),
-            );
+            report(notes, format_args!("{name}:{line}: {what} is said twice"));
             *line
         }
         NoteFault::NoListing | NoteFault::TooLarge | NoteFault::NoMemory => 0,
@@ -82,12 +72,11 @@ pub fn tell_bad_note<N: Sink>(alloc: Global, notes: &mut N, name: &str, fault: &
 }
 
 /// Tells why a note does not go together with the annotations. The result is its line in the listing.
-pub fn tell_conflict<N: Sink>(alloc: Global, notes: &mut N, name: &str, fault: &NamedFault) -> u32 {
+pub fn tell_conflict<N: Sink>(notes: &mut N, name: &str, fault: &NamedFault) -> u32 {
     match fault {
         NamedFault::Conflict { line, what } => {
             let line = *line;
-            tell_note(
-                alloc,
+            report(
                 notes,
                 format_args!("{name}:{line}: {what} is said otherwise before"),
             );
@@ -95,11 +84,7 @@ pub fn tell_conflict<N: Sink>(alloc: Global, notes: &mut N, name: &str, fault: &
         }
         NamedFault::Cell { line } => {
             let line = *line;
-            tell_note(
-                alloc,
-                notes,
-                format_args!("{name}:{line}: no cell of work RAM"),
-            );
+            report(notes, format_args!("{name}:{line}: no cell of work RAM"));
             line
         }
         NamedFault::NoMemory => 0,
@@ -109,7 +94,7 @@ pub fn tell_conflict<N: Sink>(alloc: Global, notes: &mut N, name: &str, fault: &
 /// Tells where the addresses of a refusal are. `line` is the refusal as standard output has it (docs/PROGRAM.md,
 /// "Refused"), such as `refused 03CF 6 WriteRom`; then this writes `raid.asm:565: 03CF moveone+13: refused 6 WriteRom`.
 /// Other lines are passed over.
-pub fn tell_refusal<N: Sink>(alloc: Global, names: &AddressNames, line: &[u8], notes: &mut N) {
+pub fn tell_refusal<N: Sink>(names: &AddressNames, line: &[u8], notes: &mut N) {
     let Ok(line) = str::from_utf8(line) else {
         return;
     };
@@ -119,18 +104,12 @@ pub fn tell_refusal<N: Sink>(alloc: Global, names: &AddressNames, line: &[u8], n
     match kind {
         "refused" => {
             let (address, reason) = rest.split_once(' ').unwrap_or((rest, ""));
-            tell_address(
-                alloc,
-                names,
-                address,
-                format_args!("refused {reason}"),
-                notes,
-            );
+            tell_address(names, address, format_args!("refused {reason}"), notes);
         }
-        "unbounded" => tell_address(alloc, names, rest, "unbounded", notes),
+        "unbounded" => tell_address(names, rest, "unbounded", notes),
         "recursion" => {
             for address in rest.split(' ') {
-                tell_address(alloc, names, address, "recursion", notes);
+                tell_address(names, address, "recursion", notes);
             }
         }
         _ => {}
@@ -139,7 +118,6 @@ pub fn tell_refusal<N: Sink>(alloc: Global, names: &AddressNames, line: &[u8], n
 
 /// Writes an address with its line and label, and then a text about it.
 fn tell_address<N: Sink, D: fmt::Display + Drop>(
-    alloc: Global,
     names: &AddressNames,
     address: &str,
     said: D,
@@ -148,7 +126,7 @@ fn tell_address<N: Sink, D: fmt::Display + Drop>(
     if address.len() == 4 {
         if let Ok(address) = u16::from_str_radix(address, 16) {
             let named = names.named(address);
-            tell_note(alloc, notes, format_args!("{named}: {said}"));
+            report(notes, format_args!("{named}: {said}"));
         }
     }
 }

@@ -1,8 +1,8 @@
 // Annotations without which a ROM is accepted too.
 
-use crate::telling::tell_note;
 use annotations::{AnnotationFault, Annotations};
 use cert_writer::{WriterFault, certify};
+use command_streams::report;
 use source_lines::AddressNames;
 use std::alloc::{AllocError, Global};
 use texts::Sink;
@@ -37,8 +37,7 @@ pub fn warn_of_unneeded<N: Sink>(
             if is_accepted_without(alloc, rom, &table, key, place)? {
                 let at = address_of(items.get(place));
                 let named = names.named(at);
-                tell_note(
-                    alloc,
+                report(
                     notes,
                     format_args!("{named}: warning: the {what} is not needed"),
                 );

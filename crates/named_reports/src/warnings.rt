@@ -1,11 +1,11 @@
 // Warnings about annotations that have no effect, or whose address is wrong (docs/PROGRAM.md, "Warnings").
 
-use crate::telling::tell_note;
 use abs_state::Pairs;
 use address_map::Rom;
 use annotations::{Given, SplitNote};
 use board_fetch::fetch;
 use certificate::Certificate;
+use command_streams::report;
 use data_reads::data_reads;
 use intervals::{ByteRange, WordRange};
 use runner::cert_checker::Accepted;
@@ -39,14 +39,12 @@ pub fn warn_of_places<N: Sink>(
         let OfCode { what, at } = of_code;
         let named = names.named(at);
         if usize::from(at) >= rom.len() {
-            tell_note(
-                alloc,
+            report(
                 notes,
                 format_args!("{named}: warning: the {what} is beyond the ROM"),
             );
         } else if matches!(what, "inline call" | "context") && !is_call(rom, at) {
-            tell_note(
-                alloc,
+            report(
                 notes,
                 format_args!("{named}: warning: the {what} is at no CALL or RST"),
             );
@@ -68,17 +66,17 @@ pub fn warn_of_effects<N: Sink>(
     for of_code in of_code(alloc, given)? {
         let is_in_rom = of_code.at < accepted.rom().len();
         if is_in_rom && rows.binary_search(&of_code.at).is_err() {
-            warn_of_no_row(alloc, names, accepted, of_code, notes);
+            warn_of_no_row(names, accepted, of_code, notes);
         }
     }
     for split in &given.splits {
         if rows.binary_search(&split.at).is_ok() && !distinguishes(accepted, split) {
-            warn_of_split(alloc, names, split.at, notes);
+            warn_of_split(names, split.at, notes);
         }
     }
     for cell in &given.cells {
         if !is_read(accepted, cell.at) {
-            warn_of_cell(alloc, names, cell.at, notes);
+            warn_of_cell(names, cell.at, notes);
         }
     }
     Ok(())
@@ -86,20 +84,18 @@ pub fn warn_of_effects<N: Sink>(
 
 /// Warns of an annotation at an address where no row stands.
 fn warn_of_no_row<N: Sink>(
-    alloc: Global,
     names: &AddressNames,
     accepted: &Accepted,
     of_code: OfCode,
     notes: &mut N,
 ) {
     if let Some(begin) = begun_before(accepted, of_code.at) {
-        warn_of_amid(alloc, names, of_code, begin, notes);
+        warn_of_amid(names, of_code, begin, notes);
         return;
     }
     let OfCode { what, at } = of_code;
     let named = names.named(at);
-    tell_note(
-        alloc,
+    report(
         notes,
         format_args!("{named}: warning: the {what} has no effect, no row is here"),
     );
@@ -107,7 +103,6 @@ fn warn_of_no_row<N: Sink>(
 
 /// Warns of an annotation amid the instruction that begins at another address.
 pub(crate) fn warn_of_amid<N: Sink>(
-    alloc: Global,
     names: &AddressNames,
     of_code: OfCode,
     begin: u16,
@@ -119,28 +114,25 @@ pub(crate) fn warn_of_amid<N: Sink>(
         location: None,
         ..names.named(begin)
     };
-    tell_note(
-        alloc,
+    report(
         notes,
         format_args!("{named}: warning: the {what} is amid the instruction at {begin}"),
     );
 }
 
 /// Warns of a split at an address whose register has one range alone.
-pub(crate) fn warn_of_split<N: Sink>(alloc: Global, names: &AddressNames, at: u16, notes: &mut N) {
+pub(crate) fn warn_of_split<N: Sink>(names: &AddressNames, at: u16, notes: &mut N) {
     let named = names.named(at);
-    tell_note(
-        alloc,
+    report(
         notes,
         format_args!("{named}: warning: the split distinguishes nothing"),
     );
 }
 
 /// Warns of a cell that nothing reads.
-pub(crate) fn warn_of_cell<N: Sink>(alloc: Global, names: &AddressNames, at: u16, notes: &mut N) {
+pub(crate) fn warn_of_cell<N: Sink>(names: &AddressNames, at: u16, notes: &mut N) {
     let named = names.named(at);
-    tell_note(
-        alloc,
+    report(
         notes,
         format_args!("{named}: warning: nothing reads the cell"),
     );

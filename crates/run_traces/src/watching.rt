@@ -10,7 +10,7 @@ use crate::tracing::{WatchedRun, starts_of};
 use address_map::Starts;
 use arrayvec::ArrayVec;
 use board_step::Env;
-use command_parts::{ExitStatus, Stop, judge, read_rom};
+use command_parts::{ExitStatus, Stop, Work, judge, read_rom};
 use command_verdicts::bad_line;
 use runner::cert_checker::Accepted;
 use runner::{EnvLine, PlayFault, ResetLine, summary_lines};
@@ -34,16 +34,18 @@ pub struct Watching {
 /// `galcert run` with `--trace`, `--until-nmi` or `--dump`: checks a certificate for a ROM. Then it writes the refusal,
 /// or plays the input event by event, and writes the lines of the run as they come (docs/PROGRAM.md, "Traces"). At the
 /// end the bytes of work, video and object RAM go to `ram`, and then the last three lines to `out`. The ROM is read
-/// first, up to its 16,385th byte, then the certificate; the input is read only for an accepted certificate.
+/// first, up to its 16,385th byte, then the certificate; the input is read only for an accepted certificate. The check
+/// is made only if it takes no more work than `work` allows.
 ///
-/// The result is the exit status: 0 run, 1 refused or a bad line of the input, 3 a device failed, 4 memory was refused.
-/// What was written before a device failed stays.
+/// The result is the exit status: 0 run, 1 refused or a bad line of the input, 3 a device failed, 4 memory was refused
+/// or the check would take too much work. What was written before a device failed stays.
 pub fn watch_on<A: Source, B: Source, C: Source, K: Sink, W: Sink>(
     alloc: Global,
     rom: &mut A,
     cert: &mut B,
     input: &mut C,
     asked: Watching,
+    work: &mut Work,
     ram: &mut K,
     out: &mut W,
 ) -> u8
@@ -87,7 +89,7 @@ pub fn watch_on<A: Source, B: Source, C: Source, K: Sink, W: Sink>(
         Ok(bytes) => bytes,
         Err(stop) => return stop.status(),
     };
-    let accepted = match judge(alloc, bytes.as_slice(), cert, out) {
+    let accepted = match judge(alloc, bytes.as_slice(), cert, work, out) {
         Ok(accepted) => accepted,
         Err(stop) => return stop.status(),
     };

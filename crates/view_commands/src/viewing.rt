@@ -10,23 +10,25 @@ ghost use Rattle.view_commands.specs.Viewing.{IsViewStatus};
 use crate::documents::write_document;
 use crate::showing::{Shown, ViewRequest};
 use cert_checker::Accepted;
-use command_parts::{ExitStatus, Stop, judge, read_rom};
+use command_parts::{ExitStatus, Stop, Work, judge, read_rom};
+use command_streams::report;
 use report::FileNames;
 use std::alloc::Global;
 use symbols::Symbols;
-use texts::{Sink, Source, put};
+use texts::{Sink, Source};
 
 /// `galcert list ROM CERT`: checks a certificate for a ROM, and writes the listing of the program (docs/LISTING.md)
 /// line by line, or the refusal. The ROM is read first, up to its 16,385th byte, then the certificate; both are read
-/// before anything is written.
+/// before anything is written. The check is made only if it takes no more work than `work` allows.
 ///
-/// The result is the exit status: 0 listed, 1 refused, 3 a device failed, 4 memory was refused. What was written before
-/// a failure stays.
+/// The result is the exit status: 0 listed, 1 refused, 3 a device failed, 4 memory was refused or the check would take
+/// too much work. What was written before a failure stays.
 pub fn list_on<A: Source, B: Source, W: Sink>(
     alloc: Global,
     rom: &mut A,
     cert: &mut B,
     symbols: &Symbols,
+    work: &mut Work,
     out: &mut W,
 ) -> u8
     // What each status means, and for which bytes.
@@ -59,7 +61,7 @@ pub fn list_on<A: Source, B: Source, W: Sink>(
     ensures rom_limit { HasFailed (A.state rom.old) (A.state rom.new)
         ⊎ GivesUpTo 16385 (A.state rom.old) (A.state rom.new) }
 {
-    let shown = view_on(alloc, rom, cert, symbols, ViewRequest::List, out);
+    let shown = view_on(alloc, rom, cert, symbols, ViewRequest::List, work, out);
     match shown {
         Ok(_) => ExitStatus::Done.code(),
         Err(stop) => stop.status(),
@@ -69,10 +71,11 @@ pub fn list_on<A: Source, B: Source, W: Sink>(
 /// `galcert longest ROM CERT [ENTRY] [--rows]`: checks a certificate for a ROM, and writes where the T-states of a
 /// procedure go on its dearest way (docs/LONGEST.md), or the refusal. `entry` is a name of the procedure or the four
 /// hexadecimal digits of its entry; None stands for the NMI routine. With `by_rows` each row has a line. The files are
-/// read as by `list_on`. If no procedure has the name, one line on `notes` says so; what `notes` does changes nothing.
+/// read and checked as by `list_on`. If no procedure has the name, one line on `notes` says so; what `notes` does
+/// changes nothing.
 ///
 /// The result is the exit status: 0 written, 1 refused, 2 no procedure has the name, 3 a device failed, 4 memory was
-/// refused. What was written before a failure stays.
+/// refused or the check would take too much work. What was written before a failure stays.
 pub fn longest_on<A: Source, B: Source, W: Sink, N: Sink>(
     alloc: Global,
     rom: &mut A,
@@ -80,6 +83,7 @@ pub fn longest_on<A: Source, B: Source, W: Sink, N: Sink>(
     symbols: &Symbols,
     entry: Option<&str>,
     by_rows: bool,
+    work: &mut Work,
     out: &mut W,
     notes: &mut N,
 ) -> u8
@@ -118,10 +122,10 @@ pub fn longest_on<A: Source, B: Source, W: Sink, N: Sink>(
         ⊎ GivesUpTo 16385 (A.state rom.old) (A.state rom.new) }
 {
     let asked = ViewRequest::Longest(entry, by_rows);
-    match view_on(alloc, rom, cert, symbols, asked, out) {
+    match view_on(alloc, rom, cert, symbols, asked, work, out) {
         Ok(true) => ExitStatus::Done.code(),
         Ok(false) => {
-            tell_unknown(alloc, entry, notes);
+            tell_unknown(entry, notes);
             ExitStatus::Usage.code()
         }
         Err(stop) => stop.status(),
@@ -129,17 +133,18 @@ pub fn longest_on<A: Source, B: Source, W: Sink, N: Sink>(
 }
 
 /// `galcert report ROM CERT`: checks a certificate for a ROM, and writes the report on the program (docs/REPORT.md), a
-/// page of HTML, part by part, or the refusal. `files` has the names that are shown. The files are read as by
-/// `list_on`.
+/// page of HTML, part by part, or the refusal. `files` has the names that are shown. The files are read and checked as
+/// by `list_on`.
 ///
-/// The result is the exit status: 0 written, 1 refused, 3 a device failed, 4 memory was refused. What was written
-/// before a failure stays.
+/// The result is the exit status: 0 written, 1 refused, 3 a device failed, 4 memory was refused or the check would take
+/// too much work. What was written before a failure stays.
 pub fn report_on<A: Source, B: Source, W: Sink>(
     alloc: Global,
     rom: &mut A,
     cert: &mut B,
     symbols: &Symbols,
     files: FileNames,
+    work: &mut Work,
     out: &mut W,
 ) -> u8
     // What each status means, and for which bytes.
@@ -172,7 +177,8 @@ pub fn report_on<A: Source, B: Source, W: Sink>(
     ensures rom_limit { HasFailed (A.state rom.old) (A.state rom.new)
         ⊎ GivesUpTo 16385 (A.state rom.old) (A.state rom.new) }
 {
-    let shown = view_on(alloc, rom, cert, symbols, ViewRequest::Report(files), out);
+    let asked = ViewRequest::Report(files);
+    let shown = view_on(alloc, rom, cert, symbols, asked, work, out);
     match shown {
         Ok(_) => ExitStatus::Done.code(),
         Err(stop) => stop.status(),
@@ -187,6 +193,7 @@ fn view_on<A: Source, B: Source, W: Sink>(
     cert: &mut B,
     symbols: &Symbols,
     asked: ViewRequest,
+    work: &mut Work,
     out: &mut W,
 ) -> Result<bool, Stop>
     // What each result means, and for which bytes.
@@ -223,7 +230,7 @@ fn view_on<A: Source, B: Source, W: Sink>(
         Ok(bytes) => bytes,
         Err(stop) => return Err(stop),
     };
-    let accepted = match judge(alloc, bytes.as_slice(), cert, out) {
+    let accepted = match judge(alloc, bytes.as_slice(), cert, work, out) {
         Ok(accepted) => accepted,
         Err(stop) => return Err(stop),
     };
@@ -253,10 +260,8 @@ fn show<W: Sink>(
 }
 
 /// Writes that no procedure has the name that is asked for.
-fn tell_unknown<N: Sink>(alloc: Global, entry: Option<&str>, notes: &mut N) {
+fn tell_unknown<N: Sink>(entry: Option<&str>, notes: &mut N) {
     if let Some(word) = entry {
-        if let Ok(line) = format!(in alloc; "no procedure {}\n", word.escape_debug()) {
-            let _ = put(notes, line.as_bytes());
-        }
+        report(notes, format_args!("no procedure {word}"));
     }
 }
