@@ -50,6 +50,10 @@ judge "no events" 0 "$run_of_none" ''
 ask run "$six.rom" "$six.cert" "$six.input" 0000000003
 judge "steps with leading zeros" 0 "$run_of_three" ''
 
+# What standard error says of a line of INPUT that is out of form.
+first=': expected `reset PHASE FILL`: a decimal from 0 to 50687, and two upper-case hexadecimal digits'
+other=': expected `N IN0 IN1 IN2 OPEN NOISE R L`: a decimal from 1 to 4294967295, six times two upper-case hexadecimal digits, and 0 or 1'
+
 version=$'galcert 1.0.0\nproved with rattle-kit-13f logic dac8208d650f15bf\n'
 
 # Files that are not there: the first that is asked for fails, and nothing is printed.
@@ -147,18 +151,20 @@ done
 
 # Files exchanged, empty ones, long ones.
 ask verify "$six.cert" "$six.rom"
-judge "ROM and certificate exchanged" 1 $'bad certificate line 1\n' "galcert: $six.cert looks like a certificate; ROM is a file of the bytes themselves"$'\n'
+judge "ROM and certificate exchanged" 1 $'bad certificate line 1\n' "galcert: $six.cert looks like a certificate; ROM is a file of the bytes themselves
+galcert: $six.rom looks like a ROM; CERT is a certificate
+$six.rom:1:2: a byte that no certificate has: is the file a ROM?"$'\n'
 : > empty
 ask verify empty "$six.cert"
 judge "a ROM of no bytes" 1 $'refused 0000 1 Rom\n' $'galcert: empty has no bytes; a ROM has 1 to 16,384\n'
 ask verify "$six.rom" empty
-judge "an empty certificate" 1 $'bad certificate line 1\n' ''
+judge "an empty certificate" 1 $'bad certificate line 1\n' $'empty:1:1: the text ends here, without the line `end`: was it cut?\n'
 head -c 16385 /dev/zero > long.rom
 ask verify long.rom "$six.cert"
 judge "a ROM of 16,385 bytes" 1 $'refused 0000 1 Rom\n' $'galcert: long.rom has 16385 bytes; a ROM has 1 to 16,384\n'
 head -c -1 "$six.cert" > unended.cert
 ask verify "$six.rom" unended.cert
-judge "a last line without its line feed" 1 $'bad certificate line 8\n' ''
+judge "a last line without its line feed" 1 $'bad certificate line 8\n' $'unended.cert:8:4: the line has no line feed: was the text cut?\n'
 
 # Certificates with many rows: those of address 0000 again and again.
 rows() {
@@ -174,7 +180,7 @@ for count in 200 65535; do
 done
 rows 65536 > rows.cert
 ask verify "$six.rom" rows.cert
-judge "65,536 rows" 1 $'bad certificate limit\n' ''
+judge "65,536 rows" 1 $'bad certificate limit\n' $'rows.cert: more than 1,024 procedures, splits or inline calls, 256 cells, 65,535 rows, or in a row 64 slots, eight flag parts or four facts, or in a linear three terms\n'
 
 # An NMI routine that returns at once, and a run whose blank it meets.
 printf '\x31\x00\x44\x3E\x01\x32\x01\x70\xAF\x32\x01\x70\x18\xFE' > nmi.rom
@@ -203,7 +209,7 @@ ask run nmi.rom nmi.cert nmi.input 7
 judge "a run with an NMI" 0 $'nmi 5 000C\nend 6 25\ndone 7 72 000C 4400\nregs 0044 0000 0000 0000 0000 0000\nsum 12 0 0\n' ''
 printf '0 00 00 00 00 00 00 0\n' >> nmi.input
 ask run nmi.rom nmi.cert nmi.input 8
-judge "a bad line behind an NMI" 1 $'nmi 5 000C\nend 6 25\nbad input line 3\n' ''
+judge "a bad line behind an NMI" 1 $'nmi 5 000C\nend 6 25\nbad input line 3\n' "nmi.input:3$other"$'\n'
 sed 's/^proc nmi 0066 0 2 25/proc nmi 0066 0 2 24/' nmi.cert > short.cert
 ask verify nmi.rom short.cert
 judge "a routine that takes longer" 1 $'refused 0066 17 Time\n' ''
@@ -211,11 +217,11 @@ judge "a routine that takes longer" 1 $'refused 0066 17 Time\n' ''
 # Inputs.
 printf 'reset 0 00\n3 00 00 00 00 00 00 2\n' > bad.input
 ask run "$six.rom" "$six.cert" bad.input 3
-judge "a bad second line" 1 $'bad input line 2\n' ''
+judge "a bad second line" 1 $'bad input line 2\n' "bad.input:2$other"$'\n'
 ask run "$six.rom" "$six.cert" bad.input 0
 judge "a bad line that is not needed" 0 "$run_of_none" ''
 ask run "$six.rom" "$six.cert" empty 0
-judge "an empty input" 1 $'bad input line 1\n' ''
+judge "an empty input" 1 $'bad input line 1\n' "empty:1$first"$'\n'
 
 # Certificates that are made: FILE is written before the table, and only for an accepted ROM.
 printf 'low = 0x4380\ntop = 0x4400\n' > six.toml
@@ -301,10 +307,10 @@ spelled 'CB 30' > shift.rom
 inlines() { cat six.toml; echo 'inline = ['; seq -f '{ at = %g },' 0 $(($1 - 1)); echo ']'; }
 inlines 1024 > inlines.toml
 ask check shift.rom inlines.toml
-judge "1,024 inline calls" 1 $'refused 0000 4 Decode Undocumented\n' ''
+judge "1,024 inline calls" 1 $'refused 0000 4 Decode Undocumented\n' $'galcert: inlines.toml may be for another ROM: 1023 of its 1024 addresses of code are those of no instruction that is reached\n'
 inlines 1025 > inlines.toml
 ask check shift.rom inlines.toml
-judge "1,025 inline calls" 1 $'too large\n' ''
+judge "1,025 inline calls" 1 $'too large\n' $'galcert: inlines.toml may be for another ROM: 1024 of its 1025 addresses of code are those of no instruction that is reached\n'
 ask check empty inlines.toml
 judge "1,025 inline calls and a ROM of no bytes" 1 $'refused 0000 1 Rom\n' $'galcert: empty has no bytes; a ROM has 1 to 16,384\n'
 # A CALL of each procedure from 1000 on, each of which is a RET. With main 1,024 are accepted.
@@ -623,7 +629,7 @@ ask check "$six.rom" --infer -o six3.cert
 head -1 six3.cert > out
 judge "version 1 suffices" 0 $'galcert 1\n' +
 ask migrate unended.cert
-judge "a certificate without its last line feed, migrated" 1 $'bad certificate line 8\n' ''
+judge "a certificate without its last line feed, migrated" 1 $'bad certificate line 8\n' $'unended.cert:8:4: the line has no line feed: was the text cut?\n'
 ask migrate missing
 judge "no certificate to migrate" 3 '' $'device error\ngalcert: cannot open missing: No such file or directory (os error 2)\n'
 for words in "check $six.rom six.toml" "migrate $six.cert"; do
@@ -682,7 +688,9 @@ for words in list longest report; do
     ask $words "$six.rom" missing
     judge "$words without a certificate" 3 '' $'device error\ngalcert: cannot open missing: No such file or directory (os error 2)\n'
     ask $words "$six.cert" "$six.rom"
-    judge "$words of files exchanged" 1 $'bad certificate line 1\n' "galcert: $six.cert looks like a certificate; ROM is a file of the bytes themselves"$'\n'
+    judge "$words of files exchanged" 1 $'bad certificate line 1\n' "galcert: $six.cert looks like a certificate; ROM is a file of the bytes themselves
+galcert: $six.rom looks like a ROM; CERT is a certificate
+$six.rom:1:2: a byte that no certificate has: is the file a ROM?"$'\n'
     ask $words - - -s six.sym
     judge "$words of standard input twice" 2 '' $'galcert: standard input can stand for one file only\n'
     "$galcert" $words "$six.rom" "$six.cert" > /dev/full 2> err < /dev/null
@@ -812,7 +820,9 @@ judge "procedures by their names" 0 "$(awk '$3 == "depth" { end = ""; name = "";
     else if (entry == "00C8") { entry = "00BA"; depth = 2; time = 147; name = " second"; end = " grew" }
     printf "%-4s %s depth%7s%7s time%7s%7s%s%s\n", $1, entry, $4, depth, $6, time, name, end }' pages.table)"$'\nstack 20 20 of 64\nnmi 1959 1959 of 2500\n' ''
 ask diff "$six.cert" "$six.rom"
-judge "a ROM in the place of a certificate" 1 $'bad certificate line 1\n' "galcert: $six.rom is no certificate"$'\n'
+judge "a ROM in the place of a certificate" 1 $'bad certificate line 1\n' "galcert: $six.rom looks like a ROM; NEW is a certificate
+galcert: $six.rom is no certificate
+$six.rom:1:2: a byte that no certificate has: is the file a ROM?"$'\n'
 ask diff "$six.cert" missing
 judge "a certificate that is not there" 3 '' $'device error\ngalcert: cannot open missing: No such file or directory (os error 2)\n'
 ask diff - -
@@ -926,7 +936,7 @@ holds "the return address in work RAM" work.bin pushed.bin
 ask run port.rom port.cert nmi.input 7 --dump work.bin --trace
 judge "a refused certificate, watched" 1 $'refused 0000 5 IoSpace\n' ''
 ask run "$six.rom" "$six.cert" bad.input 3 --dump work.bin
-judge "a bad line, watched" 1 $'bad input line 2\n' ''
+judge "a bad line, watched" 1 $'bad input line 2\n' "bad.input:2$other"$'\n'
 holds "work RAM stays after a bad line" work.bin pushed.bin
 for dumps in '' , work.bin, a,b a,b,c,d -; do
     ask run missing missing missing 3 --dump "$dumps"

@@ -13,7 +13,7 @@ mod work;
 
 pub use exit_status::ExitStatus;
 pub use judging::{judge, read_certificate};
-pub use keeping::{keep_and_tell, tell_above};
+pub use keeping::{keep_and_tell, tell};
 pub use limits::{Limits, Usage};
 pub use reading::{read_all, read_rom};
 pub use stop::Stop;

@@ -8,9 +8,9 @@ ghost use Rattle.texts.specs.Device.{FailsAmid, HasFailed, CountsNoFailure, Take
 
 use crate::annotating::read_annotations;
 use crate::making::make;
-use command_parts::{ExitStatus, Limits, Stop, keep_and_tell, read_rom, tell_above};
+use command_parts::{ExitStatus, Limits, Stop, keep_and_tell, read_rom};
 use std::alloc::Global;
-use texts::{DeviceFault, Sink, Source};
+use texts::{Sink, Source};
 
 /// `galcert check ROM ANNOT [--cert FILE]`: makes a certificate for a ROM by its annotations, writes its text to `keep`
 /// and then the table to `out`; or writes the refusal to `out` (docs/PROGRAM.md). The ROM is read first, up to its
@@ -81,12 +81,8 @@ pub fn check_on<A: Source, B: Source, K: Sink, W: Sink>(
         Ok(accepted) => accepted,
         Err(stop) => return stop.status(),
     };
-    let certificate = accepted.certificate();
-    if !limits.judge(certificate) {
-        return tell_above(certificate, out);
-    }
-    match keep_and_tell(certificate, keep, out) {
+    match keep_and_tell(limits, accepted.certificate(), keep, out) {
         Ok(()) => ExitStatus::Done.code(),
-        Err(DeviceFault) => ExitStatus::Device.code(),
+        Err(stop) => stop.status(),
     }
 }

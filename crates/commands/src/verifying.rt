@@ -7,10 +7,9 @@ ghost use Rattle.command_parts.specs.Reading.{GivesUpTo};
 ghost use Rattle.command_parts.specs.Status.{IsStatus};
 ghost use Rattle.texts.specs.Device.{FailsAmid, HasFailed, CountsNoFailure, Takes};
 
-use command_parts::{ExitStatus, Limits, Stop, Work, judge, read_rom, tell_above};
-use command_verdicts::write_table;
+use command_parts::{ExitStatus, Limits, Stop, Work, judge, read_rom, tell};
 use std::alloc::Global;
-use texts::{DeviceFault, Sink, Source};
+use texts::{Sink, Source};
 
 /// `galcert verify ROM CERT`: checks a certificate for a ROM, and writes the table or the refusal (docs/PROGRAM.md).
 /// The ROM is read first, up to its 16,385th byte, then the certificate; both are read before anything is written. The
@@ -69,12 +68,8 @@ pub fn verify_on<A: Source, B: Source, W: Sink>(
         Ok(accepted) => accepted,
         Err(stop) => return stop.status(),
     };
-    let certificate = accepted.certificate();
-    if !limits.judge(certificate) {
-        return tell_above(certificate, out);
-    }
-    match write_table(certificate, out) {
+    match tell(limits, accepted.certificate(), out) {
         Ok(()) => ExitStatus::Done.code(),
-        Err(DeviceFault) => ExitStatus::Device.code(),
+        Err(stop) => stop.status(),
     }
 }

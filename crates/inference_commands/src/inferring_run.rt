@@ -8,11 +8,11 @@ ghost use Rattle.texts.specs.Device.{HasFailed, CountsNoFailure, Takes};
 
 use crate::finding::infer;
 use certificate::Version;
-use command_parts::{ExitStatus, Limits, keep_and_tell, read_all, read_rom, tell_above};
+use command_parts::{ExitStatus, Limits, keep_and_tell, read_all, read_rom};
 use explored_plans::Progress;
 use std::alloc::Global;
 use symbols::Symbols;
-use texts::{DeviceFault, Sink, Source};
+use texts::{Sink, Source};
 
 /// `galcert check ROM [ANNOT] --infer [--cert FILE]`: finds annotations beside those in ANNOT, makes a certificate,
 /// writes its text to `keep` and then the table to `out`; or writes the refusal to `out` (docs/PROGRAM.md). The search
@@ -81,12 +81,8 @@ pub fn infer_on<A: Source, B: Source, K: Sink, W: Sink, N: Sink, P: Progress>(
         Ok(accepted) => accepted,
         Err(stop) => return stop.status(),
     };
-    let certificate = accepted.certificate();
-    if !limits.judge(certificate) {
-        return tell_above(certificate, out);
-    }
-    match keep_and_tell(certificate, keep, out) {
+    match keep_and_tell(limits, accepted.certificate(), keep, out) {
         Ok(()) => ExitStatus::Done.code(),
-        Err(DeviceFault) => ExitStatus::Device.code(),
+        Err(stop) => stop.status(),
     }
 }

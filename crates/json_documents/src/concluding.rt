@@ -11,7 +11,7 @@ use texts::{Sink, put};
 
 /// Ends a command whose answer may be captured for a document. If it is, the document of what `out` and `notes`
 /// captured is written to the sink of `out`. With another status than 0 and 1 there is no document, and what `notes`
-/// captured is passed on. From then on `notes` passes all on.
+/// captured is passed on, but not where memory was refused. From then on `notes` passes all on.
 ///
 /// The result is the exit status: the command's own; 3 if the sink failed, 4 if memory was refused, also for what either
 /// was to capture.
@@ -101,10 +101,11 @@ fn first_line(bytes: &[u8]) -> &[u8] {
     }
 }
 
-/// Passes on what `notes` captured, unless a document says it or memory was refused for a part of it. From then on all is
-/// passed on.
+/// Passes on what `notes` captured, unless a document says it, or memory was refused: then nothing of it is said. From
+/// then on all is passed on.
 fn pass_on<N: Sink>(status: u8, notes: &mut Printed<N>) {
-    if status < ExitStatus::Usage.code() || notes.is_cut() {
+    let is_said = status < ExitStatus::Usage.code();
+    if is_said || status == ExitStatus::OutOfMemory.code() {
         notes.clear();
     }
     let _told = notes.release();

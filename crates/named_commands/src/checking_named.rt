@@ -12,7 +12,7 @@ ghost use Rattle.texts.specs.Device.{HasFailed, CountsNoFailure, Takes};
 use crate::bytes_source::BytesSource;
 use annotations::Given;
 use certificate::{Certificate, Version};
-use command_parts::{ExitStatus, Limits, Stop, keep_and_tell, read_all, read_rom, tell_above};
+use command_parts::{ExitStatus, Limits, Stop, keep_and_tell, read_all, read_rom};
 use command_verdicts::bad_line;
 use commands::{make, read_annotations};
 use inference_commands::{Progress, infer};
@@ -24,7 +24,7 @@ use named_reports::{
 use runner::cert_checker::Accepted;
 use source_lines::AddressNames;
 use std::alloc::Global;
-use texts::{DeviceFault, Sink, Source, put};
+use texts::{Sink, Source, put};
 
 /// How `check` with names goes about.
 #[derive(Clone, Copy)]
@@ -183,11 +183,6 @@ fn check_said<K: Sink, W: Sink, N: Sink, P: Progress>(
         }
     };
     let certificate = accepted.certificate();
-    if !limits.judge(certificate) {
-        let status = tell_above(certificate, out);
-        warn_of_idle(alloc, how, rom, said, &accepted, notes);
-        return status;
-    }
     keep_named(
         alloc,
         rom,
@@ -195,14 +190,15 @@ fn check_said<K: Sink, W: Sink, N: Sink, P: Progress>(
         how,
         &accepted,
         certificate,
+        limits,
         keep,
         out,
         notes,
     )
 }
 
-/// Writes the text of an accepted certificate to `keep`, then its table to `out`, and then warnings to `notes`. The
-/// result is the exit status: 0, or 3 where a device failed.
+/// Writes the text of an accepted certificate to `keep` if it is within limits, then its table to `out`, and then
+/// warnings to `notes`. The result is the exit status: 0, 1 where it is above a limit, or 3 where a device failed.
 fn keep_named<K: Sink, W: Sink, N: Sink>(
     alloc: Global,
     rom: &[u8],
@@ -210,6 +206,7 @@ fn keep_named<K: Sink, W: Sink, N: Sink>(
     how: NamedCheck<'_>,
     accepted: &Accepted,
     certificate: &Certificate,
+    limits: &mut Limits,
     keep: &mut K,
     out: &mut W,
     notes: &mut N,
@@ -218,7 +215,8 @@ fn keep_named<K: Sink, W: Sink, N: Sink>(
     ensures done { result ≡ 0
         → Takes (K.state keep.old) (text_of certificate.now) (K.state keep.new)
         × Takes (W.state out.old) (accepted_text certificate.now) (W.state out.new) }
-    ensures refused { result ≢ 1 }
+    ensures within { result ≡ 0 → UsesAtMost limits.old.most certificate.now }
+    ensures refused { result ≡ 1 → keep.new ≡ keep.old }
     ensures device { result ≡ 3
         → HasFailed (K.state keep.old) (K.state keep.new)
         ⊎ HasFailed (W.state out.old) (W.state out.new) }
@@ -229,13 +227,14 @@ fn keep_named<K: Sink, W: Sink, N: Sink>(
     ensures keep_next { CountsNoFailure (K.state keep.old) (K.state keep.new)
         ⊎ (out.new ≡ out.old) }
 {
-    match keep_and_tell(certificate, keep, out) {
-        Ok(()) => {
-            warn_of_idle(alloc, how, rom, said, accepted, notes);
-            ExitStatus::Done.code()
-        }
-        Err(DeviceFault) => ExitStatus::Device.code(),
+    let status = match keep_and_tell(limits, certificate, keep, out) {
+        Ok(()) => ExitStatus::Done.code(),
+        Err(stop) => stop.status(),
+    };
+    if status != ExitStatus::Device.code() {
+        warn_of_idle(alloc, how, rom, said, accepted, notes);
     }
+    status
 }
 
 /// Warns of annotations whose addresses are wrong whatever the rules say. Want of memory leaves warnings out.

@@ -35,6 +35,9 @@ const WORDS: &[&[u8]] = &[
     b"end",
 ];
 
+/// The first word that begins lines of a list.
+const LISTS: usize = 5;
+
 const ORDER: &str =
     "out of place: the lines come in the order galcert, rom, map, stack, budget, proc, split, inline, cell, row, end";
 
@@ -175,7 +178,10 @@ fn fault_in_form(head: &[u8], previous: &[u8], line: &[u8]) -> Option<Fault> {
     };
     let is_next = match rank_of(word_of(previous)) {
         None => rank == 0,
-        Some(before) => before <= rank && rank > 0,
+        // The line of the map is absent in version 1.
+        Some(1) => rank == 2 || rank == 3,
+        Some(before) if before < LISTS => rank == before.saturating_add(1),
+        Some(before) => before <= rank,
     };
     if !is_next {
         return Some(other(1, ORDER));

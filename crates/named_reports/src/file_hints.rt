@@ -128,13 +128,16 @@ pub fn hint_certificate<R: Files, N: Sink>(
     }
 }
 
-/// Says what is wrong with a text that is no certificate: its line and column, and why. `line` is the refusal as standard
-/// output has it.
+/// Says what is wrong with a text that is no certificate: its line and column, and why. Nothing is said of what looks
+/// like another text. `line` is the refusal as standard output has it.
 pub fn hint_no_certificate<R: Files, N: Sink>(
     cert: &FileSource<'_, R>,
     line: &[u8],
     notes: &mut N,
 ) {
+    if is_another_text(cert) {
+        return;
+    }
     let name = cert.path();
     if line == b"bad certificate limit".as_slice() {
         report(
@@ -168,8 +171,18 @@ pub fn hint_last_read<R: Files, N: Sink>(
 ) {
     let cert = if new.was_read() { new } else { old };
     let name = cert.path();
-    report(notes, format_args!("galcert: {name} is no certificate"));
+    if !is_another_text(cert) {
+        report(notes, format_args!("galcert: {name} is no certificate"));
+    }
     hint_no_certificate(cert, line, notes);
+}
+
+/// Whether a certificate looks like something else that is no ROM: then no line of it says more.
+fn is_another_text<R: Files>(cert: &FileSource<'_, R>) -> bool {
+    match Likeness::of(cert.head()) {
+        Some(likeness) => likeness != Likeness::Certificate && likeness != Likeness::Rom,
+        None => false,
+    }
 }
 
 /// Says what form a bad line of INPUT ought to have. `line` is what standard output says of it.

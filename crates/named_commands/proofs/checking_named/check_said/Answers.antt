@@ -1,4 +1,4 @@
-use Rattle.named_commands.proofs.NamedLemmas.{failed_from, infers_and_tells_read}
+use Rattle.named_commands.proofs.NamedLemmas.{failed_from, infers_and_tells_read, infers_within_read}
 use Rattle.named_commands.proofs.checking_named.check_said.Goals as goal
 
 pub returns-clause-accepted : goal.returns-clause-accepted
@@ -9,3 +9,7 @@ returns-clause-accepted g c = λ done.
 pub returns-clause-device : goal.returns-clause-device
 returns-clause-device g c = λ failed.
     failed_from g.W.Sink.state (g.W.Sink.state c.keep_named.new.out) _ _ _ c.in-Ok.ensures.kept (c.keep_named.ensures.device failed)
+
+pub returns-clause-within : goal.returns-clause-within
+returns-clause-within g c = λ done.
+    infers_within_read _ _ _ _ c.in-Ok.ensures.accepted c.certificate-certificate.ensures.value (c.keep_named.ensures.within done)
