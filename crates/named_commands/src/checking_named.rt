@@ -227,14 +227,17 @@ fn keep_named<K: Sink, W: Sink, N: Sink>(
     ensures keep_next { CountsNoFailure (K.state keep.old) (K.state keep.new)
         ⊎ (out.new ≡ out.old) }
 {
-    let status = match keep_and_tell(limits, certificate, keep, out) {
-        Ok(()) => ExitStatus::Done.code(),
+    match keep_and_tell(limits, certificate, keep, out) {
+        Ok(()) => {
+            warn_of_idle(alloc, how, rom, said, accepted, notes);
+            ExitStatus::Done.code()
+        }
+        Err(Stop::Refused) => {
+            warn_of_idle(alloc, how, rom, said, accepted, notes);
+            ExitStatus::Refused.code()
+        }
         Err(stop) => stop.status(),
-    };
-    if status != ExitStatus::Device.code() {
-        warn_of_idle(alloc, how, rom, said, accepted, notes);
     }
-    status
 }
 
 /// Warns of annotations whose addresses are wrong whatever the rules say. Want of memory leaves warnings out.
