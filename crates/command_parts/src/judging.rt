@@ -92,7 +92,7 @@ pub fn judge<'r, B: Source, W: Sink>(
         Ok(certificate) => certificate,
         Err(stop) => return Err(stop),
     };
-    if !work.allows(&certificate) {
+    if !work.allows(alloc, rom, &certificate) {
         return Err(Stop::OutOfMemory);
     }
     match check(alloc, rom, certificate) {

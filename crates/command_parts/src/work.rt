@@ -1,6 +1,7 @@
 // How much work the judging of a certificate may take (docs/PROGRAM.md, "Work").
 
 use certificate::Certificate;
+use std::alloc::Global;
 use work_count::{Comparisons, comparisons};
 
 /// The most work that the judging of a certificate may take, and what was asked for where that is more.
@@ -29,9 +30,12 @@ impl Work {
         self.exceeded
     }
 
-    /// Whether a certificate may be judged. If not, it is remembered what it takes.
-    pub fn allows(&mut self, certificate: &Certificate) -> bool {
-        let asked = comparisons(certificate);
+    /// Whether a certificate may be judged for a ROM. If not, it is remembered what that takes.
+    pub fn allows(&mut self, alloc: Global, rom: &[u8], certificate: &Certificate) -> bool {
+        if self.most == u64::MAX {
+            return true;
+        }
+        let asked = comparisons(alloc, rom, certificate, self.most);
         if asked.count > self.most {
             self.exceeded = Some(asked);
             return false;

@@ -32,7 +32,7 @@ pub(crate) fn verified<'r>(
         Ok(certificate) => certificate,
         Err(fault) => return Ok((unread(alloc, fault)?, None)),
     };
-    if !work.allows(&certificate) {
+    if !work.allows(alloc, bytes, &certificate) {
         return Err(FlowFault::NoMemory);
     }
     match check(alloc, bytes, certificate) {

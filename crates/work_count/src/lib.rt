@@ -1,22 +1,29 @@
-// How much work it takes to judge a certificate, counted before it is done (docs/CHECKER.md, "How long judging takes").
+// How many comparisons judging a certificate takes at most, counted before any is made (docs/CHECKER.md, "How long
+// judging takes").
 #![tactic(auto)]
 
 use certificate::Certificate;
+use std::alloc::Global;
 
-/// The most comparisons that a command does where nothing else is said: about a minute's work.
-pub const DEFAULT_WORK: u64 = 10_000_000_000;
+/// The most comparisons that a command makes without being asked to: those of about a minute.
+pub const DEFAULT_WORK: u64 = 2_500_000_000;
 
-/// How many comparisons it may take to judge a certificate.
+/// An upper bound of the comparisons that judging a certificate for a ROM takes, and where most of them come from.
 #[derive(Clone, Copy)]
 pub struct Comparisons {
-    /// The most comparisons; 2^64 - 1 stands for more, too.
+    /// How many they are at most; 2^64 - 1 stands for more too.
     pub count: u64,
-    /// The address that most of them come from.
+    /// The address whose rows take most of them.
     pub address: u16,
 }
 
-/// The most comparisons that it takes to judge a certificate.
-pub fn comparisons(certificate: &Certificate) -> Comparisons {
+/// An upper bound of the comparisons that judging a certificate for a ROM takes.
+pub fn comparisons(
+    _alloc: Global,
+    _rom: &[u8],
+    certificate: &Certificate,
+    _enough: u64,
+) -> Comparisons {
     let address = match certificate.row(0) {
         Some(row) => row.address,
         None => 0,
