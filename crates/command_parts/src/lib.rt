@@ -1,5 +1,5 @@
-// What the commands have in common: reading whole files, judging a certificate, limits for it, keeping it, and reporting
-// a refusal (docs/PROGRAM.md).
+// What the commands have in common: reading whole files, judging a certificate, limits for it, keeping it, and
+// reporting a refusal (docs/PROGRAM.md).
 #![tactic(auto)]
 
 mod exit_status;

@@ -56,9 +56,9 @@ impl<'a> UsedDevice<'a> {
     }
 }
 
-/// Says why a command ended with this status, if a device failed or memory ran out. Nothing is said of a closed pipe, as
-/// in `galcert list .. | head`. The result is the status; it is that of a bad command line where annotations are too
-/// long.
+/// Says why a command ended with this status, if a device failed or memory ran out. Nothing is said of a closed pipe,
+/// as in `galcert list .. | head`. The result is the status; it is that of a bad command line where annotations are
+/// too long.
 pub fn end<N: Sink>(notes: &mut N, status: u8, used: &[UsedDevice]) -> u8 {
     if status == ExitStatus::Device.code() {
         if let Some(device) = used.iter().find(|device| device.is_too_long) {

@@ -67,8 +67,8 @@ impl<'n, N: Sink> Write for ShownLine<'n, N> {
     }
 }
 
-/// Writes a line, in which what a terminal would obey is escaped (`Shown`). What a sink that fails does not take is left
-/// out.
+/// Writes a line, in which what a terminal would obey is escaped (`Shown`). What a sink that fails does not take is
+/// left out.
 pub fn report<N: Sink>(notes: &mut N, line: impl Display + Drop) {
     let mut shown = ShownLine {
         line: GatheredLine {

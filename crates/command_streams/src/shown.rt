@@ -3,8 +3,8 @@
 use std::fmt;
 use std::fmt::{Display, Formatter};
 
-/// A text in which control characters are escaped, as in `\u{1b}`, and so are characters that only change how others are
-/// shown. Quotes and backslashes stand as they are.
+/// A text in which control characters are escaped, as in `\u{1b}`, and so are characters that only change how others
+/// are shown. Quotes and backslashes stand as they are.
 #[derive(Clone, Copy)]
 pub struct Shown<'t>(pub &'t str);
 
