@@ -13,8 +13,8 @@ use texts::{Sink, put};
 /// captured is written to the sink of `out`. With another status than 0 and 1 there is no document, and what `notes`
 /// captured is passed on, but not where memory was refused. From then on `notes` passes all on.
 ///
-/// The result is the exit status: the command's own; 3 if the sink failed, 4 if memory was refused, also for what either
-/// was to capture.
+/// The result is the exit status: the command's own; 3 if the sink failed, 4 if memory was refused, also for what
+/// either was to capture.
 pub fn conclude<W: Sink, N: Sink>(
     alloc: Global,
     command: Command,

@@ -11,8 +11,8 @@ use std::alloc::Global;
 use std::rt::Files;
 use texts::Sink;
 
-/// Says of refused annotations where they are at fault, and whether they may be for another ROM. With `infers` they were
-/// read for `--infer`. `names` has what stands for addresses, if files with names were read.
+/// Says of refused annotations where they are at fault, and whether they may be for another ROM. With `infers` they
+/// were read for `--infer`. `names` has what stands for addresses, if files with names were read.
 pub fn hint_annotations<R: Files, N: Sink>(
     alloc: Global,
     rom: &FileSource<'_, R>,

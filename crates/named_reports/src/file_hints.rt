@@ -105,8 +105,8 @@ fn len_of<R: Files>(files: &R, file: &FileSource<'_, R>) -> u64 {
     }
 }
 
-/// Says of a refused certificate that it is for a ROM of another length, and what is wrong with one that is none. `line`
-/// is the refusal as standard output has it.
+/// Says of a refused certificate that it is for a ROM of another length, and what is wrong with one that is none.
+/// `line` is the refusal as standard output has it.
 pub fn hint_certificate<R: Files, N: Sink>(
     rom: &FileSource<'_, R>,
     cert: &FileSource<'_, R>,

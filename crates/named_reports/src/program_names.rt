@@ -50,7 +50,8 @@ impl ProgramNames<'_> {
 /// # Errors
 ///
 /// The exit status: 2 for a symbol file in which no line is a symbol or a name has two values, for a text that is no
-/// listing, and for a file of more than 4 MB, and `notes` says why; 3 where a device failed; 4 where memory was refused.
+/// listing, and for a file of more than 4 MB, and `notes` says why; 3 where a device failed; 4 where memory was
+/// refused.
 pub fn read_names<'a, S: Source, L: Source, N: Sink>(
     alloc: Global,
     files: NameFiles<'a>,
