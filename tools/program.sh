@@ -746,12 +746,17 @@ holds "more than 4 MB of annotations leave FILE as it was" kept.cert "$six.cert"
 printf '\x7FELF\x02\x01\x01\0\n\0\xC3\n' > odd.sym
 printf '; nothing\n' > none.sym
 : > empty.sym
-for name in odd none empty; do
+for name in odd; do
     for words in "check $six.rom six.toml" "verify $six.rom $six.cert" "list $six.rom $six.cert" "suggest $six.rom" "explain $six.rom six.toml"; do
         # shellcheck disable=SC2086
         ask $words -s $name.sym
         judge "no symbol in $name.sym: $words" 2 '' "$name.sym: no line is a symbol"$'\n'
     done
+done
+# A file without lines of another form may have no symbol.
+for name in none empty; do
+    ask verify "$six.rom" "$six.cert" -s $name.sym
+    judge "no line of another form in $name.sym" 0 "$table" ''
 done
 ask diff "$six.cert" "$six.cert" --old-symbols odd.sym
 judge "no symbol in odd.sym: diff" 2 '' $'odd.sym: no line is a symbol\n'

@@ -129,7 +129,7 @@ fn hint_explained(
     hint_rom(rt, rom, notes);
     match Likeness::of(second.head()) {
         Some(Likeness::Certificate) => hint_certificate(rom, second, line, notes),
-        _ => hint_annotations(rt.alloc(), rom, second, Some(names), infers, notes),
+        _ => hint_annotations(rt.alloc(), rom, second, Some(names), infers, line, notes),
     }
 }
 

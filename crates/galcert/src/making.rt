@@ -137,7 +137,8 @@ fn judge_files<K: Sink, W: Sink + Drop>(
     tell_refused(names.as_ref(), status, &out, notes);
     if status == ExitStatus::Refused.code() && limits.used().is_none() {
         hint_rom(rt, rom, notes);
-        hint_annotations(rt.alloc(), rom, annot, names.as_ref(), infers, notes);
+        let line = out.line();
+        hint_annotations(rt.alloc(), rom, annot, names.as_ref(), infers, line, notes);
     }
     report_above(notes, limits);
     let mut out = out.into_inner();
@@ -256,12 +257,13 @@ fn find_files<K: Sink, W: Sink + Drop>(
     let (rt, matches, alloc) = (asked.rt, asked.matches, asked.rt.alloc());
     let names = names(rt, matches, notes, has_names(matches))?;
     look_at(rom, Wanted::Rom, annot, Wanted::Annotations, notes);
-    let mut out = out;
+    let mut out = Watched::new(out);
     let status = suggest(asked, names.as_ref(), rom, annot, &mut out, notes);
     if status == ExitStatus::Refused.code() {
         hint_rom(rt, rom, notes);
-        hint_annotations(alloc, rom, annot, names.as_ref(), true, notes);
+        hint_annotations(alloc, rom, annot, names.as_ref(), true, out.line(), notes);
     }
+    let mut out = out.into_inner();
     let symbols = symbols_of(names.as_ref());
     let status = if has_file(matches) {
         let json = matches.get_flag(JSON);

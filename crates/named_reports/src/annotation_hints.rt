@@ -12,18 +12,22 @@ use std::rt::Files;
 use texts::Sink;
 
 /// Says of refused annotations where they are at fault, and whether they may be for another ROM. With `infers` they
-/// were read for `--infer`. `names` has what stands for addresses, if files with names were read.
+/// were read for `--infer`. `names` has what stands for addresses, if files with names were read. `line` is the first
+/// line that the command wrote.
 pub fn hint_annotations<R: Files, N: Sink>(
     alloc: Global,
     rom: &FileSource<'_, R>,
     annot: &FileSource<'_, R>,
     names: Option<&ProgramNames>,
     infers: bool,
+    line: &[u8],
     notes: &mut N,
 ) {
     if is_something_else(annot) {
         return;
     }
+    // A bad note says nothing of the ROM.
+    let is_of_rom = !line.starts_with(b"bad ");
     let Some(text) = annot.text() else {
         return;
     };
@@ -32,13 +36,17 @@ pub fn hint_annotations<R: Files, N: Sink>(
             if let Ok(text) = numbered(alloc, text, &names.names.symbols) {
                 let infers = infers || names.has_notes();
                 hint_fault(alloc, annot, text.as_slice(), infers, notes);
-                hint_strangers(alloc, rom, annot, text.as_slice(), notes);
+                if is_of_rom {
+                    hint_strangers(alloc, rom, annot, text.as_slice(), notes);
+                }
             }
         }
         _ => {
             hint_fault(alloc, annot, text, infers, notes);
             hint_names(alloc, annot, text, notes);
-            hint_strangers(alloc, rom, annot, text, notes);
+            if is_of_rom {
+                hint_strangers(alloc, rom, annot, text, notes);
+            }
         }
     }
 }

@@ -49,9 +49,9 @@ impl ProgramNames<'_> {
 ///
 /// # Errors
 ///
-/// The exit status: 2 for a symbol file in which no line is a symbol or a name has two values, for a text that is no
-/// listing, and for a file of more than 4 MB, and `notes` says why; 3 where a device failed; 4 where memory was
-/// refused.
+/// The exit status: 2 for a symbol file that has lines of another form and no symbol, or a name with two values, for a
+/// text that is no listing, and for a file of more than 4 MB, and `notes` says why; 3 where a device failed; 4 where
+/// memory was refused.
 pub fn read_names<'a, S: Source, L: Source, N: Sink>(
     alloc: Global,
     files: NameFiles<'a>,
@@ -101,7 +101,7 @@ fn read_symbols<S: Source, N: Sink>(
         Err(stop) => return Err(stop.status()),
     };
     match Symbols::read(alloc, text.as_slice()) {
-        Ok(symbols) if symbols.names().is_empty() => {
+        Ok(symbols) if symbols.names().is_empty() && !symbols.other_lines().is_empty() => {
             report(notes, format_args!("{name}: no line is a symbol"));
             Err(ExitStatus::Usage.code())
         }
