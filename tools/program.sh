@@ -889,20 +889,20 @@ for words in verify list longest report 'run' 'run --trace' explain 'verify --js
         grep -q -- '^galcert: --work [1-9][0-9]* allows it, and --work unlimited any$' err && [ "$(wc -l < err)" = 2 ] ||
         { echo "not as it should be: too much work: $words: $(cat err)"; wrong=$((wrong + 1)); }
     count=$(sed -n 's/^galcert: --work \([0-9]*\) .*/\1/p' err)
-    for work in "$count" unlimited; do
+    for bound in "$count" unlimited; do
         # shellcheck disable=SC2086
-        ask ${words%% *} "$six.rom" "$six.cert" $more $options --work "$work"
+        ask ${words%% *} "$six.rom" "$six.cert" $more $options --work "$bound"
         cp out allowed
         # shellcheck disable=SC2086
         ask ${words%% *} "$six.rom" "$six.cert" $more $options
         said=$(cat out; echo .)
         cp allowed out
-        judge "work that is allowed: $words --work $work" 0 "${said%.}" ''
+        judge "work that is allowed: $words --work $bound" 0 "${said%.}" ''
     done
 done
-for work in -1 1k '' unlimit 18446744073709551616; do
-    ask verify "$six.rom" "$six.cert" "--work=$work"
-    judge "work out of form: '$work'" 2 '' $'bad work\ngalcert: N is "'"$work"$'", and neither a decimal of at most 18446744073709551615 nor unlimited\n'
+for bound in -1 1k '' unlimit 18446744073709551616; do
+    ask verify "$six.rom" "$six.cert" "--work=$bound"
+    judge "work out of form: '$bound'" 2 '' $'bad work\ngalcert: N is "'"$bound"$'", and neither a decimal of at most 18446744073709551615 nor unlimited\n'
 done
 ask explain "$six.rom" six.toml --work 0
 judge "work of annotations" 0 $'accepted\n' ''
