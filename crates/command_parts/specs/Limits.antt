@@ -1,5 +1,5 @@
 -- When an accepted program is within limits (docs/PROGRAM.md, "Limits").
-use Rattle.std.specs.Prelude.{ℕ, ◌+◌, ◌≤◌, ◌≡◌, List, Option}
+use Rattle.std.specs.Prelude.{ℕ, ◌+◌, ◌≤◌, List, Option}
 use Rattle.cert_form.specs.Contents.{CertificateView, nmi_of}
 use Rattle.check_rules.specs.Acceptance.{depth_of, main_depth}
 use Rattle.command_parts.specs.Judging.{OnAccepted}
