@@ -437,6 +437,21 @@ judge "check --quiet, refused" 1 '' ''
 printf ':0600000031004418FE0073\n:00000001FF\n' > six.hex
 ask verify six.hex "$six.cert"
 judge "Intel HEX as ROM" 1 $'refused 0000 1 Rom\n' $'galcert: six.hex looks like an Intel HEX file; ROM is a file of the bytes themselves\ngalcert: '"$six.cert"$' is for a ROM of 6 bytes, and the ROM has 36\n'
+# What a file looks like is told before it is read to its end, so before anything is judged.
+mkfifo slow
+{ cat six.hex; seq 20; sleep 3; } > slow &
+rm -f status
+: > err
+{ "$galcert" check slow six.toml > out 2> err < /dev/null; echo $? > status; } &
+for _ in $(seq 100); do
+    [ ! -s err ] && [ ! -e status ] || break
+    sleep 0.1
+done
+[ -e status ] && early=late || early=$(cat err)
+wait
+cp err told
+printf '%s\n' "$early" > err
+judge "Intel HEX as ROM, told early" 1 $'refused 0009 20 SpWrite\n' $'galcert: slow looks like an Intel HEX file; ROM is a file of the bytes themselves\n'
 ask verify "$six.rom" six.toml
 judge "annotations as certificate" 1 $'bad certificate line 1\n' $'galcert: six.toml looks like a TOML text; CERT is a certificate\n'
 ask verify nmi.rom "$six.cert"
