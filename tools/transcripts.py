@@ -89,7 +89,7 @@ def main():
                 if printed is not None:
                     wrong += 1
                     print(f"not as it should be: {page}:{number}: galcert {shlex.join(words)} prints\n{printed}", end="")
-    print(f"{count} transcripts, {wrong} of them not as they should be")
+    print(f"{count - wrong} passed, {wrong} failed")
     sys.exit(1 if wrong or not count else 0)
 
 
