@@ -40,7 +40,7 @@ const BYTES: [(RegPair, bool); 20] = [
 pub(crate) struct ByValue {
     pair: RegPair,
     is_high: bool,
-    /// Where the rows of each value begin in `rows`, and behind them where the last end.
+    /// For each value, where its rows begin in `rows`. The last entry is the length of `rows`.
     starts: Vec<usize>,
     rows: Vec<RowId>,
 }

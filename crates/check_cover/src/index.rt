@@ -28,6 +28,8 @@ pub(crate) struct Kind {
 /// How the rows of a kind are found.
 #[derive(Drop)]
 pub(crate) enum Order {
+    /// One by one, where they are few.
+    Few(Vec<RowId>),
     /// By the values of a byte.
     ByValue(ByValue),
     /// By hulls, where no byte tells them apart.
@@ -126,6 +128,14 @@ impl Kind {
         like: RowId,
         rows: &[RowId],
     ) -> Result<Kind, AllocError> {
+        let few = rows.len() < MANY as usize;
+        if few {
+            return Ok(Kind {
+                like,
+                tests: rows.len(),
+                order: Order::Few(Vec::from_slice(alloc, rows)?),
+            });
+        }
         match ByValue::of(alloc, certificate, rows)? {
             Some(by_value) => Ok(Kind {
                 like,

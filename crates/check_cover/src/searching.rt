@@ -103,6 +103,7 @@ impl<'a> Coverer<'a> {
     /// The same, among the rows that may cover what is left of the pairs.
     fn fitting(&self, order: &Order, state: &AbsState, left: &Pairs) -> Option<RowId> {
         match order {
+            Order::Few(rows) => self.first_fitting(rows.as_slice(), state, left),
             Order::ByValue(by_value) => self.first_fitting(by_value.rows_for(left), state, left),
             Order::Alike(alike) => self.among_groups(alike, state, left),
         }

@@ -18,6 +18,9 @@ const FOR_CLAIMED_PART: u64 = 300;
 /// The values of a split's register.
 const VALUES: u64 = 256;
 
+/// A search tries the row that covered last first, and at a split it judges claims once more and the whole state first.
+const TRIES: u64 = 3;
+
 impl<'a> Coverer<'a> {
     /// An upper bound of the comparisons that one state which arrives at an address of a procedure takes. At a split
     /// they are made for each value of the register.
@@ -55,9 +58,10 @@ pub fn work_of_row(certificate: &Certificate, id: RowId) -> u64 {
 
 /// The work of a search at an address: once, or at a split for each value of the register.
 pub fn for_each_value(certificate: &Certificate, proc: ProcId, address: u16, once: u64) -> u64 {
+    let tried = once.saturating_mul(TRIES);
     match split_at(certificate, proc, address) {
-        Some(_) => once.saturating_mul(VALUES),
-        None => once,
+        Some(_) => tried.saturating_mul(VALUES),
+        None => tried,
     }
 }
 

@@ -55,8 +55,8 @@ impl ProcExits {
         self.lefts.as_slice()
     }
 
-    /// States of which one covers each of them and has its origins. There are none if there are too many patterns of
-    /// origins, or no exit.
+    /// Joins of what the exits leave. For each exit one of them covers its state and has the same origins. There are
+    /// none if the exits have too many patterns of origins, or if there is no exit.
     pub fn wides(&self) -> &[AbsState]
         ensures { result.now ≡ self.now.wides }
     {

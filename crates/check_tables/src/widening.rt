@@ -10,8 +10,8 @@ use std::alloc::{AllocError, Global};
 /// The most patterns of origins whose states are joined.
 const MOST_PATTERNS: usize = 16;
 
-/// States of which one covers each of these and has its origins: the joins of those with one pattern of origins. None
-/// if there are too many patterns. The error is refused memory.
+/// Joins of these states, one for each pattern of origins. For each state one of them covers it and has its origins.
+/// There are none if the states have too many patterns. The error is refused memory.
 pub(crate) fn widest(alloc: Global, lefts: &[Left]) -> Result<Vec<AbsState>, AllocError>
     ensures { IfOk result (λ wides. (wides.items ≡ []) ⊎ WidensEach lefts.now wides.items) }
 {

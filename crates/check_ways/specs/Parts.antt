@@ -123,7 +123,7 @@ abbrev pub WideCovered : CertificateView → SubjectView → Next → AbsState �
 WideCovered cert s next exit =
     CoversPlainly cert s.row.proc (behind_of s.decoded s.row.address) (after_call next.state exit) ⊎ WideCoveredWhole cert s next exit
 
--- a call comes back so from each of these exits, of which there is one at least
+-- there is at least one of these exits, and a call comes back covered from each of them
 pub record WidesCovered (cert : CertificateView) (s : SubjectView) (next : Next) (wides : List AbsState) : Type 0 where
   pub some : wides ≢ []
   pub each : (wide : AbsState) → Contains wides wide → WideCovered cert s next wide

@@ -109,7 +109,7 @@ fn whole_text(alloc: Global, view: &View, found: Option<&LoopItem>) -> Result<St
     }
 }
 
-/// A text with the procedures that a loop calls behind it.
+/// The text, followed by the names of the procedures that a loop calls.
 fn with_callees(view: &View, text: String, found: &LoopItem) -> Result<String, AllocError> {
     let mut text = text;
     let mut is_first = true;

@@ -13,7 +13,7 @@ use check_ways::Subject;
 use std::alloc::Global;
 
 /// The most comparisons that a command makes without being asked to: those of about a minute.
-pub const DEFAULT_WORK: u64 = 2_500_000_000;
+pub const DEFAULT_WORK: u64 = 7_500_000_000;
 
 /// An upper bound of the comparisons that judging a certificate for a ROM takes, and where most of them come from.
 #[derive(Clone, Copy)]

@@ -5,7 +5,7 @@ use cert_contents::Certificate;
 use check_cover::{for_each_value, work_of_row};
 use std::alloc::{AllocError, Global};
 
-/// For each row, and behind the last, the work of all rows before it.
+/// Entry N is the work of the first N rows.
 #[derive(Drop)]
 pub(crate) struct PlainWork {
     before: Vec<u64>,
